@@ -1,0 +1,13 @@
+//! Plain values between the parts of the compiler: what a source says, and what is drawn.
+#![tactic(auto)]
+
+mod glyph;
+mod header;
+mod order;
+mod variation;
+
+pub use glyph::{Anchor, Contour, DrawnPoint, FlatGlyph, GlyphIr, Kept, LayerIr, Shape};
+pub use header::{Axis, Header, Instance, KernEntry, Master};
+pub use order::GlyphOrder;
+pub use plain_lists::Text as Name;
+pub use variation::{LayoutTable, Location, Region, Tag};

@@ -1,0 +1,10 @@
+//! The written rules that a source can fail, the refusals that name them, and want of memory.
+#![tactic(auto)]
+
+mod errors;
+mod refusal;
+mod rule;
+
+pub use errors::{CompileError, NoMemory, ReadError};
+pub use refusal::Refusal;
+pub use rule::Rule;
