@@ -1,11 +1,13 @@
 //! Plain values between the parts of the compiler: what a source says, and what is drawn.
 #![tactic(auto)]
 
+mod errors;
 mod glyph;
 mod header;
 mod order;
 mod variation;
 
+pub use errors::TableError;
 pub use glyph::{Anchor, Contour, DrawnPoint, FlatGlyph, GlyphIr, Kept, LayerIr, Shape};
 pub use header::{Axis, Header, Instance, KernEntry, Master};
 pub use order::GlyphOrder;
