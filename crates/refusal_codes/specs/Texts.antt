@@ -1,6 +1,7 @@
 -- How a refusal reads: its rule's letter and number, the rule's name, the kind of the job that found it, the name where
 -- there is one, and the place, as `G2 CubicNode Raw A at 181`. fontc's own.
 use Rattle.std.specs.Prelude.{ℕ, List, [], ◌∷◌, ◌++◌, codes}
+use Rattle.std.specs.List.{slice_index_or}
 use Rattle.std.specs.Fmt.{decimal}
 use Rattle.refusal_codes.specs.declared.rule.Rule.{Rule}
 use Rattle.refusal_codes.specs.declared.rule.Rule.TheVariants.{NotUtf8, UnexpectedByte, UnexpectedEnd, BadEscape, DuplicateKey, TooDeep, TrailingText, WrongShape, MissingKey, WrongVersion, NotWhole, OutOfRange, TooManyAxes, TooManyMasters, NoMaster, AxisCount, SameLocation, AxisMapNotRising, DuplicateGlyph, OriginUnknown, BadTag, TooLarge, DuplicateMaster, MissingLayer, CubicNode, OpenContour, Incompatible, UnknownComponent, ComponentCycle, UnsupportedTransform, CoordinateTooLarge, DeltaTooLarge, TooManyPoints, TooManyComponents, DuplicateUnicode, LayerPlace, SameLayerPlace, TooManyLayers, AlternateName, TooManyRules, Syntax, Unsupported, UnknownGlyph, UnknownName, ConflictingRule, ClassSizes, MixedLookup, BadContextCall, TooManyGlyphs, CmapTooLarge, LayoutTooLarge, RowTooLarge, TableTooLarge, TooManyRegions, TooManyCells}
@@ -121,3 +122,21 @@ rule_name RowTooLarge = codes "RowTooLarge"
 rule_name TableTooLarge = codes "TableTooLarge"
 rule_name TooManyRegions = codes "TooManyRegions"
 rule_name TooManyCells = codes "TooManyCells"
+
+-- the names of the kinds of jobs, in the order of their numbers
+abbrev pub kind_names : List (List ℕ)
+kind_names =
+    codes "Tree" ∷ codes "Header" ∷ codes "Index" ∷ codes "Raw" ∷ codes "Flat" ∷ codes "Simple" ∷ codes "Composite" ∷ codes "Variations" ∷ codes "FeatureParse" ∷ codes "Order" ∷ codes "Advances" ∷ codes "Kern" ∷ codes "Marks" ∷ codes "Rules" ∷ codes "Lookup" ∷ codes "Store" ∷ codes "Table" ∷ codes "Font" ∷ codes "Alternates" ∷ []
+
+-- the kind's name
+abbrev pub kind_name : ℕ → List ℕ
+kind_name kind = slice_index_or kind_names kind (codes "Job")
+
+-- a name with a space before it, where there is one
+abbrev pub spaced_name : List ℕ → List ℕ
+spaced_name [] = []
+spaced_name (byte ∷ bytes) = codes " " ++ byte ∷ bytes
+
+-- the whole text
+abbrev pub refusal_text : Refusal → List ℕ
+refusal_text r = rule_code r.rule ++ codes " " ++ rule_name r.rule ++ codes " " ++ kind_name r.kind ++ spaced_name r.name ++ codes " at " ++ decimal r.place

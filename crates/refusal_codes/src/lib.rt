@@ -2,9 +2,13 @@
 #![tactic(auto)]
 
 mod errors;
+mod kind;
 mod refusal;
 mod rule;
 
 pub use errors::{CompileError, NoMemory, ReadError};
-pub use refusal::Refusal;
+pub use refusal::{Refusal, refusals_are_ordered};
 pub use rule::Rule;
+
+#[cfg(test)]
+mod tests;

@@ -1,11 +1,12 @@
 ghost use Rattle.std.specs.Prelude.{◌≡◌};
+ghost use Rattle.refusal_codes.specs.Order.{rule_number};
 ghost use Rattle.refusal_codes.specs.Texts.{rule_code, rule_name};
 
 /// The written rules that a source can fail, in the order in which they win at one place.
 ///
 /// P rules are of the property list, S rules of the header and the glyph index, G rules of glyphs, F rules of feature
 /// code, and B rules of what is built. All of them are fontc's own.
-#[derive(Clone, Copy, Debug, PartialEq, Eq, PartialOrd, Ord)]
+#[derive(Clone, Copy, Debug, PartialEq, Eq)]
 pub enum Rule {
     /// The text isn't UTF-8. The place is the first byte of the first bad sequence.
     NotUtf8,
@@ -120,6 +121,69 @@ pub enum Rule {
 }
 
 impl Rule {
+    /// The rule's place among the rules. Of two that fail at one place, the rule with the lower number wins.
+    pub fn number(self) -> u8
+        ensures { result ≡ rule_number self }
+    {
+        match self {
+            Rule::NotUtf8 => 0,
+            Rule::UnexpectedByte => 1,
+            Rule::UnexpectedEnd => 2,
+            Rule::BadEscape => 3,
+            Rule::DuplicateKey => 4,
+            Rule::TooDeep => 5,
+            Rule::TrailingText => 6,
+            Rule::WrongShape => 7,
+            Rule::MissingKey => 8,
+            Rule::WrongVersion => 9,
+            Rule::NotWhole => 10,
+            Rule::OutOfRange => 11,
+            Rule::TooManyAxes => 12,
+            Rule::TooManyMasters => 13,
+            Rule::NoMaster => 14,
+            Rule::AxisCount => 15,
+            Rule::SameLocation => 16,
+            Rule::AxisMapNotRising => 17,
+            Rule::DuplicateGlyph => 18,
+            Rule::OriginUnknown => 19,
+            Rule::BadTag => 20,
+            Rule::TooLarge => 21,
+            Rule::DuplicateMaster => 22,
+            Rule::MissingLayer => 23,
+            Rule::CubicNode => 24,
+            Rule::OpenContour => 25,
+            Rule::Incompatible => 26,
+            Rule::UnknownComponent => 27,
+            Rule::ComponentCycle => 28,
+            Rule::UnsupportedTransform => 29,
+            Rule::CoordinateTooLarge => 30,
+            Rule::DeltaTooLarge => 31,
+            Rule::TooManyPoints => 32,
+            Rule::TooManyComponents => 33,
+            Rule::DuplicateUnicode => 34,
+            Rule::LayerPlace => 35,
+            Rule::SameLayerPlace => 36,
+            Rule::TooManyLayers => 37,
+            Rule::AlternateName => 38,
+            Rule::TooManyRules => 39,
+            Rule::Syntax => 40,
+            Rule::Unsupported => 41,
+            Rule::UnknownGlyph => 42,
+            Rule::UnknownName => 43,
+            Rule::ConflictingRule => 44,
+            Rule::ClassSizes => 45,
+            Rule::MixedLookup => 46,
+            Rule::BadContextCall => 47,
+            Rule::TooManyGlyphs => 48,
+            Rule::CmapTooLarge => 49,
+            Rule::LayoutTooLarge => 50,
+            Rule::RowTooLarge => 51,
+            Rule::TableTooLarge => 52,
+            Rule::TooManyRegions => 53,
+            Rule::TooManyCells => 54,
+        }
+    }
+
     /// The rule's letter and number, as `G2`.
     pub fn code(self) -> &'static str
         ensures { result.now ≡ rule_code self }

@@ -1,0 +1,41 @@
+use super::*;
+use plain_lists::Text;
+use std::cmp::Ordering;
+use std::test::Fail;
+
+fn refusal(
+    alloc: std::alloc::Global,
+    kind: u8,
+    name: &str,
+    rule: Rule,
+    place: u64,
+) -> Result<Refusal, Fail> {
+    Ok(Refusal {
+        stratum: 1,
+        kind,
+        name: Text::from_string(String::from_str(alloc, name)?),
+        rule,
+        place,
+    })
+}
+
+#[test]
+fn texts_are_printed_with_rule_kind_name_and_place(rt: HostRuntime) -> Result<(), Fail> {
+    let cubic = refusal(rt.alloc(), 3, "A", Rule::CubicNode, 181)?;
+    let text = cubic.text(rt.alloc()).ok().ok_or("memory")?;
+    assert_eq!(rt; text.as_str(), "G2 CubicNode Raw A at 181");
+    let empty = refusal(rt.alloc(), 0, "", Rule::UnexpectedEnd, 0)?;
+    let text = empty.text(rt.alloc()).ok().ok_or("memory")?;
+    assert_eq!(rt; text.as_str(), "P3 UnexpectedEnd Tree at 0");
+    Ok(())
+}
+
+#[test]
+fn refusals_go_by_name_before_rule_and_place(rt: HostRuntime) -> Result<(), Fail> {
+    let b = refusal(rt.alloc(), 3, "b", Rule::CubicNode, 300)?;
+    let x = refusal(rt.alloc(), 3, "x", Rule::MissingKey, 100)?;
+    assert!(rt; b.cmp(&x) == Ordering::Less);
+    let copy = x.copy(rt.alloc()).ok().ok_or("memory")?;
+    assert!(rt; copy == x);
+    Ok(())
+}
