@@ -2,9 +2,11 @@
 #![tactic(auto)]
 
 mod errors;
+mod first;
 mod refusal;
 mod rule;
 
 pub use errors::{CompileError, NoMemory, ReadError};
+pub use first::{Failure, FirstFailure};
 pub use refusal::Refusal;
 pub use rule::Rule;

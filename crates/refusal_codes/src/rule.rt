@@ -1,4 +1,5 @@
 ghost use Rattle.std.specs.Prelude.{◌≡◌};
+ghost use Rattle.refusal_codes.specs.First.{rule_rank};
 ghost use Rattle.refusal_codes.specs.Texts.{rule_code, rule_name};
 
 /// The written rules that a source can fail, in the order in which they win at one place.
@@ -120,6 +121,13 @@ pub enum Rule {
 }
 
 impl Rule {
+    /// Where it stands in the list of rules, counted from 0.
+    pub fn rank(self) -> u8
+        ensures { result ≡ rule_rank self }
+    {
+        self as u8
+    }
+
     /// The rule's letter and number, as `G2`.
     pub fn code(self) -> &'static str
         ensures { result.now ≡ rule_code self }
