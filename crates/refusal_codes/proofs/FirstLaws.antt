@@ -7,3 +7,6 @@ use Rattle.refusal_codes.specs.First.{earlier, noted}
 pub noted-append : (least : Option Failure) (xs ys : List Failure) → noted least (xs ++ ys) ≡ noted (noted least xs) ys
 noted-append least [] ys = refl
 noted-append least (x ∷ xs) ys = noted-append (Some (earlier least x)) xs ys
+
+-- the same, as a set for the tactics
+pub ruleset noting = (noted-append)

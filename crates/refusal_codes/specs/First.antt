@@ -1,9 +1,10 @@
 -- The least of a list of failures: the least place wins, and at one place the rule that comes first in the list of
 -- rules. fontc's own.
-use Rattle.std.specs.Prelude.{ℕ, Bool, ◌||◌, ◌&&◌, ◌==◌, nat_lt, List, [], ◌∷◌, Option, Some, None, if◌then◌else◌}
+use Rattle.std.specs.Prelude.{ℕ, Bool, ◌||◌, ◌&&◌, ◌==◌, nat_lt, List, [], ◌∷◌, Option, Some, None, Result, Ok, Err, if◌then◌else◌}
 use Rattle.refusal_codes.specs.declared.rule.Rule.{Rule}
 use Rattle.refusal_codes.specs.declared.rule.Rule.TheVariants.{NotUtf8, UnexpectedByte, UnexpectedEnd, BadEscape, DuplicateKey, TooDeep, TrailingText, WrongShape, MissingKey, WrongVersion, NotWhole, OutOfRange, TooManyAxes, TooManyMasters, NoMaster, AxisCount, SameLocation, AxisMapNotRising, DuplicateGlyph, OriginUnknown, BadTag, TooLarge, DuplicateMaster, MissingLayer, CubicNode, OpenContour, Incompatible, UnknownComponent, ComponentCycle, UnsupportedTransform, CoordinateTooLarge, DeltaTooLarge, TooManyPoints, TooManyComponents, DuplicateUnicode, LayerPlace, SameLayerPlace, TooManyLayers, AlternateName, TooManyRules, Syntax, Unsupported, UnknownGlyph, UnknownName, ConflictingRule, ClassSizes, MixedLookup, BadContextCall, TooManyGlyphs, CmapTooLarge, LayoutTooLarge, RowTooLarge, TableTooLarge, TooManyRegions, TooManyCells}
 use Rattle.refusal_codes.specs.declared.first.Failure.{Failure}
+use Rattle.refusal_codes.specs.declared.refusal.Refusal.{Refusal}
 
 -- where a rule stands in the list of rules
 abbrev pub rule_rank : Rule → ℕ
@@ -80,3 +81,13 @@ noted least (f ∷ fs) = noted (Some (earlier least f)) fs
 -- the least of a list of failures
 abbrev pub first_of : List Failure → Option Failure
 first_of fs = noted None fs
+
+-- the refusal of a failure that a job of this stratum and kind, with this name, finds
+abbrev pub refusal_of : ℕ → ℕ → List ℕ → Failure → Refusal
+refusal_of stratum kind name f = record { stratum = stratum; kind = kind; name = name; rule = f.rule; place = f.place }
+
+-- what a job answers: its least local failure, else the first failure of its whole rules, else its value
+abbrev pub judged : {Y : Type 0} → (Failure → Refusal) → Option Failure → List Failure → Y → Result Y Refusal
+judged refusal (Some f) whole value = Err (refusal f)
+judged refusal None (f ∷ fs) value = Err (refusal f)
+judged refusal None [] value = Ok value

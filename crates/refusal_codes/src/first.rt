@@ -1,6 +1,8 @@
 ghost use Rattle.std.specs.Prelude.{◌≡◌, Option, Some, None};
 
+use crate::refusal::Refusal;
 use crate::rule::Rule;
+use plain_lists::Text;
 use std::marker::Model;
 
 /// A rule that fails, and where.
@@ -13,7 +15,7 @@ pub struct Failure {
 }
 
 impl Failure {
-    ghost use Rattle.refusal_codes.specs.First.{is_before};
+    ghost use Rattle.refusal_codes.specs.First.{is_before, refusal_of};
 
     /// Whether this failure comes before another one: by place, then by rule.
     pub fn is_before(&self, other: &Failure) -> bool
@@ -21,6 +23,19 @@ impl Failure {
     {
         self.place < other.place
             || (self.place == other.place && self.rule.rank() < other.rule.rank())
+    }
+
+    /// The refusal of a job of this stratum and kind, with this name, that finds this failure.
+    pub fn refusal(self, stratum: u8, kind: u8, name: Text) -> Refusal
+        ensures { result ≡ refusal_of stratum kind name self }
+    {
+        Refusal {
+            stratum,
+            kind,
+            name,
+            rule: self.rule,
+            place: self.place,
+        }
     }
 }
 
