@@ -1,3 +1,4 @@
+pub mod First
 pub mod Gives
 pub mod Order
 pub mod Texts

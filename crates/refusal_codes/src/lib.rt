@@ -2,11 +2,13 @@
 #![tactic(auto)]
 
 mod errors;
+mod first;
 mod kind;
 mod refusal;
 mod rule;
 
 pub use errors::{CompileError, NoMemory, ReadError};
+pub use first::{Failure, FirstFailure};
 pub use refusal::{Refusal, refusals_are_ordered};
 pub use rule::Rule;
 

@@ -1,0 +1,34 @@
+-- The least of a list of failures: the least place wins, and at one place the rule that comes first in the list of
+-- rules. fontc's own.
+use Rattle.std.specs.Prelude.{ℕ, Bool, ◌||◌, ◌&&◌, ◌==◌, nat_lt, List, [], ◌∷◌, Option, Some, None, Result, Ok, Err, if◌then◌else◌}
+use Rattle.refusal_codes.specs.Order.{rule_number}
+use Rattle.refusal_codes.specs.declared.first.Failure.{Failure}
+use Rattle.refusal_codes.specs.declared.refusal.Refusal.{Refusal}
+
+-- whether a failure comes before another one
+abbrev pub is_before : Failure → Failure → Bool
+is_before a b = nat_lt a.place b.place || (a.place == b.place && nat_lt (rule_number a.rule) (rule_number b.rule))
+
+-- the earlier of the least failure so far, if there is one, and another failure; the first of two alike
+abbrev pub earlier : Option Failure → Failure → Failure
+earlier None f = f
+earlier (Some least) f = if is_before f least then f else least
+
+-- the least of a failure, if there is one, and of those of a list
+abbrev pub noted : Option Failure → List Failure → Option Failure
+noted least [] = least
+noted least (f ∷ fs) = noted (Some (earlier least f)) fs
+
+-- the least of a list of failures
+abbrev pub first_of : List Failure → Option Failure
+first_of fs = noted None fs
+
+-- the refusal of a failure that a job of this stratum and kind, with this name, finds
+abbrev pub refusal_of : ℕ → ℕ → List ℕ → Failure → Refusal
+refusal_of stratum kind name f = record { stratum = stratum; kind = kind; name = name; rule = f.rule; place = f.place }
+
+-- what a job answers: its least local failure, else the first failure of its whole rules, else its value
+abbrev pub judged : {Y : Type 0} → (Failure → Refusal) → Option Failure → List Failure → Y → Result Y Refusal
+judged refusal (Some f) whole value = Err (refusal f)
+judged refusal None (f ∷ fs) value = Err (refusal f)
+judged refusal None [] value = Ok value
