@@ -1,6 +1,7 @@
 -- The least of a list of failures: the least place wins, and at one place the rule that comes first in the list of
 -- rules. fontc's own.
-use Rattle.std.specs.Prelude.{ℕ, Bool, ◌||◌, ◌&&◌, ◌==◌, nat_lt, List, [], ◌∷◌, Option, Some, None, Result, Ok, Err, if◌then◌else◌}
+use Rattle.std.specs.Prelude.{◌≡◌, ℕ, Bool, false, Contains, ◌||◌, ◌&&◌, ◌==◌, nat_lt, List, [], ◌∷◌, Option, Some, None, Result, Ok, Err, if◌then◌else◌}
+use Rattle.std.specs.List.{AllByRecursion}
 use Rattle.refusal_codes.specs.Order.{rule_number}
 use Rattle.refusal_codes.specs.declared.first.Failure.{Failure}
 use Rattle.refusal_codes.specs.declared.refusal.Refusal.{Refusal}
@@ -32,3 +33,8 @@ abbrev pub judged : {Y : Type 0} → (Failure → Refusal) → Option Failure �
 judged refusal (Some f) whole value = Err (refusal f)
 judged refusal None (f ∷ fs) value = Err (refusal f)
 judged refusal None [] value = Ok value
+
+-- a failure is among these, and none of them comes before it
+pub record IsLeast (fs : List Failure) (f : Failure) : Type 0 where
+  pub there : Contains fs f
+  pub none_before : AllByRecursion (λ g. is_before g f ≡ false) fs

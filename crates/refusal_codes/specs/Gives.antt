@@ -24,3 +24,14 @@ RefusesCompile compile_errors.NoMemory definition = Unit {0}
 abbrev pub Compiles : {X Y : Type 0} → (X → Y) → Result X CompileError → Result Y Refusal → Type 0
 Compiles view (Ok x) definition = definition ≡ Ok (view x)
 Compiles view (Err e) definition = RefusesCompile e definition
+
+-- a reading call's error as a compiling call's
+abbrev pub compile_error_of : ReadError → CompileError
+compile_error_of (read_errors.Refused r) = compile_errors.Refused r
+compile_error_of read_errors.NoMemory = compile_errors.NoMemory
+
+-- what a definition that may refuse gives, handed on to another one
+infixl 10 ◌>>=◌
+abbrev pub ◌>>=◌ : {A B : Type 0} → Result A Refusal → (A → Result B Refusal) → Result B Refusal
+(Ok x) >>= f = f x
+(Err r) >>= f = Err r

@@ -86,3 +86,17 @@ impl<T: Drop> From<AllocFailed<T>> for CompileError {
         CompileError::NoMemory
     }
 }
+
+/// A refusal stays the same one, and so does want of memory.
+impl From<ReadError> for CompileError {
+    ghost use Rattle.refusal_codes.specs.Gives.{compile_error_of};
+
+    ghost from_gives = { λ e made. made ≡ compile_error_of e };
+
+    fn from(e: ReadError) -> CompileError {
+        match e {
+            ReadError::Refused(refusal) => CompileError::Refused(refusal),
+            ReadError::NoMemory => CompileError::NoMemory,
+        }
+    }
+}

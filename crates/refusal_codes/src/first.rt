@@ -1,4 +1,5 @@
-ghost use Rattle.std.specs.Prelude.{◌≡◌, Option, Some, None};
+ghost use Rattle.std.specs.Prelude.{◌≡◌, List, [], Option, Some, None};
+ghost use Rattle.refusal_codes.specs.First.{first_of, IsLeast};
 
 use crate::refusal::Refusal;
 use crate::rule::Rule;
@@ -55,7 +56,7 @@ impl Model for FirstFailure {
 }
 
 impl FirstFailure {
-    ghost use Rattle.std.specs.Prelude.{[], ◌∷◌};
+    ghost use Rattle.std.specs.Prelude.{◌∷◌};
     ghost use Rattle.refusal_codes.specs.First.{noted};
 
     /// No failure yet.
@@ -87,3 +88,10 @@ impl FirstFailure {
         self.least
     }
 }
+
+/// The first of a list of failures is the least of them, and there is one unless the list is empty. A law: the function
+/// does nothing.
+pub fn first_failure_is_the_least()
+    ensures least { (fs : List Failure) (f : Failure) → first_of fs ≡ Some f → IsLeast fs f }
+    ensures none { (fs : List Failure) → first_of fs ≡ None → fs ≡ [] }
+{}

@@ -8,7 +8,7 @@ mod refusal;
 mod rule;
 
 pub use errors::{CompileError, NoMemory, ReadError};
-pub use first::{Failure, FirstFailure};
+pub use first::{Failure, FirstFailure, first_failure_is_the_least};
 pub use refusal::{Refusal, refusals_are_ordered};
 pub use rule::Rule;
 
