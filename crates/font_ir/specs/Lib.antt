@@ -1,0 +1,4 @@
+pub mod FlatGlyphs
+pub mod Glyphs
+pub mod Notdef
+pub mod Tables

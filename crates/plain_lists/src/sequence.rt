@@ -1,7 +1,7 @@
-ghost use Rattle.std.specs.Prelude.{◌≡◌, List, [], ◌∷◌, ◌++◌, length, ◌==◌, if◌then◌else◌, is_ok, OnOk, OnErr, IfErr};
+ghost use Rattle.std.specs.Prelude.{◌≡◌, List, [], ◌∷◌, ◌++◌, length, ◌==◌, if◌then◌else◌, is_ok, OnOk, OnErr, IfOk, IfErr};
 ghost use Rattle.std.specs.Cmp.Lexicographic.{pointwise, lists_per, lists_equiv};
 
-use std::alloc::{AllocFailed, Global};
+use std::alloc::{AllocError, AllocFailed, Global};
 use std::marker::Model;
 
 /// Items in order. A contract sees a sequence as the list of its items.
@@ -71,6 +71,17 @@ impl<T> Sequence<T> {
         ensures value_returned { IfErr result (λ e. e.value ≡ item) }
     {
         self.items.push(item)
+    }
+}
+
+impl<T: Copy> Sequence<T> {
+    /// A sequence with the same items.
+    pub fn copy(&self, alloc: Global) -> Result<Sequence<T>, AllocError>
+        ensures { IfOk result (λ s. s ≡ self.now) }
+    {
+        Ok(Sequence {
+            items: Vec::from_slice(alloc, self.items.as_slice())?,
+        })
     }
 }
 

@@ -1,4 +1,4 @@
-ghost use Rattle.std.specs.Prelude.{◌≡◌, length, ◌==◌, Some, IfOk, nat_eq, refl};
+ghost use Rattle.std.specs.Prelude.{◌≡◌, length, ◌==◌, Some, IfOk, OnOk, [], ◌++◌, encode_utf8, nat_eq, refl};
 ghost use Rattle.std.specs.Ordering.{nat_cmp};
 ghost use Rattle.std.specs.Cmp.Lexicographic.{pointwise, slice_cmp, nat_list_eq_equiv, nat_list_cmp_total, texts_po, texts_ties};
 ghost use Rattle.std.specs.Cmp.{partial_equiv_from_equiv};
@@ -28,6 +28,15 @@ impl Model for Text {
 
 impl Text {
     ghost use Rattle.std.specs.String.{string_bytes};
+
+    /// The empty text. It takes no memory.
+    pub fn new(alloc: Global) -> Self
+        ensures { result ≡ [] }
+    {
+        Text {
+            string: String::new(alloc),
+        }
+    }
 
     /// The text of a string. It takes no memory.
     pub fn from_string(string: String) -> Self
@@ -70,6 +79,13 @@ impl Text {
         ensures { result ≡ (length self.now == 0) }
     {
         self.string.is_empty()
+    }
+
+    /// Adds a character at the end.
+    pub fn push(&mut self, character: char) -> Result<(), AllocError>
+        ensures { OnOk result (self.new ≡ self.old ++ encode_utf8 character) }
+    {
+        self.string.push(character)
     }
 
     /// A text with the same bytes.

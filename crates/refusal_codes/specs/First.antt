@@ -28,11 +28,21 @@ first_of fs = noted None fs
 abbrev pub refusal_of : ℕ → ℕ → List ℕ → Failure → Refusal
 refusal_of stratum kind name f = record { stratum = stratum; kind = kind; name = name; rule = f.rule; place = f.place }
 
+-- the first of a list of failures, which is in the order of the rules
+abbrev pub foremost : List Failure → Option Failure
+foremost [] = None
+foremost (f ∷ fs) = Some f
+
 -- what a job answers: its least local failure, else the first failure of its whole rules, else its value
-abbrev pub judged : {Y : Type 0} → (Failure → Refusal) → Option Failure → List Failure → Y → Result Y Refusal
+abbrev pub judged : {Y : Type 0} → (Failure → Refusal) → Option Failure → Option Failure → Y → Result Y Refusal
 judged refusal (Some f) whole value = Err (refusal f)
-judged refusal None (f ∷ fs) value = Err (refusal f)
-judged refusal None [] value = Ok value
+judged refusal None (Some f) value = Err (refusal f)
+judged refusal None None value = Ok value
+
+-- the failure of a rule, and where it has none that of the next rule
+abbrev pub or_next : Option Failure → Option Failure → Option Failure
+or_next None next = next
+or_next (Some f) next = Some f
 
 -- a failure is among these, and none of them comes before it
 pub record IsLeast (fs : List Failure) (f : Failure) : Type 0 where

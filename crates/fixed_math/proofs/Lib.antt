@@ -1,0 +1,3 @@
+pub mod FloorLemmas
+pub mod CastLemmas
+pub mod ProductLemmas

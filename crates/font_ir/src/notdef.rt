@@ -1,0 +1,72 @@
+ghost use Rattle.std.specs.Prelude.{◌≡◌, ℤ, List, [], IfOk, map};
+ghost use Rattle.font_ir.specs.Notdef.{made_notdef_of};
+
+use crate::glyph::{Contour, FlatGlyph};
+use crate::header::{Header, Master};
+use crate::variation::Location;
+use fixed_math::F2Dot14;
+use plain_lists::Sequence;
+use refusal_codes::NoMemory;
+use std::alloc::Global;
+
+/// The `.notdef` of a font whose source has none: without contours, half an em wide (rounded down) at every master.
+///
+/// Its number is 4294967295 and its place 0.
+pub fn made_notdef(alloc: Global, header: &Header) -> Result<FlatGlyph, NoMemory>
+    ensures { IfOk result (λ glyph. glyph ≡ made_notdef_of header.now) }
+{
+    let masters = header.masters.as_slice();
+    let width = i32::from(header.upem / 2);
+    Ok(FlatGlyph {
+        number: u32::MAX,
+        place: 0,
+        places: locations_of(alloc, masters)?,
+        widths: widths_of(alloc, masters, width)?,
+        drawn: empty_outlines_of(alloc, masters)?,
+        kept: Sequence::new(alloc),
+        anchors: Sequence::new(alloc),
+    })
+}
+
+/// Each master's location.
+fn locations_of(alloc: Global, masters: &[Master]) -> Result<Sequence<Location>, NoMemory>
+    ensures { IfOk result (λ places. places ≡ map (λ master. master.location) masters.now) }
+{
+    let mut places = Vec::with_capacity(alloc, masters.len())?;
+    for master in masters {
+        places.push(copy_of(alloc, master.location.as_slice())?)?;
+    }
+    Ok(Sequence::from_vec(places))
+}
+
+/// A location with these coordinates.
+fn copy_of(alloc: Global, coordinates: &[F2Dot14]) -> Result<Location, NoMemory>
+    ensures { IfOk result (λ location. location ≡ coordinates.now) }
+{
+    Ok(Sequence::from_vec(Vec::from_slice(alloc, coordinates)?))
+}
+
+/// The width, once for each master.
+fn widths_of(alloc: Global, masters: &[Master], width: i32) -> Result<Sequence<i32>, NoMemory>
+    ensures { IfOk result (λ widths. widths ≡ map (λ master. width) masters.now) }
+{
+    let mut widths = Vec::with_capacity(alloc, masters.len())?;
+    for _master in masters {
+        widths.push(width)?;
+    }
+    Ok(Sequence::from_vec(widths))
+}
+
+/// No contours, once for each master.
+fn empty_outlines_of(
+    alloc: Global,
+    masters: &[Master],
+) -> Result<Sequence<Sequence<Contour>>, NoMemory>
+    ensures { IfOk result (λ drawn. drawn ≡ map (λ master. []) masters.now) }
+{
+    let mut drawn = Vec::with_capacity(alloc, masters.len())?;
+    for _master in masters {
+        drawn.push(Sequence::new(alloc))?;
+    }
+    Ok(Sequence::from_vec(drawn))
+}
