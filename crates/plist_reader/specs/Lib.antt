@@ -1,1 +1,6 @@
+pub mod Characters
+pub mod Escapes
+pub mod Grammar
+pub mod Keys
+pub mod Reading
 pub mod Tree

@@ -1,6 +1,16 @@
 //! Property lists: the text form in which Glyphs saves its sources.
 #![tactic(auto)]
 
+mod characters;
+mod escape;
+mod keys;
+mod reader;
+mod source;
+mod stack;
 mod tree;
 
+pub use source::read;
 pub use tree::{Tree, TreeNode, TreeValue};
+
+#[cfg(test)]
+mod tests;

@@ -1,0 +1,17 @@
+-- What a job reads.
+use Rattle.std.specs.Prelude.{Bool, List, [], ◌∷◌, Option, Some, None, option_and_then, if◌then◌else◌}
+use Rattle.access_context.specs.declared.settled.Settled.{Settled}
+use Rattle.access_context.specs.Plain.{Plain, plain, done_value}
+
+-- an item: its id, and what came of it
+abbrev pub plain_item : {V Id : Type 0} → Id × Settled V → Id × Plain V
+plain_item item = (item.0, plain item.1)
+
+-- what came of the item with this id; same tells whether two ids are one
+abbrev pub read_of : {Id X : Type 0} → (Id → Id → Bool) → List (Id × X) → Id → Option X
+read_of same [] id = None
+read_of same (item ∷ items) id = if same item.0 id then Some item.1 else read_of same items id
+
+-- the value of the item with this id, where it has one
+abbrev pub value_read : {Id V : Type 0} → (Id → Id → Bool) → List (Id × Plain V) → Id → Option V
+value_read same items id = option_and_then done_value (read_of same items id)

@@ -1,0 +1,4 @@
+pub mod TotalLemmas
+pub mod LoopLemmas
+pub mod FileLemmas
+pub mod Examples

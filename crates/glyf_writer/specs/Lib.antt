@@ -1,0 +1,3 @@
+pub mod GlyphData
+pub mod Outlines
+pub mod Tables

@@ -1,0 +1,77 @@
+ghost use Rattle.std.specs.Prelude.{◌≡◌, ◌<◌, ◌≤◌, [], ◌∷◌, length, IfOk, OnOk};
+ghost use Rattle.std.specs.List.{All};
+ghost use Rattle.font_ir.specs.FlatGlyphs.{IsFlatGlyph, point_count};
+ghost use Rattle.glyf_writer.specs.Outlines.{outline_at, all_points, stored_contours, AreSmall};
+ghost use Rattle.glyf_writer.specs.GlyphData.{simple_data, glyph_bytes, glyph_of};
+
+use crate::bytes::{
+    pad, push_bounds, push_end_points, push_word, push_x_coordinates, push_y_coordinates,
+};
+use crate::flags::{flags_of, push_flags};
+use crate::outline::{StoredPoint, bounds_of, steps_of, stored_points_of};
+use font_ir::{Contour, FlatGlyph};
+use refusal_codes::NoMemory;
+use std::alloc::Global;
+
+/// The data of a simple glyph in the table "glyf" (OpenType 1.9, "Simple Glyph Description"), padded to four bytes.
+///
+/// The outline is that at the place `origin`, of the glyph's list of places. `variable` says whether the font has axes. A glyph
+/// without points has no bytes.
+pub fn simple_bytes(
+    alloc: Global,
+    glyph: &FlatGlyph,
+    origin: u32,
+    variable: bool,
+) -> Result<Vec<u8>, NoMemory>
+    requires flat { IsFlatGlyph glyph.now }
+    requires origin { origin < length glyph.now.places }
+    requires simple { glyph.now.kept ≡ [] }
+    ensures { IfOk result (λ bytes. bytes.items ≡ simple_data variable (outline_at origin glyph.now)) }
+{
+    let contours = glyph.drawn.as_slice()[origin as usize].as_slice();
+    let points = stored_points_of(alloc, contours)?;
+    if points.is_empty() {
+        return Ok(Vec::new(alloc));
+    }
+    let mut bytes = Vec::with_capacity(alloc, 16 + 2 * contours.len() + 5 * points.len())?;
+    push_glyph(alloc, &mut bytes, contours, points.as_slice(), variable)?;
+    pad(&mut bytes)?;
+    Ok(bytes)
+}
+
+/// Writes a glyph with points, without padding.
+fn push_glyph(
+    alloc: Global,
+    bytes: &mut Vec<u8>,
+    contours: &[Contour],
+    points: &[StoredPoint],
+    variable: bool,
+) -> Result<(), NoMemory>
+    requires some { 0 < length points.now }
+    requires points { points.now ≡ all_points (stored_contours contours.now) }
+    requires small { AreSmall points.now }
+    requires few { point_count contours.now ≤ 8000 }
+    requires none_empty { All (λ contour. 0 < length contour.points) contours.now }
+    requires empty { bytes.old.items ≡ [] }
+    ensures { OnOk result (bytes.new.items ≡ glyph_bytes (glyph_of variable (stored_contours contours.now))) }
+{
+    let steps = steps_of(alloc, points)?;
+    let flags = flags_of(alloc, steps.as_slice(), variable)?;
+    push_word(bytes, count_of(contours))?;
+    push_bounds(bytes, bounds_of(points))?;
+    push_end_points(bytes, contours)?;
+    push_word(bytes, 0)?;
+    push_flags(bytes, flags.as_slice())?;
+    push_x_coordinates(bytes, steps.as_slice())?;
+    push_y_coordinates(bytes, steps.as_slice())?;
+    Ok(())
+}
+
+/// How many contours there are, of at most 8,000 points.
+fn count_of(contours: &[Contour]) -> u16
+    requires few { point_count contours.now ≤ 8000 }
+    requires none_empty { All (λ contour. 0 < length contour.points) contours.now }
+    ensures { result ≡ length contours.now }
+{
+    contours.len() as u16
+}

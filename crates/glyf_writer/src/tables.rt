@@ -1,0 +1,83 @@
+ghost use Rattle.std.specs.Prelude.{◌≡◌, ◌≤◌, ◌*◌, ◌+◌, ℕ, List, length, map, min, IfOk};
+ghost use Rattle.std.specs.List.{concat};
+ghost use Rattle.font_ir.specs.Tables.{Builds};
+ghost use Rattle.glyf_writer.specs.Tables.{glyf_bytes, loca_bytes, too_large};
+
+use font_ir::TableError;
+use refusal_codes::NoMemory;
+use std::alloc::Global;
+use std::sync::Arc;
+
+/// The greatest length that four bytes can say.
+const LONGEST_TABLE: u64 = 4_294_967_295;
+
+/// The tables "glyf" and "loca" (OpenType 1.9) of each glyph's data, in the order of the glyph numbers.
+///
+/// The offsets are long. A table of more than 4,294,967,295 bytes is `TooLarge`, with its length.
+pub fn glyf_loca(
+    alloc: Global,
+    parts: &[Arc<Vec<u8>>],
+) -> Result<(Vec<u8>, Vec<u8>), TableError>
+    ensures { Builds {Y = List ℕ × List ℕ} (λ tables. (tables.0.items, tables.1.items)) result
+        (too_large (map (λ part. part.value.items) parts.now))
+        (glyf_bytes (map (λ part. part.value.items) parts.now), loca_bytes (map (λ part. part.value.items) parts.now)) }
+{
+    let glyf_length = total_length(parts);
+    if glyf_length > LONGEST_TABLE {
+        return Err(TableError::TooLarge(glyf_length));
+    }
+    let loca_length = (parts.len() as u64).saturating_add(1).saturating_mul(4);
+    if loca_length > LONGEST_TABLE {
+        return Err(TableError::TooLarge(loca_length));
+    }
+    Ok(short_tables(alloc, parts)?)
+}
+
+/// How many bytes all parts have, at most the greatest number of 64 bits.
+fn total_length(parts: &[Arc<Vec<u8>>]) -> u64
+    ensures { result ≡ min (length (concat (map (λ part. part.value.items) parts.now))) 18446744073709551615 }
+{
+    let mut total: u64 = 0;
+    for part in parts {
+        total = total.saturating_add(part.len() as u64);
+    }
+    total
+}
+
+/// The two tables, where they aren't too large.
+fn short_tables(alloc: Global, parts: &[Arc<Vec<u8>>]) -> Result<(Vec<u8>, Vec<u8>), NoMemory>
+    requires glyf { length (concat (map (λ part. part.value.items) parts.now)) ≤ 4294967295 }
+    requires loca { 4 * (length parts.now + 1) ≤ 4294967295 }
+    ensures glyf { IfOk result (λ tables. tables.0.items ≡ glyf_bytes (map (λ part. part.value.items) parts.now)) }
+    ensures loca { IfOk result (λ tables. tables.1.items ≡ loca_bytes (map (λ part. part.value.items) parts.now)) }
+{
+    Ok((joined(alloc, parts)?, loca_of(alloc, parts)?))
+}
+
+/// The parts, one after another.
+fn joined(alloc: Global, parts: &[Arc<Vec<u8>>]) -> Result<Vec<u8>, NoMemory>
+    requires { length (concat (map (λ part. part.value.items) parts.now)) ≤ 4294967295 }
+    ensures { IfOk result (λ glyf. glyf.items ≡ glyf_bytes (map (λ part. part.value.items) parts.now)) }
+{
+    let mut glyf = Vec::with_capacity(alloc, total_length(parts) as usize)?;
+    for part in parts {
+        glyf.extend_from_slice(part.as_slice())?;
+    }
+    Ok(glyf)
+}
+
+/// Where each part begins among the parts, and last where the last one ends.
+fn loca_of(alloc: Global, parts: &[Arc<Vec<u8>>]) -> Result<Vec<u8>, NoMemory>
+    requires glyf { length (concat (map (λ part. part.value.items) parts.now)) ≤ 4294967295 }
+    requires loca { 4 * (length parts.now + 1) ≤ 4294967295 }
+    ensures { IfOk result (λ loca. loca.items ≡ loca_bytes (map (λ part. part.value.items) parts.now)) }
+{
+    let mut loca = Vec::with_capacity(alloc, 4 * (parts.len() + 1))?;
+    let mut offset: u32 = 0;
+    for part in parts {
+        loca.extend_from_slice(&offset.to_be_bytes())?;
+        offset += part.len() as u32;
+    }
+    loca.extend_from_slice(&offset.to_be_bytes())?;
+    Ok(loca)
+}

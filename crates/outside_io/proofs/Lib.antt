@@ -1,0 +1,5 @@
+pub mod Paths
+pub mod SlotLemmas
+pub mod MemoryLaws
+pub mod SureLaws
+pub mod RealLaws

@@ -1,0 +1,7 @@
+pub mod Counts
+pub mod Files
+pub mod Console
+pub mod Memory
+pub mod Slots
+pub mod Sure
+pub mod Real

@@ -1,0 +1,39 @@
+ghost use Rattle.std.specs.Prelude.{◌≡◌, ◌≤◌, length, IfOk};
+ghost use Rattle.refusal_codes.specs.Gives.{Gives};
+ghost use Rattle.plist_reader.specs.Tree.{IsTree, source_limit};
+ghost use Rattle.plist_reader.specs.Reading.{refusal, read_of, run, start};
+ghost use Rattle.std.specs.Str.{chars};
+
+use crate::reader::{Reader, refusal};
+use crate::tree::Tree;
+use refusal_codes::{ReadError, Rule};
+use std::alloc::Global;
+use std::str;
+
+/// Reads a property list, of at most 67,108,864 bytes.
+///
+/// The errors are those of memory, and one refusal for each text that is no property list, at the byte that explains it.
+pub fn read(alloc: Global, source: &[u8]) -> Result<Tree, ReadError>
+    requires { length source.now ≤ source_limit }
+    ensures exact { Gives (λ t. t) result (read_of source.now) }
+    ensures tree { IfOk result IsTree }
+{
+    match str::from_utf8(source) {
+        Ok(text) => read_text(alloc, text),
+        Err(error) => Err(refusal(alloc, Rule::NotUtf8, error.valid_up_to() as u64)),
+    }
+}
+
+/// Reads a property list from its text.
+fn read_text(alloc: Global, text: &str) -> Result<Tree, ReadError>
+    requires { length text.now ≤ source_limit }
+    ensures { Gives (λ t. t) result (run start 0 (chars text.now)) }
+{
+    let mut reader = Reader::new(alloc);
+    let mut place = 0u64;
+    for character in text.chars() {
+        reader.step(alloc, place, character)?;
+        place += character.len_utf8() as u64;
+    }
+    reader.finish(alloc, place)
+}

@@ -1,0 +1,82 @@
+use super::*;
+use refusal_codes::{ReadError, Rule};
+use std::alloc::{AllocError, Global};
+use std::test::Fail;
+
+/// A source of one triangle.
+const TRIANGLE: &[u8] =
+    b"{\n.formatVersion = 3;\nfamilyName = Tri;\nfontMaster = (\n{\nid = m1;\n}\n);\nglyphs = (\n{\nglyphname = A;\nlayers = (\n{\nlayerId = m1;\nshapes = (\n{\nclosed = 1;\nnodes = (\n(0,0,l),\n(500,0,l),\n(250,700,l)\n);\n}\n);\nwidth = 500;\n}\n);\nunicode = 65;\n}\n);\nunitsPerEm = 1000;\n}\n";
+
+/// The rule and the place of the refusal; `None` where there is a tree, or no memory.
+fn refused(alloc: Global, source: &[u8]) -> Option<(Rule, u64)> {
+    if source.len() > 67_108_864 {
+        return None;
+    }
+    match read(alloc, source) {
+        Err(ReadError::Refused(refusal)) => Some((refusal.rule, refusal.place)),
+        _ => None,
+    }
+}
+
+/// A dictionary of this many keys.
+fn many_keys(alloc: Global, count: u32) -> Result<String, AllocError> {
+    let mut text = String::new(alloc);
+    text.push('{')?;
+    for i in 0..count {
+        write!(&mut text, "k{i}=v;")?;
+    }
+    text.push('}')?;
+    Ok(text)
+}
+
+#[test]
+fn a_source_is_read_and_its_values_are_found(rt: HostRuntime) -> Result<(), Fail> {
+    let tree = read(rt.alloc(), TRIANGLE)?;
+    let glyphs = tree.find(tree.top, b"glyphs").ok_or("no glyphs")?;
+    let node = tree.nodes.as_slice().get(glyphs as usize).ok_or("no node")?;
+    assert_eq!(rt; node.place, 80);
+    assert_eq!(rt; node.end, 236);
+    let units = tree.find(tree.top, b"unitsPerEm").ok_or("no units")?;
+    let node = tree.nodes.as_slice().get(units as usize).ok_or("no node")?;
+    match &node.value {
+        TreeValue::Text(text) => assert_eq!(rt; text.as_bytes(), b"1000".as_slice()),
+        _ => return Err("no text".into()),
+    }
+    assert!(rt; tree.find(tree.top, b"glyph").is_none());
+    assert!(rt; tree.find(units, b"glyphs").is_none());
+    Ok(())
+}
+
+#[test]
+fn each_rule_refuses_at_its_place(rt: HostRuntime) {
+    let cases = [
+        (b"".as_slice(), Some((Rule::UnexpectedEnd, 0))),
+        (b"{a = 1;} x".as_slice(), Some((Rule::TrailingText, 9))),
+        (b"{a=1;a=2;}".as_slice(), Some((Rule::DuplicateKey, 5))),
+        (b"{a=\"\\q\";}".as_slice(), Some((Rule::BadEscape, 4))),
+        (b"{a=;}".as_slice(), Some((Rule::UnexpectedByte, 3))),
+        (b"\"\xc3".as_slice(), Some((Rule::NotUtf8, 1))),
+        (b"(\"\\Ud83d\\Ude00\\n\\101\",<0aF f>,\n)".as_slice(), None),
+    ];
+    for (source, outcome) in cases {
+        assert_eq!(rt; refused(rt.alloc(), source), outcome);
+    }
+}
+
+#[test]
+fn a_million_brackets_are_refused_and_a_hundred_thousand_keys_are_read(
+    rt: HostRuntime,
+) -> Result<(), Fail> {
+    let brackets = vec![in rt.alloc(); b'('; 1_000_000]?;
+    assert_eq!(rt;
+        refused(rt.alloc(), brackets.as_slice()),
+        Some((Rule::TooDeep, 64))
+    );
+    let keys = many_keys(rt.alloc(), 100_000)?;
+    assert!(rt; keys.len() <= 67_108_864);
+    let tree = read(rt.alloc(), keys.as_bytes())?;
+    assert_eq!(rt; tree.nodes.len(), 200_001);
+    let last = tree.find(tree.top, b"k99999").ok_or("no key")?;
+    assert_eq!(rt; last, 199_999);
+    Ok(())
+}
