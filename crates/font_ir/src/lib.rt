@@ -15,3 +15,6 @@ pub use notdef::made_notdef;
 pub use order::GlyphOrder;
 pub use plain_lists::Text as Name;
 pub use variation::{LayoutTable, Location, Region, Tag};
+
+#[cfg(test)]
+mod tests;

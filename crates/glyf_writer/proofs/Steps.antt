@@ -161,6 +161,7 @@ pub best_step : (op : ℤ → ℤ → ℤ) → ((a b : ℤ) → IsSmall a → Is
 best_step op smalls f points i d x m all lt p q e told =
     let here : ℤ = f (get_or points i d) in
     let is : m ≡ op x here = e ∙ ap (op x) (kept here q) in
-    let small : IsSmall m = subst IsSmall (sym is) (smalls x here p q) in
-    ( ap (λ z. fold op z (map f (drop (i + 1) points))) (kept m small ∙ is) ∙ sym (at_drop_more (λ ps. fold op x (map f ps)) points i d lt) ∙ told
-    , subst IsSmall (sym (kept m small)) small )
+    let small : IsSmall m = subst IsSmall (sym is) (smalls x here p q) in (
+      ap (λ z. fold op z (map f (drop (i + 1) points))) (kept m small ∙ is) ∙ sym (at_drop_more (λ ps. fold op x (map f ps)) points i d lt) ∙ told,
+      subst IsSmall (sym (kept m small)) small,
+    )

@@ -6,11 +6,17 @@ use refusal_codes::NoMemory;
 use std::alloc::Global;
 
 const ON_CURVE_POINT: u8 = 0x01;
+
 const X_SHORT_VECTOR: u8 = 0x02;
+
 const Y_SHORT_VECTOR: u8 = 0x04;
+
 const REPEAT_FLAG: u8 = 0x08;
+
 const X_IS_SAME_OR_POSITIVE: u8 = 0x10;
+
 const Y_IS_SAME_OR_POSITIVE: u8 = 0x20;
+
 const OVERLAP_SIMPLE: u8 = 0x40;
 
 /// The longest run of flags that one repeat can say.
