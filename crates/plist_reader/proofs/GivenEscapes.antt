@@ -41,10 +41,12 @@ octal_value-parts c x e =
 pub hex_value-small : (c x : ℕ) → hex_value c ≡ Some x → x < 16
 unfolding hex_value
 hex_value-small c x e = elim (cond_cases (is_between 48 57 c) (Some (c - 48)) _ (Some x) e) [
-      inl p ↦ (let q = between_parts 48 57 c p.0 in let k : c - 48 ≡ x = cc in omega (arith, k, q.0, q.1))
-    | inr p ↦ elim (cond_cases (is_between 65 70 c) (Some (c - 55)) _ (Some x) p.1) [
-          inl p2 ↦ (let q = between_parts 65 70 c p2.0 in let k : c - 55 ≡ x = cc in omega (arith, k, q.0, q.1))
-        | inr p2 ↦ (let p3 = cond_some (is_between 97 102 c) (c - 87) x p2.1 in let q = between_parts 97 102 c p3.0 in omega (arith, p3.1, q.0, q.1)) ] ]
+  | inl p ↦ (let q = between_parts 48 57 c p.0 in let k : c - 48 ≡ x = cc in omega (arith, k, q.0, q.1))
+  | inr p ↦ elim (cond_cases (is_between 65 70 c) (Some (c - 55)) _ (Some x) p.1) [
+    | inl p2 ↦ (let q = between_parts 65 70 c p2.0 in let k : c - 55 ≡ x = cc in omega (arith, k, q.0, q.1))
+    | inr p2 ↦ (let p3 = cond_some (is_between 97 102 c) (c - 87) x p2.1 in let q = between_parts 97 102 c p3.0 in omega (arith, p3.1, q.0, q.1))
+  ]
+]
 
 -- ---- characters
 
@@ -60,18 +62,21 @@ character_of-scalar u h = rw h refl
 
 plain_scalar : (u : ℕ) → u < 0x1_0000 → ¬ (IsHigh u) → ¬ (IsLow u) → scalar u ≡ true
 plain_scalar u b h l = elim (cases_Bool (ltb u 0xD800)) [
-      inl e ↦ low_scalar u (ltb-true u 0xD800 e)
-    | inr e ↦ elim (cases_Bool (ltb u 0xE000)) [
-          inl f ↦ absurd (not_between u e f h l)
-        | inr f ↦ high_scalar u (above u 0xE000 f) (omega arith) ] ]
+  | inl e ↦ low_scalar u (ltb-true u 0xD800 e)
+  | inr e ↦ elim (cases_Bool (ltb u 0xE000)) [
+    | inl f ↦ absurd (not_between u e f h l)
+    | inr f ↦ high_scalar u (above u 0xE000 f) (omega arith)
+  ]
+]
   where
     above : (u k : ℕ) → ltb u k ≡ false → k ≤ u
     above u k f = elim (cases_Bool (ltb u k)) [ inl e ↦ absurd (both_ways (ltb u k) f e) | inr e ↦ omega (arith, ltb-false u k f) ]
 
     not_between : (u : ℕ) → ltb u 0xD800 ≡ false → ltb u 0xE000 ≡ true → ¬ (IsHigh u) → ¬ (IsLow u) → ⊥
     not_between u e f h l = elim (cases_Bool (ltb u 0xDC00)) [
-          inl g ↦ h (ltb-false u 0xD800 e, ltb-true u 0xDC00 g)
-        | inr g ↦ l (ltb-false u 0xDC00 g, ltb-true u 0xE000 f) ]
+      | inl g ↦ h (ltb-false u 0xD800 e, ltb-true u 0xDC00 g)
+      | inr g ↦ l (ltb-false u 0xDC00 g, ltb-true u 0xE000 f)
+    ]
 
 -- ---- whole escapes
 
@@ -99,8 +104,9 @@ unit3 a b d c x h = rw h refl
 
 not_low_digits : (x y z w : ℕ) → y < 16 → z < 16 → w < 16 → ¬ (IsLow (x * 4096 + y * 256 + z * 16 + w)) → (eqb x 13 && leb 12 y) ≡ false
 not_low_digits x y z w hy hz hw l = elim (cases_Bool (eqb x 13 && leb 12 y)) [
-      inl e ↦ absurd (l (low_if e))
-    | inr e ↦ e ]
+  | inl e ↦ absurd (l (low_if e))
+  | inr e ↦ e
+]
   where
     low_if : (eqb x 13 && leb 12 y) ≡ true → IsLow (x * 4096 + y * 256 + z * 16 + w)
     low_if e = let p = and_parts (eqb x 13) (leb 12 y) e in let q = eqb-true x 13 p.0 in let k = leb-true 12 y p.1 in (omega (arith, q, k), omega (arith, q, k))
@@ -110,8 +116,9 @@ unfolding escape_unit
 unit-plain x y z w hx hy hz hw u e h l =
     let v = x * 4096 + y * 256 + z * 16 + w in
     let f : (leb 0xD800 v && ltb v 0xDC00) ≡ false = elim (cases_Bool (leb 0xD800 v && ltb v 0xDC00)) [
-          inl g ↦ absurd (h (let p = and_parts (leb 0xD800 v) (ltb v 0xDC00) g in (omega (arith, e, leb-true 0xD800 v p.0), omega (arith, e, ltb-true v 0xDC00 p.1))))
-        | inr g ↦ g ] in
+      | inl g ↦ absurd (h (let p = and_parts (leb 0xD800 v) (ltb v 0xDC00) g in (omega (arith, e, leb-true 0xD800 v p.0), omega (arith, e, ltb-true v 0xDC00 p.1))))
+      | inr g ↦ g
+    ] in
     rw f (ap character_of (sym e) ∙ character_of-scalar u (plain_scalar u (omega arith) h l))
 
 unit-high : (x y z w : ℕ) → (u : ℕ) → u ≡ x * 4096 + y * 256 + z * 16 + w → IsHigh u → escape_unit x y z w ≡ More (High (u - 0xD800))
@@ -181,10 +188,19 @@ pair_scalar high low h l = high_scalar (0x1_0000 + (high - 0xD800) * 1024 + (low
 reads-unit : (a b c d u : ℕ) → IsUnit a b c d u → ¬ (IsHigh u) → ¬ (IsLow u) → Reads Begun (85 ∷ a ∷ b ∷ c ∷ d ∷ []) u
 reads-unit a b c d u i h l =
     let x = i.first in let y = i.second in let z = i.third in let w = i.fourth in
-    let hx = hex_value-small a x i.first_is in let hy = hex_value-small b y i.second_is in let hz = hex_value-small c z i.third_is in let hw = hex_value-small d w i.fourth_is in
-    (Unit0, begun-unit, (Unit1 x, unit0 a x i.first_is,
-      (Unit2 x y, unit1 x b y i.second_is (not_low_digits x y z w hy hz hw (λ q. l (let k : u ≡ x * 4096 + y * 256 + z * 16 + w = i.unit_is in (omega (arith, k, q.0), omega (arith, k, q.1))))),
-      (Unit3 x y z, unit2 x y c z i.third_is, unit3 x y z d w i.fourth_is ∙ unit-plain x y z w hx hy hz hw u i.unit_is h l))))
+    let hx = hex_value-small a x i.first_is in let hy = hex_value-small b y i.second_is in let hz = hex_value-small c z i.third_is in let hw = hex_value-small d w i.fourth_is in (
+      Unit0,
+      begun-unit,
+      (
+        Unit1 x,
+        unit0 a x i.first_is,
+        (
+          Unit2 x y,
+          unit1 x b y i.second_is (not_low_digits x y z w hy hz hw (λ q. l (let k : u ≡ x * 4096 + y * 256 + z * 16 + w = i.unit_is in (omega (arith, k, q.0), omega (arith, k, q.1))))),
+          (Unit3 x y z, unit2 x y c z i.third_is, unit3 x y z d w i.fourth_is ∙ unit-plain x y z w hx hy hz hw u i.unit_is h l),
+        ),
+      ),
+    )
 
 reads-units : (a b c d e f g k high low : ℕ) → IsUnit a b c d high → IsUnit e f g k low → IsHigh high → IsLow low
     → Reads Begun (85 ∷ a ∷ b ∷ c ∷ d ∷ 92 ∷ 85 ∷ e ∷ f ∷ g ∷ k ∷ []) (0x1_0000 + (high - 0xD800) * 1024 + (low - 0xDC00))
@@ -193,14 +209,47 @@ reads-units a b c d e f g k high low i j h l =
     let hy = hex_value-small b y i.second_is in let hz = hex_value-small c z i.third_is in let hw = hex_value-small d w i.fourth_is in
     let p = j.first in let q = j.second in let r = j.third in let s = j.fourth in
     let digits = low_digits p q r s low (hex_value-small e p j.first_is) (hex_value-small f q j.second_is) (hex_value-small g r j.third_is) (hex_value-small k s j.fourth_is) j.unit_is l in
-    let n = high - 0xD800 in
-    (Unit0, begun-unit, (Unit1 x, unit0 a x i.first_is,
-      (Unit2 x y, unit1 x b y i.second_is (not_low_digits x y z w hy hz hw (λ v. let m : high ≡ x * 4096 + y * 256 + z * 16 + w = i.unit_is in omega (arith, m, v.0, h.1))),
-      (Unit3 x y z, unit2 x y c z i.third_is, (High n, unit3 x y z d w i.fourth_is ∙ unit-high x y z w high i.unit_is h,
-      (HighBackslash n, high-backslash n, (Low n, backslash-unit n,
-      (Low1 n, low0 n e (j.first_is ∙ ap (λ t. Some t) digits.0), (Low2 n (q - 12), low1 n f q j.second_is digits.1,
-      (Low3 n (q - 12) r, low2 n (q - 12) g r j.third_is,
-      low3 n (q - 12) r k s j.fourth_is ∙ ap character_of (pair_code high low p q r s j.unit_is digits.0 digits.1 h) ∙ character_of-scalar _ (pair_scalar high low h l)))))))))))
+    let n = high - 0xD800 in (
+      Unit0,
+      begun-unit,
+      (
+        Unit1 x,
+        unit0 a x i.first_is,
+        (
+          Unit2 x y,
+          unit1 x b y i.second_is (not_low_digits x y z w hy hz hw (λ v. let m : high ≡ x * 4096 + y * 256 + z * 16 + w = i.unit_is in omega (arith, m, v.0, h.1))),
+          (
+            Unit3 x y z,
+            unit2 x y c z i.third_is,
+            (
+              High n,
+              unit3 x y z d w i.fourth_is ∙ unit-high x y z w high i.unit_is h,
+              (
+                HighBackslash n,
+                high-backslash n,
+                (
+                  Low n,
+                  backslash-unit n,
+                  (
+                    Low1 n,
+                    low0 n e (j.first_is ∙ ap (λ t. Some t) digits.0),
+                    (
+                      Low2 n (q - 12),
+                      low1 n f q j.second_is digits.1,
+                      (
+                        Low3 n (q - 12) r,
+                        low2 n (q - 12) g r j.third_is,
+                        low3 n (q - 12) r k s j.fourth_is ∙ ap character_of (pair_code high low p q r s j.unit_is digits.0 digits.1 h) ∙ character_of-scalar _ (pair_scalar high low h l),
+                      ),
+                    ),
+                  ),
+                ),
+              ),
+            ),
+          ),
+        ),
+      ),
+    )
 
 reads-octal : (a b c x y z : ℕ) → octal_value a ≡ Some x → octal_value b ≡ Some y → octal_value c ≡ Some z → x * 64 + y * 8 + z < 128 → Reads Begun (a ∷ b ∷ c ∷ []) (x * 64 + y * 8 + z)
 reads-octal a b c x y z ha hb hc h =

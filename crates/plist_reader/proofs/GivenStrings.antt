@@ -131,7 +131,7 @@ run-hex _ _ (digits a b x y gap cs made ha hg hb q) nodes brackets phase at plac
     ∙ run-hex cs made q nodes brackets phase at (place + len_utf8 a + width gap + len_utf8 b) (bytes ++ (x * 16 + y) ∷ []) rest
     ∙ run_same _ _ (place + len_utf8 a + width gap + len_utf8 b + width cs) (place + (len_utf8 a + width (gap ++ b ∷ cs))) rest (ap (λ t. in_token nodes brackets phase (Bytes at) [] t) (append_assoc bytes ((x * 16 + y) ∷ []) made)) (omega (arith, width-append gap (b ∷ cs)))
 
-step-angle_end : (nodes : List TreeNode) (brackets : List Open) (phase : Phase) (at place : ℕ) (bytes : List ℕ)
+pub step-angle_end : (nodes : List TreeNode) (brackets : List Open) (phase : Phase) (at place : ℕ) (bytes : List ℕ)
     → step (in_token nodes brackets phase (Bytes at) [] bytes) place 62 ≡ Ok (settled (nodes ++ node at (place + 1) (tree.Bytes bytes) ∷ []) brackets (length nodes))
 unfolding step in_bytes is_space value_ended
 step-angle_end nodes brackets phase at place bytes = ap (λ r. Ok r) (settled_any (nodes ++ node at (place + 1) (tree.Bytes bytes) ∷ []) brackets brackets phase (length nodes))
@@ -144,7 +144,7 @@ Stops [] [] = Unit {0}
 Stops (bracket ∷ brackets) [] = ⊥
 Stops brackets (c ∷ cs) = is_word c ≡ false
 
-text-ended : (nodes : List TreeNode) (brackets : List Open) (phase : Phase) (token : Token) (at end : ℕ) (text : List ℕ) → IsAwaiting phase
+pub text-ended : (nodes : List TreeNode) (brackets : List Open) (phase : Phase) (token : Token) (at end : ℕ) (text : List ℕ) → IsAwaiting phase
     → text_ended (in_token nodes brackets phase token text []) at end ≡ Ok (settled (nodes ++ node at end (tree.Text text) ∷ []) brackets (length nodes))
 unfolding text_ended value_ended
 text-ended nodes brackets Value token at end text h = ap (λ r. Ok r) (settled_any (nodes ++ node at end (tree.Text text) ∷ []) brackets brackets Value (length nodes))
@@ -156,11 +156,11 @@ text-ended nodes brackets PairEnd token at end text h = elim h [ ]
 text-ended nodes brackets (End n) token at end text h = elim h [ ]
 
 -- a step between tokens
-step-between : (r : Reader) (place c : ℕ) → r.token ≡ Between → step r place c ≡ between r place c
+pub step-between : (r : Reader) (place c : ℕ) → r.token ≡ Between → step r place c ≡ between r place c
 unfolding step
 step-between r place c e = rw e refl
 
-step-in_word : (r : Reader) (at place c : ℕ) → r.token ≡ Word at → step r place c ≡ in_word r at place c
+pub step-in_word : (r : Reader) (at place c : ℕ) → r.token ≡ Word at → step r place c ≡ in_word r at place c
 unfolding step
 step-in_word r at place c e = rw e refl
 
@@ -183,7 +183,7 @@ run-word_end nodes (bracket ∷ brackets) phase at place text [] h s = elim s [ 
 run-word_end nodes brackets phase at place text (c ∷ cs) h s =
     ap (λ d. d >>= (λ r. run r (place + len_utf8 c) cs))
     (step-word_end (in_token nodes brackets phase (Word at) text []) (settled (nodes ++ node at place (tree.Text text) ∷ []) brackets (length nodes)) at place c refl s
-      (text-ended nodes brackets phase (Word at) at place text h) (settled-between (nodes ++ node at place (tree.Text text) ∷ []) brackets (length nodes)))
+    (text-ended nodes brackets phase (Word at) at place text h) (settled-between (nodes ++ node at place (tree.Text text) ∷ []) brackets (length nodes)))
 
 pub step-quote_end : (nodes : List TreeNode) (brackets : List Open) (phase : Phase) (at place : ℕ) (text : List ℕ)
     → step (in_token nodes brackets phase (Quoted at) text []) place 34 ≡ text_ended (in_token nodes brackets phase (Quoted at) text []) at (place + 1)

@@ -28,7 +28,7 @@ use Rattle.plist_reader.proofs.GivenStrings.{Stops, step-word_end, step-quote_be
 
 -- ---- what follows a value
 
-abbrev Marked : List ℕ → Type 0
+abbrev pub Marked : List ℕ → Type 0
 Marked [] = ⊥
 Marked (c ∷ cs) = is_word c ≡ false
 
@@ -62,7 +62,7 @@ step-list_begun nodes brackets KeyEnd place a h = elim a [ ]
 step-list_begun nodes brackets PairEnd place a h = elim a [ ]
 step-list_begun nodes brackets (End n) place a h = elim a [ ]
 
-abbrev opened : ℕ → Dictionary
+abbrev pub opened : ℕ → Dictionary
 opened place = record { place = place; keys = []; pairs = []; key = 0 }
 
 step-dictionary_begun : (nodes : List TreeNode) (brackets : List Open) (phase : Phase) (place : ℕ) → IsAwaiting phase → length brackets < 64 → step (ready nodes brackets phase) place 123 ≡ Ok (ready nodes (Pairs (opened place) ∷ brackets) Key)
@@ -76,10 +76,10 @@ step-dictionary_begun nodes brackets PairEnd place a h = elim a [ ]
 step-dictionary_begun nodes brackets (End n) place a h = elim a [ ]
 
 -- behind a list and behind a dictionary
-abbrev list_end : List TreeNode → ℕ → ℕ → List ℕ → List Open → Reader
+abbrev pub list_end : List TreeNode → ℕ → ℕ → List ℕ → List Open → Reader
 list_end nodes at end numbers brackets = settled (nodes ++ node at end (tree.Items numbers) ∷ []) brackets (length nodes)
 
-abbrev dictionary_end : List TreeNode → ℕ → ℕ → List (ℕ × ℕ) → List Open → Reader
+abbrev pub dictionary_end : List TreeNode → ℕ → ℕ → List (ℕ × ℕ) → List Open → Reader
 dictionary_end nodes at end numbers brackets = settled (nodes ++ node at end (tree.Pairs numbers) ∷ []) brackets (length nodes)
 
 step-empty_list_end : (nodes : List TreeNode) (at place : ℕ) (done : List ℕ) (brackets : List Open) → step (ready nodes (Items at done ∷ brackets) Item) place 41 ≡ Ok (list_end nodes at (place + 1) done brackets)
@@ -109,10 +109,10 @@ step-semicolon nodes brackets place = refl
 -- ---- keys
 
 -- behind a key
-abbrev key_end : List TreeNode → Dictionary → List Open → ℕ → ℕ → List ℕ → Reader
+abbrev pub key_end : List TreeNode → Dictionary → List Open → ℕ → ℕ → List ℕ → Reader
 key_end nodes d brackets at end key = ready (nodes ++ node at end (tree.Text key) ∷ []) (Pairs (record d { keys = d.keys ++ key ∷ []; key = length nodes }) ∷ brackets) KeyEnd
 
-key-ended : (nodes : List TreeNode) (d : Dictionary) (brackets : List Open) (token : Token) (at end : ℕ) (text : List ℕ) → is_among text d.keys ≡ false
+pub key-ended : (nodes : List TreeNode) (d : Dictionary) (brackets : List Open) (token : Token) (at end : ℕ) (text : List ℕ) → is_among text d.keys ≡ false
     → text_ended (in_token nodes (Pairs d ∷ brackets) Key token text []) at end ≡ Ok (key_end nodes d brackets at end text)
 unfolding text_ended key_ended
 key-ended nodes d brackets token at end text h = rw h refl
@@ -152,20 +152,20 @@ dictionary_end_same : (r s : List TreeNode) (at p q : ℕ) (xs ys : List (ℕ ×
 dictionary_end_same r s at p q xs ys brackets rest e f g = ap (λ x. run (dictionary_end x at p xs brackets) p rest) e ∙ ap (λ x. run (dictionary_end s at x xs brackets) x rest) f ∙ ap (λ x. run (dictionary_end s at q x brackets) q rest) g
 
 -- the nodes when a value has ended
-abbrev with_value : List TreeNode → grammar.Value → List TreeNode
+abbrev pub with_value : List TreeNode → grammar.Value → List TreeNode
 with_value nodes v = nodes ++ (inner_of v (length nodes) ++ own_of v (length nodes) ∷ [])
 
-with_value-length : (nodes : List TreeNode) (v : grammar.Value) → length (with_value nodes v) ≡ length nodes + length (inner_of v (length nodes)) + 1
+pub with_value-length : (nodes : List TreeNode) (v : grammar.Value) → length (with_value nodes v) ≡ length nodes + length (inner_of v (length nodes)) + 1
 with_value-length nodes v =
     let inner = inner_of v (length nodes) in
     let own = own_of v (length nodes) ∷ [] in
     omega (arith, length-append nodes (inner ++ own), length-append inner own)
 
 -- regrouping the characters of an item, and of an entry
-item_parts : (gap text after tail rest : List ℕ) → (gap ++ (text ++ (after ++ tail))) ++ rest ≡ gap ++ (text ++ (after ++ (tail ++ rest)))
+pub item_parts : (gap text after tail rest : List ℕ) → (gap ++ (text ++ (after ++ tail))) ++ rest ≡ gap ++ (text ++ (after ++ (tail ++ rest)))
 item_parts gap text after tail rest = simp append_assoc
 
-entry_parts : (gap key before behind text after tail rest : List ℕ) → (gap ++ (key ++ (before ++ 61 ∷ (behind ++ (text ++ (after ++ 59 ∷ tail)))))) ++ rest ≡ gap ++ (key ++ (before ++ 61 ∷ (behind ++ (text ++ (after ++ 59 ∷ (tail ++ rest))))))
+pub entry_parts : (gap key before behind text after tail rest : List ℕ) → (gap ++ (key ++ (before ++ 61 ∷ (behind ++ (text ++ (after ++ 59 ∷ tail)))))) ++ rest ≡ gap ++ (key ++ (before ++ 61 ∷ (behind ++ (text ++ (after ++ 59 ∷ (tail ++ rest))))))
 entry_parts gap key before behind text after tail rest = simp append_assoc
 
 -- nodes and numbers, one value on
@@ -178,34 +178,35 @@ numbers_on done more n = append_assoc done (n ∷ []) more
 entry_nodes_on : (nodes inner more : List TreeNode) (key own : TreeNode) → ((nodes ++ key ∷ []) ++ (inner ++ own ∷ [])) ++ more ≡ nodes ++ key ∷ (inner ++ own ∷ more)
 entry_nodes_on nodes inner more key own = simp append_assoc
 
-none-nodes : (vs : grammar.Values) (first : ℕ) → AreNone vs → (items_nodes vs first ≡ []) × (items_numbers vs first ≡ [])
+pub none-nodes : (vs : grammar.Values) (first : ℕ) → AreNone vs → (items_nodes vs first ≡ []) × (items_numbers vs first ≡ [])
 none-nodes grammar.NoValues first h = (refl, refl)
 none-nodes (grammar.AndValue v vs) first h = elim h [ ]
 
 tail-marked : (last : Type 0) (others : ℕ → List ℕ → Type 0) (place : ℕ) (tail rest : List ℕ) → IsTail last others place tail → Marked (tail ++ 41 ∷ rest)
 tail-marked last others place tail rest h = elim h [
-      inl e ↦ (let M : List ℕ → Type 0 = λ t. Marked (t ++ 41 ∷ rest) in subst M (sym e.1) marks.0)
-    | inr e ↦ (let M : List ℕ → Type 0 = λ t. Marked (t ++ 41 ∷ rest) in subst M (sym e.1) marks.1) ]
+  | inl e ↦ (let M : List ℕ → Type 0 = λ t. Marked (t ++ 41 ∷ rest) in subst M (sym e.1) marks.0)
+  | inr e ↦ (let M : List ℕ → Type 0 = λ t. Marked (t ++ 41 ∷ rest) in subst M (sym e.1) marks.1)
+]
 
 node_same : (nodes : List TreeNode) (value : tree.the_data) (a b c d : ℕ) → a ≡ b → c ≡ d → nodes ++ node b d value ∷ [] ≡ nodes ++ node a c value ∷ []
 node_same nodes value a b c d e f = ap (λ p. nodes ++ node p d value ∷ []) (sym e) ∙ ap (λ p. nodes ++ node a p value ∷ []) (sym f)
 
 -- the nodes and numbers of the values that are left, from where the first has ended
-items_on : (nodes : List TreeNode) (v : grammar.Value) (vs : grammar.Values) → with_value nodes v ++ items_nodes vs (length (with_value nodes v)) ≡ nodes ++ items_nodes (grammar.AndValue v vs) (length nodes)
+pub items_on : (nodes : List TreeNode) (v : grammar.Value) (vs : grammar.Values) → with_value nodes v ++ items_nodes vs (length (with_value nodes v)) ≡ nodes ++ items_nodes (grammar.AndValue v vs) (length nodes)
 items_on nodes v vs =
     let n = length nodes in
     ap (λ k. with_value nodes v ++ items_nodes vs k) (with_value-length nodes v) ∙ nodes_on nodes (inner_of v n) (items_nodes vs (n + length (inner_of v n) + 1)) (own_of v n)
 
-item_numbers_on : (nodes : List TreeNode) (v : grammar.Value) (vs : grammar.Values) (done : List ℕ) → (done ++ (length nodes + length (inner_of v (length nodes))) ∷ []) ++ items_numbers vs (length (with_value nodes v)) ≡ done ++ items_numbers (grammar.AndValue v vs) (length nodes)
+pub item_numbers_on : (nodes : List TreeNode) (v : grammar.Value) (vs : grammar.Values) (done : List ℕ) → (done ++ (length nodes + length (inner_of v (length nodes))) ∷ []) ++ items_numbers vs (length (with_value nodes v)) ≡ done ++ items_numbers (grammar.AndValue v vs) (length nodes)
 item_numbers_on nodes v vs done =
     let n = length nodes in
     let number = n + length (inner_of v n) in
     ap (λ k. (done ++ number ∷ []) ++ items_numbers vs k) (with_value-length nodes v) ∙ numbers_on done (items_numbers vs (number + 1)) number
 
-with_key-length : (nodes : List TreeNode) (key : TreeNode) → length (nodes ++ key ∷ []) ≡ length nodes + 1
+pub with_key-length : (nodes : List TreeNode) (key : TreeNode) → length (nodes ++ key ∷ []) ≡ length nodes + 1
 with_key-length nodes key = length-append nodes (key ∷ [])
 
-entries_on : (nodes : List TreeNode) (at end : ℕ) (key : List ℕ) (v : grammar.Value) (es : grammar.Entries)
+pub entries_on : (nodes : List TreeNode) (at end : ℕ) (key : List ℕ) (v : grammar.Value) (es : grammar.Entries)
     → with_value (nodes ++ node at end (tree.Text key) ∷ []) v ++ entries_nodes es (length (with_value (nodes ++ node at end (tree.Text key) ∷ []) v)) ≡ nodes ++ entries_nodes (grammar.AndEntry at end key v es) (length nodes)
 entries_on nodes at end key v es =
     let k = node at end (tree.Text key) in
@@ -215,7 +216,7 @@ entries_on nodes at end key v es =
     ∙ entry_nodes_on nodes (inner_of v m) (entries_nodes es (m + length (inner_of v m) + 1)) k (own_of v m)
     ∙ ap (λ x. nodes ++ k ∷ (inner_of v x ++ own_of v x ∷ entries_nodes es (x + length (inner_of v x) + 1))) (with_key-length nodes k)
 
-entry_numbers_on : (nodes : List TreeNode) (at end : ℕ) (key : List ℕ) (v : grammar.Value) (es : grammar.Entries) (done : List (ℕ × ℕ))
+pub entry_numbers_on : (nodes : List TreeNode) (at end : ℕ) (key : List ℕ) (v : grammar.Value) (es : grammar.Entries) (done : List (ℕ × ℕ))
     → (done ++ (length nodes, length (nodes ++ node at end (tree.Text key) ∷ []) + length (inner_of v (length (nodes ++ node at end (tree.Text key) ∷ [])))) ∷ []) ++ entries_numbers es (length (with_value (nodes ++ node at end (tree.Text key) ∷ []) v))
     ≡ done ++ entries_numbers (grammar.AndEntry at end key v es) (length nodes)
 entry_numbers_on nodes at end key v es done =
@@ -247,7 +248,7 @@ mutual
       ∙ ap (λ x. run (ready nodes (Items place [] ∷ brackets) Item) (place + 1) x) (append_assoc inner (41 ∷ []) rest)
       ∙ run-items items (depth + 1) (place + 1) inner s.5 nodes place [] brackets rest (omega (arith, l))
       ∙ settled_same (all ++ node place (place + 1 + width inner + 1) value ∷ []) (nodes ++ (items_nodes items n ++ node at end value ∷ [])) brackets (length all) (n + length (items_nodes items n)) (place + 1 + width inner + 1) (place + width cs) rest
-        (node_same all value at place end (place + 1 + width inner + 1) s.0 (s.1 ∙ omega (arith, w)) ∙ append_assoc nodes (items_nodes items n) (node at end value ∷ [])) (length-append nodes (items_nodes items n)) (omega (arith, w))
+      (node_same all value at place end (place + 1 + width inner + 1) s.0 (s.1 ∙ omega (arith, w)) ∙ append_assoc nodes (items_nodes items n) (node at end value ∷ [])) (length-append nodes (items_nodes items n)) (omega (arith, w))
   run-value (grammar.Pairs at end entries) depth place cs s nodes brackets phase rest a l st =
       let inner = s.3 in
       let n = length nodes in
@@ -259,7 +260,7 @@ mutual
       ∙ ap (λ x. run (ready nodes (Pairs (opened place) ∷ brackets) Key) (place + 1) x) (append_assoc inner (125 ∷ []) rest)
       ∙ run-entries entries (depth + 1) [] (place + 1) inner s.5 nodes (opened place) brackets rest refl (omega (arith, l))
       ∙ settled_same (all ++ node place (place + 1 + width inner + 1) value ∷ []) (nodes ++ (entries_nodes entries n ++ node at end value ∷ [])) brackets (length all) (n + length (entries_nodes entries n)) (place + 1 + width inner + 1) (place + width cs) rest
-        (node_same all value at place end (place + 1 + width inner + 1) s.0 (s.1 ∙ omega (arith, w)) ∙ append_assoc nodes (entries_nodes entries n) (node at end value ∷ [])) (length-append nodes (entries_nodes entries n)) (omega (arith, w))
+      (node_same all value at place end (place + 1 + width inner + 1) s.0 (s.1 ∙ omega (arith, w)) ∙ append_assoc nodes (entries_nodes entries n) (node at end value ∷ [])) (length-append nodes (entries_nodes entries n)) (omega (arith, w))
 
   run-items : (items : grammar.Values) (depth place : ℕ) (cs : List ℕ) → SpellItems items depth place cs → (nodes : List TreeNode) (at : ℕ) (done : List ℕ) (brackets : List Open) (rest : List ℕ) → suc (length brackets) ≡ depth
       → run (ready nodes (Items at done ∷ brackets) Item) place (cs ++ 41 ∷ rest) ≡ run (list_end (nodes ++ items_nodes items (length nodes)) at (place + width cs + 1) (done ++ items_numbers items (length nodes)) brackets) (place + width cs + 1) rest
@@ -279,22 +280,23 @@ mutual
       ∙ ap (λ x. run r place x) (item_parts s.gap s.text s.after s.tail (41 ∷ rest))
       ∙ run-spaces s.gap r place (s.text ++ (s.after ++ (s.tail ++ 41 ∷ rest))) refl s.gap_spaces
       ∙ run-value v depth here s.text s.spelled nodes (Items at done ∷ brackets) Item (s.after ++ (s.tail ++ 41 ∷ rest)) tt l
-        (stops-marked (Items at done ∷ brackets) (s.after ++ (s.tail ++ 41 ∷ rest)) (marked-spaces s.after (s.tail ++ 41 ∷ rest) s.after_spaces (tail-marked (AreNone vs) (λ p t. SpellItems vs depth p t) there s.tail rest s.followed)))
+      (stops-marked (Items at done ∷ brackets) (s.after ++ (s.tail ++ 41 ∷ rest)) (marked-spaces s.after (s.tail ++ 41 ∷ rest) s.after_spaces (tail-marked (AreNone vs) (λ p t. SpellItems vs depth p t) there s.tail rest s.followed)))
       ∙ run-spaces s.after (ready more (Items at (done ++ number ∷ []) ∷ brackets) ItemEnd) (here + width s.text) (s.tail ++ 41 ∷ rest) refl s.after_spaces
       ∙ elim s.followed [
-          inl e ↦ (let none = none-nodes vs (length more) e.0 in
+        | inl e ↦ (let none = none-nodes vs (length more) e.0 in
             ap (λ x. run (ready more (Items at (done ++ number ∷ []) ∷ brackets) ItemEnd) there (x ++ 41 ∷ rest)) e.1
             ∙ run_step _ _ there 41 rest (step-list_end more at there (done ++ number ∷ []) brackets)
             ∙ list_end_same more (nodes ++ items_nodes (grammar.AndValue v vs) n) at (there + 1) (place + width cs + 1) (done ++ number ∷ []) (done ++ items_numbers (grammar.AndValue v vs) n) brackets rest
-              (sym (append-nil more) ∙ ap (λ x. more ++ x) (sym none.0) ∙ items_on nodes v vs)
-              (omega (arith, w, ap width e.1))
-              (sym (append-nil (done ++ number ∷ [])) ∙ ap (λ x. (done ++ number ∷ []) ++ x) (sym none.1) ∙ item_numbers_on nodes v vs done))
+            (sym (append-nil more) ∙ ap (λ x. more ++ x) (sym none.0) ∙ items_on nodes v vs)
+            (omega (arith, w, ap width e.1))
+            (sym (append-nil (done ++ number ∷ [])) ∙ ap (λ x. (done ++ number ∷ []) ++ x) (sym none.1) ∙ item_numbers_on nodes v vs done))
         | inr e ↦
             ap (λ x. run (ready more (Items at (done ++ number ∷ []) ∷ brackets) ItemEnd) there (x ++ 41 ∷ rest)) e.1
             ∙ run_step _ _ there 44 (e.0 ++ 41 ∷ rest) (step-comma more (Items at (done ++ number ∷ []) ∷ brackets) there)
             ∙ run-items vs depth (there + 1) e.0 e.2 more at (done ++ number ∷ []) brackets rest l
             ∙ list_end_same (more ++ items_nodes vs (length more)) (nodes ++ items_nodes (grammar.AndValue v vs) n) at (there + 1 + width e.0 + 1) (place + width cs + 1) ((done ++ number ∷ []) ++ items_numbers vs (length more)) (done ++ items_numbers (grammar.AndValue v vs) n) brackets rest
-              (items_on nodes v vs) (omega (arith, w, ap width e.1)) (item_numbers_on nodes v vs done) ]
+            (items_on nodes v vs) (omega (arith, w, ap width e.1)) (item_numbers_on nodes v vs done)
+      ]
 
   run-entries : (entries : grammar.Entries) (depth : ℕ) (keys : List (List ℕ)) (place : ℕ) (cs : List ℕ) → SpellEntries entries depth keys place cs → (nodes : List TreeNode) (d : Dictionary) (brackets : List Open) (rest : List ℕ) → d.keys ≡ keys → suc (length brackets) ≡ depth
       → run (ready nodes (Pairs d ∷ brackets) Key) place (cs ++ 125 ∷ rest) ≡ run (dictionary_end (nodes ++ entries_nodes entries (length nodes)) d.place (place + width cs + 1) (d.pairs ++ entries_numbers entries (length nodes)) brackets) (place + width cs + 1) rest
@@ -316,12 +318,12 @@ mutual
       let there = here + width e.text + width e.after in
       let behind_value = e.after ++ 59 ∷ (e.rest ++ 125 ∷ rest) in
       let w : width cs ≡ width e.gap + (width e.key_text + (width e.before_sign + (1 + (width e.behind_sign + (width e.text + (width e.after + (1 + width e.rest))))))) =
-          ap width e.parts ∙ omega (arith, width-append e.gap (e.key_text ++ (e.before_sign ++ 61 ∷ (e.behind_sign ++ (e.text ++ (e.after ++ 59 ∷ e.rest))))), width-append e.key_text (e.before_sign ++ 61 ∷ (e.behind_sign ++ (e.text ++ (e.after ++ 59 ∷ e.rest)))), width-append e.before_sign (61 ∷ (e.behind_sign ++ (e.text ++ (e.after ++ 59 ∷ e.rest)))), width-append e.behind_sign (e.text ++ (e.after ++ 59 ∷ e.rest)), width-append e.text (e.after ++ 59 ∷ e.rest), width-append e.after (59 ∷ e.rest)) in
+      ap width e.parts ∙ omega (arith, width-append e.gap (e.key_text ++ (e.before_sign ++ 61 ∷ (e.behind_sign ++ (e.text ++ (e.after ++ 59 ∷ e.rest))))), width-append e.key_text (e.before_sign ++ 61 ∷ (e.behind_sign ++ (e.text ++ (e.after ++ 59 ∷ e.rest)))), width-append e.before_sign (61 ∷ (e.behind_sign ++ (e.text ++ (e.after ++ 59 ∷ e.rest)))), width-append e.behind_sign (e.text ++ (e.after ++ 59 ∷ e.rest)), width-append e.text (e.after ++ 59 ∷ e.rest), width-append e.after (59 ∷ e.rest)) in
       ap (λ x. run r place (x ++ 125 ∷ rest)) e.parts
       ∙ ap (λ x. run r place x) (entry_parts e.gap e.key_text e.before_sign e.behind_sign e.text e.after e.rest (125 ∷ rest))
       ∙ run-spaces e.gap r place (e.key_text ++ (e.before_sign ++ 61 ∷ (e.behind_sign ++ (e.text ++ behind_value)))) refl e.gap_spaces
       ∙ run-key e.key_text key e.key_spelled nodes d brackets (place + width e.gap) (e.before_sign ++ 61 ∷ (e.behind_sign ++ (e.text ++ behind_value))) (ap (λ x. is_among key x) k ∙ s.0)
-        (marked-spaces e.before_sign (61 ∷ (e.behind_sign ++ (e.text ++ behind_value))) e.before_spaces marks.3)
+      (marked-spaces e.before_sign (61 ∷ (e.behind_sign ++ (e.text ++ behind_value))) e.before_spaces marks.3)
       ∙ ap (λ p. run (key_end nodes d brackets p (p + width e.key_text) key) (p + width e.key_text) (e.before_sign ++ 61 ∷ (e.behind_sign ++ (e.text ++ behind_value)))) (sym e.key_place_is)
       ∙ ap (λ p. run (key_end nodes d brackets at p key) p (e.before_sign ++ 61 ∷ (e.behind_sign ++ (e.text ++ behind_value)))) (sym e.key_end_is)
       ∙ run-spaces e.before_sign (ready keyed (Pairs d1 ∷ brackets) KeyEnd) end (61 ∷ (e.behind_sign ++ (e.text ++ behind_value))) refl e.before_spaces
@@ -332,7 +334,7 @@ mutual
       ∙ run_step _ _ there 59 (e.rest ++ 125 ∷ rest) (step-semicolon more (Pairs d2 ∷ brackets) there)
       ∙ run-entries es depth (keys ++ key ∷ []) (there + 1) e.rest e.followed more d2 brackets rest (ap (λ x. x ++ key ∷ []) k) l
       ∙ dictionary_end_same (more ++ entries_nodes es (length more)) (nodes ++ entries_nodes (grammar.AndEntry at end key v es) n) d.place (there + 1 + width e.rest + 1) (place + width cs + 1) ((d.pairs ++ (n, number) ∷ []) ++ entries_numbers es (length more)) (d.pairs ++ entries_numbers (grammar.AndEntry at end key v es) n) brackets rest
-        (entries_on nodes at end key v es) (omega (arith, w, e.key_place_is, e.key_end_is)) (entry_numbers_on nodes at end key v es d.pairs)
+      (entries_on nodes at end key v es) (omega (arith, w, e.key_place_is, e.key_end_is)) (entry_numbers_on nodes at end key v es d.pairs)
 
 -- ---- whole texts
 

@@ -6,3 +6,5 @@ pub mod GivenTokens
 pub mod GivenEscapes
 pub mod GivenStrings
 pub mod GivenTexts
+pub mod SpelledEscapes
+pub mod SpelledRests

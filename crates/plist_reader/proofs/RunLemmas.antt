@@ -58,3 +58,7 @@ read_of-bad source h = ap (λ b. cond b (run start 0 (chars source)) (Err (refus
 pub if_ok-from_Gives : {X : Type 0} (P : X → Type 0) (result : Result X ReadError) (definition : Result X Refusal) → Gives (λ x. x) result definition → IfOk definition P → IfOk result P
 if_ok-from_Gives {X} P (Ok x) definition h k = let Q = λ (d : Result X Refusal). IfOk d P in subst Q h k
 if_ok-from_Gives {X} P (Err e) definition h k = tt
+
+-- what gives two answers gives one
+pub one_answer : {A : Type 0} (x y : A) (r : Result A Refusal) → r ≡ Ok x → r ≡ Ok y → x ≡ y
+one_answer x y r e f = cc

@@ -1,6 +1,8 @@
-ghost use Rattle.std.specs.Prelude.{◌≡◌, ◌≤◌, length, IfOk};
+ghost use Rattle.std.specs.Prelude.{◌≡◌, ◌≤◌, length, IfOk, Ok, List, ℕ};
 ghost use Rattle.refusal_codes.specs.Gives.{Gives};
 ghost use Rattle.plist_reader.specs.Tree.{IsTree, source_limit};
+ghost use Rattle.plist_reader.specs.Grammar.{HasTree};
+ghost use Rattle.plist_reader.specs.declared.tree.Tree.{Tree};
 ghost use Rattle.plist_reader.specs.Reading.{refusal, read_of, run, start};
 ghost use Rattle.std.specs.Str.{chars};
 
@@ -15,7 +17,10 @@ use std::str;
 /// The errors are those of memory, and one refusal for each text that is no property list, at the byte that explains it.
 pub fn read(alloc: Global, source: &[u8]) -> Result<Tree, ReadError>
     requires { length source.now ≤ source_limit }
+    // What it answers is what its definition computes.
     ensures exact { Gives (λ t. t) result (read_of source.now) }
+    // What the grammar spells is read, unless memory runs out.
+    ensures only { (t : Tree) → HasTree source.now t → Gives (λ t. t) result (Ok t) }
     ensures tree { IfOk result IsTree }
 {
     match str::from_utf8(source) {
@@ -37,3 +42,8 @@ fn read_text(alloc: Global, text: &str) -> Result<Tree, ReadError>
     }
     reader.finish(alloc, place)
 }
+
+/// A text has at most one tree.
+pub fn trees_are_unique()
+    ensures { (source : List ℕ) (s t : Tree) → HasTree source s → HasTree source t → s ≡ t }
+{}

@@ -1,0 +1,176 @@
+-- What a source says of the whole font, and the rules that it may fail there (Glyphs file format, version 3; the rules
+-- and the defaults are fontc's own). One master is read, without axes: a form that isn't built is of a wrong shape.
+use Rattle.std.specs.Prelude.{ℕ, ◌+◌, ◌-◌, ◌*◌, ◌/◌, Bool, true, false, not, ◌&&◌, ◌||◌, ◌==◌, nat_lt, List, [], ◌∷◌, ◌++◌, length, slice_get, flat_map, Option, Some, None, Result, ℤ, pos, ◌-ℤ◌, codes, option_and_then, unwrap_or, if◌then◌else◌}
+use Rattle.std.specs.Option.{option_map_or}
+use Rattle.plist_reader.specs.declared.tree.Tree.{Tree}
+use Rattle.plist_reader.specs.Tree.{find_in}
+use Rattle.font_ir.specs.declared.header.Header.{Header}
+use Rattle.font_ir.specs.declared.header.Master.{Master}
+use Rattle.refusal_codes.specs.declared.refusal.Refusal.{Refusal}
+use Rattle.refusal_codes.specs.declared.rule.Rule.TheVariants.{WrongShape, WrongVersion, OutOfRange, NoMaster, AxisCount}
+use Rattle.refusal_codes.specs.declared.first.Failure.{Failure}
+use Rattle.refusal_codes.specs.First.{first_of, foremost, refusal_of, judged}
+use Rattle.glyphs_source.specs.declared.decimals.Decimal.{Decimal}
+use Rattle.glyphs_source.specs.declared.values.Range.TheVariants.{Natural}
+use Rattle.glyphs_source.specs.Decimals.{is_whole}
+use Rattle.glyphs_source.specs.Values.{place_at, items_at, is_dictionary, decimal_at, fails, whole_failures, text_failures, name_failures, empty_list_failures, empty_dictionary_failures, required, optional, natural_or, text_or_empty}
+
+-- ---- rules of single values
+
+-- the version of the format is 3
+abbrev pub is_version : Decimal → Bool
+is_version d = not d.negative && d.whole == 3 && is_whole d
+
+abbrev pub version_failures_by : Tree → ℕ → Option Decimal → List Failure
+version_failures_by t n None = fails WrongShape t n
+version_failures_by t n (Some d) = if is_version d then [] else fails WrongVersion t n
+
+unfoldable pub version_failures : Tree → ℕ → List Failure
+version_failures t n = version_failures_by t n (decimal_at t n)
+
+-- a coordinate of an axis is from -32767 to 32767
+abbrev pub is_axis_value : Decimal → Bool
+is_axis_value d = nat_lt d.whole 32767 || (d.whole == 32767 && is_whole d)
+
+abbrev pub axis_value_failures_by : Tree → ℕ → Option Decimal → List Failure
+axis_value_failures_by t n None = fails WrongShape t n
+axis_value_failures_by t n (Some d) = if is_axis_value d then [] else fails OutOfRange t n
+
+unfoldable pub axis_value_failures : Tree → ℕ → List Failure
+axis_value_failures t n = axis_value_failures_by t n (decimal_at t n)
+
+unfoldable pub dictionary_failures : Tree → ℕ → List Failure
+dictionary_failures t n = if is_dictionary t n then [] else fails WrongShape t n
+
+-- a list, each value of which may fail
+abbrev pub each_by : (ℕ → List Failure) → Tree → ℕ → Option (List ℕ) → List Failure
+each_by failures t n None = fails WrongShape t n
+each_by failures t n (Some items) = flat_map failures items
+
+unfoldable pub axis_values_failures : Tree → ℕ → List Failure
+axis_values_failures t n = each_by (axis_value_failures t) t n (items_at t n)
+
+unfoldable pub dictionaries_failures : Tree → ℕ → List Failure
+dictionaries_failures t n = each_by (dictionary_failures t) t n (items_at t n)
+
+-- ---- masters
+
+unfoldable pub master_parts_failures : Tree → ℕ → List Failure
+master_parts_failures t m =
+    required t m (codes "id") (text_failures t)
+    ++ optional t m (codes "axesValues") (axis_values_failures t)
+    ++ optional t m (codes "metricValues") (dictionaries_failures t)
+    ++ optional t m (codes "customParameters") (empty_list_failures t)
+
+unfoldable pub master_failures : Tree → ℕ → List Failure
+master_failures t m = if is_dictionary t m then master_parts_failures t m else fails WrongShape t m
+
+-- a second master isn't built
+abbrev pub masters_failures_by : Tree → ℕ → Option (List ℕ) → List Failure
+masters_failures_by t n None = fails WrongShape t n
+masters_failures_by t n (Some masters) =
+    option_map_or (master_failures t) (slice_get masters 0) [] ++ option_map_or (fails WrongShape t) (slice_get masters 1) []
+
+unfoldable pub masters_failures : Tree → ℕ → List Failure
+masters_failures t n = masters_failures_by t n (items_at t n)
+
+-- ---- the top dictionary
+
+unfoldable pub numbers_failures : Tree → List Failure
+numbers_failures t =
+    required t t.top (codes ".formatVersion") (version_failures t)
+    ++ required t t.top (codes "unitsPerEm") (whole_failures (Natural 16 16384) t)
+    ++ required t t.top (codes "familyName") (name_failures t)
+    ++ optional t t.top (codes "versionMajor") (whole_failures (Natural 0 32767) t)
+    ++ optional t t.top (codes "versionMinor") (whole_failures (Natural 0 999) t)
+
+unfoldable pub design_forms_failures : Tree → List Failure
+design_forms_failures t =
+    optional t t.top (codes "axes") (empty_list_failures t)
+    ++ optional t t.top (codes "metrics") (empty_list_failures t)
+    ++ optional t t.top (codes "instances") (empty_list_failures t)
+    ++ optional t t.top (codes "customParameters") (empty_list_failures t)
+
+unfoldable pub feature_forms_failures : Tree → List Failure
+feature_forms_failures t =
+    optional t t.top (codes "classes") (empty_list_failures t)
+    ++ optional t t.top (codes "featurePrefixes") (empty_list_failures t)
+    ++ optional t t.top (codes "features") (empty_list_failures t)
+    ++ optional t t.top (codes "kerningLTR") (empty_dictionary_failures t)
+
+unfoldable pub top_failures : Tree → List Failure
+top_failures t =
+    numbers_failures t
+    ++ design_forms_failures t
+    ++ feature_forms_failures t
+    ++ required t t.top (codes "fontMaster") (masters_failures t)
+
+-- the local rules that the header fails
+unfoldable pub header_failures : Tree → List Failure
+header_failures t = if is_dictionary t t.top then top_failures t else fails WrongShape t t.top
+
+-- ---- whole rules: there is a master, and it has one coordinate per axis, which is none
+
+abbrev pub axis_count_by : Tree → ℕ → Option (List ℕ) → List Failure
+axis_count_by t m None = []
+axis_count_by t m (Some values) = if length values == 0 then [] else fails AxisCount t m
+
+unfoldable pub axis_count_failures : Tree → ℕ → List Failure
+axis_count_failures t m = axis_count_by t m (option_and_then (items_at t) (find_in t m (codes "axesValues")))
+
+abbrev pub whole_rules_by : Tree → ℕ → Option (List ℕ) → List Failure
+whole_rules_by t n None = []
+whole_rules_by t n (Some []) = fails NoMaster t n
+whole_rules_by t n (Some (m ∷ ms)) = axis_count_failures t m
+
+unfoldable pub header_whole_failures : Tree → List Failure
+header_whole_failures t = option_map_or (λ n. whole_rules_by t n (items_at t n)) (find_in t t.top (codes "fontMaster")) []
+
+-- ---- the record
+
+unfoldable pub units_per_em : Tree → ℕ
+units_per_em t = natural_or 16 16384 16 t t.top (codes "unitsPerEm")
+
+-- without metrics the ascender is four fifths of the em, rounded down, and the descender is that less the em
+unfoldable pub master_record : Tree → ℕ → Master
+master_record t m = record {
+  id = text_or_empty t m (codes "id");
+  design = [];
+  user = [];
+  location = [];
+  ascender = pos (units_per_em t * 4 / 5);
+  descender = pos (units_per_em t * 4 / 5) -ℤ pos (units_per_em t);
+  cap = pos 0;
+  xheight = pos 0;
+  place = place_at t m;
+}
+
+abbrev pub first_master : Tree → List ℕ → List Master
+first_master t [] = []
+first_master t (m ∷ ms) = master_record t m ∷ []
+
+unfoldable pub master_numbers : Tree → List ℕ
+master_numbers t = unwrap_or (option_and_then (items_at t) (find_in t t.top (codes "fontMaster"))) []
+
+unfoldable pub place_under : Tree → List ℕ → ℕ
+place_under t key = option_map_or (place_at t) (find_in t t.top key) 0
+
+unfoldable pub header_record : Tree → Header
+header_record t = record {
+  upem = units_per_em t;
+  family = text_or_empty t t.top (codes "familyName");
+  major = natural_or 0 32767 1 t t.top (codes "versionMajor");
+  minor = natural_or 0 999 0 t t.top (codes "versionMinor");
+  axes = [];
+  masters = first_master t (master_numbers t);
+  masters_place = place_under t (codes "fontMaster");
+  origin = 0;
+  instances = [];
+  kerning = [];
+  kern_place = place_under t (codes "kerningLTR");
+  features = [];
+}
+
+-- what the job of the header answers: it is of stratum 0 and kind 1, and without a name
+unfoldable pub header_of : Tree → Result Header Refusal
+header_of t = judged (refusal_of 0 1 []) (first_of (header_failures t)) (foremost (header_whole_failures t)) (header_record t)

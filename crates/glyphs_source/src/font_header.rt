@@ -1,0 +1,124 @@
+ghost use Rattle.std.specs.Prelude.{◌≡◌, ◌≤◌, [], IfOk};
+ghost use Rattle.plist_reader.specs.Tree.{IsTree};
+ghost use Rattle.refusal_codes.specs.declared.errors.ReadError.TheVariants as read_errors;
+ghost use Rattle.refusal_codes.specs.First.{refusal_of};
+ghost use Rattle.refusal_codes.specs.Gives.{Gives};
+ghost use Rattle.glyphs_source.specs.HeaderReading.{units_per_em, master_record, first_master, master_numbers, place_under, header_record, header_of};
+
+use crate::header_rules::{note_header, whole_failure};
+use crate::keys::{copied, natural_or, text_under};
+use crate::values::{items_at, place_at};
+use font_ir::{Header, Master};
+use plain_lists::{Sequence, Text};
+use plist_reader::Tree;
+use refusal_codes::{Failure, FirstFailure, ReadError};
+use std::alloc::{AllocError, Global};
+
+/// What a source says of the whole font.
+///
+/// One master is read, without axes. The error is the least failure by place, then by rule, of the rules of single values;
+/// where none of them fails, it is that there is no master, or that the master has coordinates.
+#[tactic(auto, unfolding(crate::specs::HeaderReading::header_of))]
+pub fn header(alloc: Global, tree: &Tree) -> Result<Header, ReadError>
+    requires { IsTree tree.now }
+    ensures { Gives (λ header. header) result (header_of tree.now) }
+{
+    let mut first = FirstFailure::new();
+    note_header(tree, &mut first);
+    if let Some(failure) = first.get() {
+        return Err(refused(alloc, failure));
+    }
+    if let Some(failure) = whole_failure(tree) {
+        return Err(refused(alloc, failure));
+    }
+    Ok(record(alloc, tree)?)
+}
+
+/// The error of a failure that the header's job finds: the job is of stratum 0 and kind 1, and has no name.
+fn refused(alloc: Global, failure: Failure) -> ReadError
+    ensures { result ≡ read_errors.Refused (refusal_of 0 1 [] failure) }
+{
+    ReadError::Refused(failure.refusal(0, 1, Text::from_string(String::new(alloc))))
+}
+
+#[tactic(auto, unfolding(crate::specs::HeaderReading::header_record))]
+fn record(alloc: Global, tree: &Tree) -> Result<Header, AllocError>
+    ensures { IfOk result (λ header. header ≡ header_record tree.now) }
+{
+    let family = copied(alloc, text_under(tree, tree.top, b"familyName"))?;
+    let masters = masters(alloc, tree, master_numbers(tree))?;
+    Ok(Header {
+        upem: units_per_em(tree),
+        family,
+        major: natural_or(tree, tree.top, b"versionMajor", 0, 32767, 1),
+        minor: natural_or(tree, tree.top, b"versionMinor", 0, 999, 0),
+        axes: Sequence::new(alloc),
+        masters,
+        masters_place: place_under(tree, b"fontMaster"),
+        origin: 0,
+        instances: Sequence::new(alloc),
+        kerning: Sequence::new(alloc),
+        kern_place: place_under(tree, b"kerningLTR"),
+        features: Text::from_string(String::new(alloc)),
+    })
+}
+
+#[tactic(auto, unfolding(crate::specs::HeaderReading::units_per_em))]
+fn units_per_em(tree: &Tree) -> u16
+    ensures value { result ≡ units_per_em tree.now }
+    ensures small { result ≤ 16384 }
+{
+    natural_or(tree, tree.top, b"unitsPerEm", 16, 16384, 16)
+}
+
+/// The values of the list of masters.
+#[tactic(auto, unfolding(crate::specs::HeaderReading::master_numbers))]
+fn master_numbers(tree: &Tree) -> &[u32]
+    ensures { result.now ≡ master_numbers tree.now }
+{
+    match tree.find(tree.top, b"fontMaster") {
+        Some(number) => items_at(tree, number).unwrap_or(&[]),
+        None => &[],
+    }
+}
+
+/// The place of the value under a key of the top dictionary, 0 where there is none.
+#[tactic(auto, unfolding(crate::specs::HeaderReading::place_under))]
+fn place_under(tree: &Tree, key: &[u8]) -> u64
+    ensures { result ≡ place_under tree.now key.now }
+{
+    match tree.find(tree.top, key) {
+        Some(number) => place_at(tree, number),
+        None => 0,
+    }
+}
+
+fn masters(alloc: Global, tree: &Tree, numbers: &[u32]) -> Result<Sequence<Master>, AllocError>
+    ensures { IfOk result (λ masters. masters ≡ first_master tree.now numbers.now) }
+{
+    let mut masters = Vec::new(alloc);
+    if let [number, ..] = numbers {
+        masters.push(master(alloc, tree, *number)?)?;
+    }
+    Ok(Sequence::from_vec(masters))
+}
+
+#[tactic(auto, unfolding(crate::specs::HeaderReading::master_record))]
+fn master(alloc: Global, tree: &Tree, number: u32) -> Result<Master, AllocError>
+    ensures { IfOk result (λ master. master ≡ master_record tree.now number) }
+{
+    let id = copied(alloc, text_under(tree, number, b"id"))?;
+    let upem = units_per_em(tree);
+    let ascender = (u32::from(upem) * 4 / 5) as i16;
+    Ok(Master {
+        id,
+        design: Sequence::new(alloc),
+        user: Sequence::new(alloc),
+        location: Sequence::new(alloc),
+        ascender,
+        descender: ascender - upem as i16,
+        cap: 0,
+        xheight: 0,
+        place: place_at(tree, number),
+    })
+}

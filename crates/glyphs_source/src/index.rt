@@ -1,0 +1,205 @@
+ghost use Rattle.std.specs.Prelude.{◌≡◌, ◌<◌, ◌^◌, ◌++◌, [], length, map, option_copied, option_map, slice_get, nat_eq, IfOk, None, false, ◌==◌, ◌∷◌};
+ghost use Rattle.std.specs.Cmp.Lexicographic.{pointwise};
+ghost use Rattle.plist_reader.specs.Tree.{IsTree};
+ghost use Rattle.std.specs.Map.{keys_of};
+ghost use Rattle.indexmap.specs.IndexMap.{values};
+ghost use Rattle.refusal_codes.specs.declared.errors.ReadError.TheVariants as read_errors;
+ghost use Rattle.refusal_codes.specs.First.{foremost, judged, refusal_of};
+ghost use Rattle.refusal_codes.specs.Gives.{Gives};
+ghost use Rattle.glyphs_source.specs.IndexReading.{entries_from, glyph_numbers, glyph_name, entry_of, is_among, repeated_names, repeats, counting, repeated_codes, index_of};
+
+use crate::entries::{IndexEntry, read_entry, read_name};
+use crate::index_rules::note_index;
+use crate::values::{items_at, place_at};
+use font_ir::Name;
+use indexmap::{IndexMap, IndexSet};
+use plain_lists::Text;
+use plist_reader::Tree;
+use refusal_codes::{Failure, FirstFailure, ReadError, Rule};
+use std::alloc::{AllocError, Global};
+use std::marker::Model;
+
+/// The glyphs that a source names, in the order of the file. A contract sees them as the list of their names and entries.
+#[derive(Drop)]
+pub struct GlyphIndex {
+    entries: IndexMap<Name, IndexEntry>,
+}
+
+impl Model for GlyphIndex {
+    ghost use Rattle.std.specs.Prelude.{List, ℕ};
+    ghost use Rattle.glyphs_source.specs.declared.entries.IndexEntry.{IndexEntry};
+
+    ghost Value = { List (List ℕ × IndexEntry) };
+
+    ghost view = { λ index. index.entries.entries };
+}
+
+impl GlyphIndex {
+    ghost use Rattle.std.specs.Map.{lookup};
+
+    /// How many glyphs there are.
+    pub fn len(&self) -> usize
+        ensures { result ≡ length self.now }
+    {
+        self.entries.len()
+    }
+
+    /// Whether there is no glyph.
+    pub fn is_empty(&self) -> bool
+        ensures { result ≡ (length self.now == 0) }
+    {
+        self.entries.is_empty()
+    }
+
+    /// The entry of the glyph with this name.
+    pub fn get(&self, name: &Name) -> Option<&IndexEntry>
+        ensures { option_copied result ≡ lookup (pointwise nat_eq name.now) self.now }
+    {
+        self.entries.get(name)
+    }
+
+    /// The name and the entry of the glyph with this place in the source's list of glyphs.
+    pub fn at(&self, number: u32) -> Option<(&Name, &IndexEntry)>
+        ensures { option_map (λ entry. (entry.0.now, entry.1.now)) result ≡ slice_get self.now number }
+    {
+        self.entries.get_index(number as usize)
+    }
+}
+
+/// The glyphs that a source names, in the order of the file.
+///
+/// The error is the least failure by place, then by rule, of the rules of single values; where none of them fails, it is
+/// the first glyph whose name an earlier one has, or else the first in which a code stands again among those exported.
+#[tactic(auto, unfolding(crate::specs::IndexReading::index_of))]
+pub fn glyph_index(alloc: Global, tree: &Tree) -> Result<GlyphIndex, ReadError>
+    requires { IsTree tree.now }
+    ensures { Gives (λ index. index) result (index_of tree.now) }
+{
+    let mut first = FirstFailure::new();
+    note_index(tree, &mut first);
+    if let Some(failure) = first.get() {
+        return Err(refused(alloc, failure));
+    }
+    let entries = collect(alloc, tree, glyph_numbers(tree))?;
+    if let Some(failure) = repeated_code(alloc, tree, &entries)? {
+        return Err(refused(alloc, failure));
+    }
+    Ok(GlyphIndex { entries })
+}
+
+/// The error of a failure that the index's job finds: the job is of stratum 0 and kind 2, and has no name.
+fn refused(alloc: Global, failure: Failure) -> ReadError
+    ensures { result ≡ read_errors.Refused (refusal_of 0 2 [] failure) }
+{
+    ReadError::Refused(failure.refusal(0, 2, Text::from_string(String::new(alloc))))
+}
+
+/// The values of the list of glyphs.
+#[tactic(auto, unfolding(crate::specs::IndexReading::glyph_numbers))]
+fn glyph_numbers(tree: &Tree) -> &[u32]
+    requires { IsTree tree.now }
+    ensures value { result.now ≡ glyph_numbers tree.now }
+    ensures few { length result.now < 2 ^ 32 }
+{
+    match tree.find(tree.top, b"glyphs") {
+        Some(number) => items_at(tree, number).unwrap_or(&[]),
+        None => &[],
+    }
+}
+
+/// The entries of the glyphs by their names, or the error that a name stands twice.
+fn collect(
+    alloc: Global,
+    tree: &Tree,
+    glyphs: &[u32],
+) -> Result<IndexMap<Name, IndexEntry>, ReadError>
+    requires { length glyphs.now < 2 ^ 32 }
+    ensures { Gives (λ map. map.entries) result
+        (judged (refusal_of 0 2 []) None (foremost (repeated_names tree.now [] glyphs.now)) (entries_from tree.now 0 glyphs.now)) }
+{
+    let mut entries = IndexMap::with_capacity(alloc, glyphs.len())?;
+    for (number, glyph) in glyphs.iter().enumerate() {
+        if add_glyph(alloc, tree, number as u32, *glyph, &mut entries)? {
+            let failure = Failure {
+                rule: Rule::DuplicateGlyph,
+                place: place_at(tree, *glyph),
+            };
+            return Err(refused(alloc, failure));
+        }
+    }
+    Ok(entries)
+}
+
+/// Adds a glyph under its name, and says whether the name stands there already.
+fn add_glyph(
+    alloc: Global,
+    tree: &Tree,
+    number: u32,
+    glyph: u32,
+    entries: &mut IndexMap<Name, IndexEntry>,
+) -> Result<bool, AllocError>
+    ensures again { IfOk result (λ again. again ≡ is_among (keys_of entries.old.entries) (glyph_name tree.now glyph)) }
+    ensures added { IfOk result (λ again. again ≡ false →
+        entries.new.entries ≡ entries.old.entries ++ (glyph_name tree.now glyph, entry_of tree.now number glyph) ∷ []) }
+{
+    let name = read_name(alloc, tree, glyph)?;
+    let entry = read_entry(alloc, tree, number, glyph, &name)?;
+    let earlier = entries.insert(name, entry)?;
+    Ok(earlier.is_some())
+}
+
+/// The first glyph in which a code stands again among those exported.
+fn repeated_code(
+    alloc: Global,
+    tree: &Tree,
+    entries: &IndexMap<Name, IndexEntry>,
+) -> Result<Option<Failure>, AllocError>
+    ensures { IfOk result (λ failure. failure ≡ foremost (repeated_codes tree.now [] (values entries.now))) }
+{
+    let mut seen = IndexSet::new(alloc);
+    first_repeat(tree, entries, &mut seen)
+}
+
+/// The first glyph in which a code stands again, also one of those seen before.
+fn first_repeat(
+    tree: &Tree,
+    entries: &IndexMap<Name, IndexEntry>,
+    seen: &mut IndexSet<u32>,
+) -> Result<Option<Failure>, AllocError>
+    ensures { IfOk result (λ failure. failure ≡ foremost (repeated_codes tree.now seen.old.keys (values entries.now))) }
+{
+    for entry in entries.values() {
+        if add_entry(seen, entry)? {
+            return Ok(Some(Failure {
+                rule: Rule::DuplicateUnicode,
+                place: place_at(tree, entry.node),
+            }));
+        }
+    }
+    Ok(None)
+}
+
+/// Adds the codes of an exported glyph to those seen, and says whether one of them stands there already.
+fn add_entry(seen: &mut IndexSet<u32>, entry: &IndexEntry) -> Result<bool, AllocError>
+    ensures again { IfOk result (λ again. again ≡ repeats seen.old.keys (counting entry.now)) }
+    ensures added { IfOk result (λ again. again ≡ false → seen.new.keys ≡ seen.old.keys ++ counting entry.now) }
+{
+    if entry.exported {
+        add_codes(seen, entry.codes.as_slice())
+    } else {
+        Ok(false)
+    }
+}
+
+/// Adds codes to those seen, up to one that stands there already, and says whether there is one.
+fn add_codes(seen: &mut IndexSet<u32>, codes: &[u32]) -> Result<bool, AllocError>
+    ensures again { IfOk result (λ again. again ≡ repeats seen.old.keys codes.now) }
+    ensures added { IfOk result (λ again. again ≡ false → seen.new.keys ≡ seen.old.keys ++ codes.now) }
+{
+    for code in codes {
+        if !seen.insert(*code)? {
+            return Ok(true);
+        }
+    }
+    Ok(false)
+}
