@@ -1,5 +1,5 @@
 -- One turn of the loops that look for a name or a code that stands again.
-use Rattle.std.proofs.Common.{◌≡◌, ℕ, ◌+◌, ◌<◌, Bool, true, false, cond, ◌||◌, List, [], ◌∷◌, ◌++◌, length, get_or, drop, map, Option, Some, None, is_some, nat_eq, refl, sym, ap, ◌∙◌}
+use Rattle.std.proofs.Common.{◌≡◌, ℕ, ◌+◌, ◌<◌, Bool, true, false, cond, ◌||◌, List, [], ◌∷◌, ◌++◌, length, get_or, drop, Option, Some, None, is_some, nat_eq, refl, ap, ◌∙◌}
 use Rattle.std.specs.List.{list_any}
 use Rattle.std.specs.Map.{lookup, keys_of}
 use Rattle.std.specs.Cmp.Lexicographic.{pointwise}
@@ -7,11 +7,10 @@ use Rattle.std.proofs.lemmas.List.{at_drop_more, map-append}
 use Rattle.indexmap.specs.IndexSet.{insert_key}
 use Rattle.plist_reader.specs.declared.tree.Tree.{Tree}
 use Rattle.refusal_codes.specs.declared.rule.Rule.TheVariants.{DuplicateGlyph}
-use Rattle.refusal_codes.specs.declared.first.Failure.{Failure}
 use Rattle.refusal_codes.specs.First.{foremost}
 use Rattle.glyphs_source.specs.declared.entries.IndexEntry.{IndexEntry}
 use Rattle.glyphs_source.specs.Values.{place_at, fails}
-use Rattle.glyphs_source.specs.IndexReading.{glyph_name, is_among, repeats, repeated_names, counting, repeated_codes, entry_of, entries_from}
+use Rattle.glyphs_source.specs.IndexReading.{glyph_name, is_among, repeats, repeated_names, entry_of, entries_from}
 
 -- ---- codes
 

@@ -1,6 +1,6 @@
 -- What a source says of the whole font, and the rules that it may fail there (Glyphs file format, version 3; the rules
 -- and the defaults are fontc's own). One master is read, without axes: a form that isn't built is of a wrong shape.
-use Rattle.std.specs.Prelude.{ℕ, ◌+◌, ◌-◌, ◌*◌, ◌/◌, Bool, true, false, not, ◌&&◌, ◌||◌, ◌==◌, nat_lt, List, [], ◌∷◌, ◌++◌, length, slice_get, flat_map, Option, Some, None, Result, ℤ, pos, ◌-ℤ◌, codes, option_and_then, unwrap_or, if◌then◌else◌}
+use Rattle.std.specs.Prelude.{ℕ, ◌*◌, ◌/◌, Bool, not, ◌&&◌, ◌||◌, ◌==◌, nat_lt, List, [], ◌∷◌, ◌++◌, length, slice_get, flat_map, Option, Some, None, Result, pos, ◌-ℤ◌, codes, option_and_then, unwrap_or, if◌then◌else◌}
 use Rattle.std.specs.Option.{option_map_or}
 use Rattle.plist_reader.specs.declared.tree.Tree.{Tree}
 use Rattle.plist_reader.specs.Tree.{find_in}

@@ -22,3 +22,6 @@ pub use values::{
     Range, decimal_at, is_dictionary, items_at, note_at, note_empty_dictionary, note_empty_list,
     note_name, note_text, note_whole, place_at, text_at,
 };
+
+#[cfg(test)]
+mod tests;

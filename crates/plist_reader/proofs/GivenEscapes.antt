@@ -1,22 +1,19 @@
 -- What the reader makes of the characters that spell an escape.
-use Rattle.std.proofs.Common.{inl, inr, ◌≡◌, ℕ, zero, suc, ◌+◌, ◌-◌, ◌*◌, ◌<◌, ◌≤◌, Bool, true, false, cond, eqb, ltb, leb, ◌&&◌, ◌||◌, List, [], ◌∷◌, ◌++◌, length, Option, Some, None, Result, Ok, Err, refl, sym, ap, subst, ◌∙◌, arith}
+use Rattle.std.proofs.Common.{inl, inr, ◌≡◌, ℕ, zero, suc, ◌+◌, ◌-◌, ◌*◌, ◌<◌, ◌≤◌, Bool, true, false, cond, eqb, ltb, leb, ◌&&◌, List, [], ◌∷◌, ◌++◌, Some, Ok, refl, sym, ap, ◌∙◌, arith}
 use Rattle.std.specs.Prelude.{◌⊎◌}
-use Rattle.std.proofs.lemmas.Bool.{ltb-true, ltb-false, leb-true, eqb-true, both_ways, and_parts, and_from, lt-ltb, le-ltb, le-leb, lt-leb, cases_Bool}
+use Rattle.std.proofs.lemmas.Bool.{ltb-true, ltb-false, leb-true, eqb-true, both_ways, and_parts, lt-ltb, le-ltb, le-leb, cases_Bool}
 use Rattle.std.proofs.lemmas.Option.{cond_some}
 use Rattle.std.specs.Char.{len_utf8}
 use lib.Utf8.{encode, scalar}
 use Rattle.plist_reader.specs.declared.tree.TreeNode.{TreeNode}
-use Rattle.plist_reader.specs.declared.reader.Reader.{Reader}
 use Rattle.plist_reader.specs.declared.reader.Phase.{Phase}
-use Rattle.plist_reader.specs.declared.reader.Token.{Token}
 use Rattle.plist_reader.specs.declared.reader.Token.TheVariants.{Quoted, Escape}
 use Rattle.plist_reader.specs.declared.reader.Open.{Open}
 use Rattle.plist_reader.specs.declared.escape.Escape.{Escape as EscapeState}
 use Rattle.plist_reader.specs.declared.escape.Escape.TheVariants.{Begun, Octal, Octals, Unit0, Unit1, Unit2, Unit3, High, HighBackslash, Low, Low1, Low2, Low3}
-use Rattle.plist_reader.specs.declared.escape.Escaped.{Escaped}
-use Rattle.plist_reader.specs.declared.escape.Escaped.TheVariants.{More, Whole, Wrong}
+use Rattle.plist_reader.specs.declared.escape.Escaped.TheVariants.{More, Whole}
 use Rattle.plist_reader.specs.Characters.{octal_value, hex_value, is_between}
-use Rattle.plist_reader.specs.Escapes.{character_of, escape_begun, escape_unit, escape_digit, with_hex, with_octal, with_last_octal, escape_next}
+use Rattle.plist_reader.specs.Escapes.{character_of, escape_begun, escape_unit, escape_digit, escape_next}
 use Rattle.plist_reader.specs.Reading.{step, run}
 use Rattle.plist_reader.specs.Grammar.{width, IsUnit, IsHigh, IsLow, IsEscape, quote, backslash, line_feed, carriage_return, tab, octal, unit, units}
 use Rattle.plist_reader.proofs.RunLemmas.{run_step}

@@ -1,31 +1,25 @@
 -- What the reader makes of the characters that spell a quoted string or a byte string, and of a text that ends.
-use Rattle.std.proofs.Common.{inl, inr, ◌≡◌, ℕ, zero, suc, ◌+◌, ◌-◌, ◌*◌, ◌<◌, ◌≤◌, Bool, true, false, cond, eqb, ltb, leb, ◌&&◌, ◌||◌, List, [], ◌∷◌, ◌++◌, length, Option, Some, None, Result, Ok, Err, refl, sym, ap, subst, ◌∙◌, arith, append_assoc}
-use Rattle.std.specs.Prelude.{◌⊎◌, is_some}
-use Rattle.std.specs.List.{AllByRecursion}
-use Rattle.std.proofs.lemmas.Bool.{ne_eqb, true≢false}
+use Rattle.std.proofs.Common.{inl, inr, ◌≡◌, ℕ, ◌+◌, ◌*◌, Bool, true, false, eqb, List, [], ◌∷◌, ◌++◌, length, Some, Ok, refl, sym, ap, ◌∙◌, arith, append_assoc}
+use Rattle.std.specs.Prelude.{is_some}
+use Rattle.std.proofs.lemmas.Bool.{ne_eqb}
 use Rattle.std.proofs.lemmas.List.{append-nil}
-use Rattle.std.proofs.lemmas.Str.{len_utf8_bounds, len_utf8_ascii, encode_ascii}
 use Rattle.std.specs.Char.{len_utf8}
 use lib.Utf8.{encode}
 use Rattle.plist_reader.specs.declared.tree.TreeNode.{TreeNode}
 use Rattle.plist_reader.specs.declared.tree.TreeValue.TheVariants as tree
 use Rattle.plist_reader.specs.declared.reader.Reader.{Reader}
-use Rattle.plist_reader.specs.declared.reader.Dictionary.{Dictionary}
 use Rattle.plist_reader.specs.declared.reader.Phase.{Phase}
 use Rattle.plist_reader.specs.declared.reader.Phase.TheVariants.{Value, Item, ItemEnd, Key, KeyEnd, PairEnd, End}
 use Rattle.plist_reader.specs.declared.reader.Token.{Token}
 use Rattle.plist_reader.specs.declared.reader.Token.TheVariants.{Between, Word, Quoted, Escape, Bytes, Half}
 use Rattle.plist_reader.specs.declared.reader.Open.{Open}
-use Rattle.plist_reader.specs.declared.reader.Open.TheVariants.{Items, Pairs}
-use Rattle.plist_reader.specs.declared.escape.Escape.{Escape as EscapeState}
 use Rattle.plist_reader.specs.declared.escape.Escape.TheVariants.{Begun}
 use Rattle.plist_reader.specs.Characters.{is_space, is_word, hex_value, byte_of}
-use Rattle.plist_reader.specs.Keys.{is_among}
-use Rattle.plist_reader.specs.Reading.{◌>>=◌, ended_in, value_ended, key_ended, text_ended, text_begun, value_begun, between, in_word, in_quoted, in_bytes, in_half, step, whole, finish, run}
-use Rattle.plist_reader.specs.Grammar.{node, width, AreSpaces, IsWord, IsEscape, IsQuoted, no_more, plain, escaped, IsText, IsHex, no_digits, space, digits}
+use Rattle.plist_reader.specs.Reading.{◌>>=◌, value_ended, text_ended, text_begun, value_begun, between, in_word, in_quoted, in_bytes, in_half, step, whole, finish, run}
+use Rattle.plist_reader.specs.Grammar.{node, width, AreSpaces, IsQuoted, no_more, plain, escaped, IsText, IsHex, no_digits, space, digits}
 use Rattle.plist_reader.proofs.RunLemmas.{run_step}
 use Rattle.plist_reader.proofs.GivenTokens.{ready, in_token, settled, settled_any, settled-between, run_same, width-append, unlike, run-word, CanBegin, IsAwaiting, begin-from_awaiting}
-use Rattle.plist_reader.proofs.GivenEscapes.{hex_value-small, reads-escape, run-escape}
+use Rattle.plist_reader.proofs.GivenEscapes.{reads-escape, run-escape}
 
 -- ---- quoted strings
 

@@ -1,7 +1,5 @@
 -- What is spelled by the grammar is read: values, lists, dictionaries and whole texts.
-use Rattle.std.proofs.Common.{inl, inr, ◌≡◌, ℕ, zero, suc, ◌+◌, ◌-◌, ◌*◌, ◌<◌, ◌≤◌, Bool, true, false, cond, eqb, ltb, leb, ◌&&◌, ◌||◌, List, [], ◌∷◌, ◌++◌, length, Option, Some, None, Result, Ok, Err, refl, sym, ap, subst, ◌∙◌, arith, append_assoc}
-use Rattle.std.specs.Prelude.{◌⊎◌}
-use Rattle.std.specs.List.{AllByRecursion}
+use Rattle.std.proofs.Common.{inl, inr, ◌≡◌, ℕ, suc, ◌+◌, ◌<◌, false, List, [], ◌∷◌, ◌++◌, length, Ok, refl, sym, ap, subst, ◌∙◌, arith, append_assoc}
 use Rattle.std.proofs.lemmas.Bool.{lt-ltb}
 use Rattle.std.proofs.lemmas.List.{append-nil, length-append}
 use Rattle.std.specs.Char.{len_utf8}
@@ -14,16 +12,16 @@ use Rattle.plist_reader.specs.declared.reader.Dictionary.{Dictionary}
 use Rattle.plist_reader.specs.declared.reader.Phase.{Phase}
 use Rattle.plist_reader.specs.declared.reader.Phase.TheVariants.{Value, Item, ItemEnd, Key, KeyEnd, PairEnd, End}
 use Rattle.plist_reader.specs.declared.reader.Token.{Token}
-use Rattle.plist_reader.specs.declared.reader.Token.TheVariants.{Between, Word, Quoted}
+use Rattle.plist_reader.specs.declared.reader.Token.TheVariants.{Word, Quoted}
 use Rattle.plist_reader.specs.declared.reader.Open.{Open}
 use Rattle.plist_reader.specs.declared.reader.Open.TheVariants.{Items, Pairs}
 use Rattle.plist_reader.specs.Characters.{is_space, is_word}
 use Rattle.plist_reader.specs.Keys.{is_among}
-use Rattle.plist_reader.specs.Reading.{◌>>=◌, start, value_ended, key_ended, text_ended, value_begun, bracket_opened, list_closed, dictionary_closed, between, in_word, in_quoted, step, whole, finish, run, read_of}
+use Rattle.plist_reader.specs.Reading.{◌>>=◌, start, value_ended, key_ended, text_ended, value_begun, bracket_opened, list_closed, dictionary_closed, between, step, whole, finish, run, read_of}
 use Rattle.plist_reader.specs.Grammar as grammar
 use Rattle.plist_reader.specs.Grammar.{node, width, AreSpaces, IsText, IsTail, IsItem, IsEntry, AreNone, Spells, SpellItems, SpellEntries, inner_of, own_of, items_nodes, items_numbers, entries_nodes, entries_numbers, tree_of, IsTextOf, HasTree}
 use Rattle.plist_reader.proofs.RunLemmas.{run_step, read_of-text}
-use Rattle.plist_reader.proofs.GivenTokens.{ready, in_token, settled, settled_any, settled-between, run_same, width-append, space-no_word, run-spaces, run-word, CanBegin, IsAwaiting}
+use Rattle.plist_reader.proofs.GivenTokens.{ready, in_token, settled, settled_any, run_same, width-append, space-no_word, run-spaces, run-word, IsAwaiting}
 use Rattle.plist_reader.proofs.GivenStrings.{Stops, step-word_end, step-quote_begun, step-quote_end, run-quoted, run-text, run-bytes}
 
 -- ---- what follows a value

@@ -1,34 +1,21 @@
 -- What the reader makes of the characters that spell a token: spaces, words, quoted strings and byte strings.
-use Rattle.std.proofs.Common.{inl, inr, ◌≡◌, ℕ, ◌+◌, ◌-◌, ◌*◌, ◌<◌, ◌≤◌, Bool, true, false, cond, eqb, ltb, leb, ◌&&◌, ◌||◌, List, [], ◌∷◌, ◌++◌, length, Option, Some, None, Result, Ok, Err, refl, sym, ap, subst, ◌∙◌, arith, append_assoc}
-use Rattle.std.specs.Prelude.{is_some, ◌⊎◌}
+use Rattle.std.proofs.Common.{inl, inr, ◌≡◌, ℕ, ◌+◌, ◌<◌, Bool, true, false, eqb, leb, List, [], ◌∷◌, ◌++◌, length, Ok, refl, sym, ap, ◌∙◌, arith, append_assoc}
 use Rattle.std.specs.List.{AllByRecursion}
-use Rattle.std.proofs.lemmas.List.{append-nil, length-append}
-use Rattle.std.proofs.lemmas.Bool.{ltb-true, leb-true, eqb-true, eqb-false, ne_eqb, both_ways, and_parts, lt-ltb, le-ltb, le-leb, lt-leb, eq-eqb, cases_Bool, true≢false}
-use Rattle.std.proofs.lemmas.Str.{len_utf8_bounds, len_utf8_ascii, encode_ascii}
+use Rattle.std.proofs.lemmas.List.{append-nil}
+use Rattle.std.proofs.lemmas.Bool.{leb-true, ne_eqb, both_ways, and_parts, cases_Bool}
+use Rattle.std.proofs.lemmas.Str.{encode_ascii}
 use Rattle.std.specs.Char.{len_utf8}
-use lib.Utf8.{encode, scalar}
-use Rattle.refusal_codes.specs.declared.refusal.Refusal.{Refusal}
-use Rattle.plist_reader.specs.declared.tree.Tree.{Tree}
 use Rattle.plist_reader.specs.declared.tree.TreeNode.{TreeNode}
-use Rattle.plist_reader.specs.declared.tree.TreeValue.{TreeValue}
-use Rattle.plist_reader.specs.declared.tree.TreeValue.TheVariants as tree
 use Rattle.plist_reader.specs.declared.reader.Reader.{Reader}
-use Rattle.plist_reader.specs.declared.reader.Dictionary.{Dictionary}
 use Rattle.plist_reader.specs.declared.reader.Phase.{Phase}
 use Rattle.plist_reader.specs.declared.reader.Phase.TheVariants.{Value, Item, ItemEnd, Key, KeyEnd, PairEnd, End}
 use Rattle.plist_reader.specs.declared.reader.Token.{Token}
-use Rattle.plist_reader.specs.declared.reader.Token.TheVariants.{Between, Word, Quoted, Escape, Bytes, Half}
+use Rattle.plist_reader.specs.declared.reader.Token.TheVariants.{Between, Word}
 use Rattle.plist_reader.specs.declared.reader.Open.{Open}
 use Rattle.plist_reader.specs.declared.reader.Open.TheVariants.{Items, Pairs}
-use Rattle.plist_reader.specs.declared.escape.Escape.{Escape as EscapeState}
-use Rattle.plist_reader.specs.declared.escape.Escape.TheVariants.{Begun, Octal, Octals, Unit0, Unit1, Unit2, Unit3, High, HighBackslash, Low, Low1, Low2, Low3}
-use Rattle.plist_reader.specs.declared.escape.Escaped.{Escaped}
-use Rattle.plist_reader.specs.declared.escape.Escaped.TheVariants.{More, Whole, Wrong}
-use Rattle.plist_reader.specs.Characters.{is_space, is_word, octal_value, hex_value, byte_of, is_between, is_mark}
-use Rattle.plist_reader.specs.Escapes.{character_of, escape_begun, escape_unit, escape_digit, with_hex, with_octal, with_last_octal, escape_next}
-use Rattle.plist_reader.specs.Keys.{is_among}
-use Rattle.plist_reader.specs.Reading.{◌>>=◌, with_node, ended_in, value_ended, key_ended, text_ended, text_begun, bracket_opened, value_begun, list_closed, dictionary_closed, between, in_word, in_quoted, in_bytes, in_half, step, whole, finish, run}
-use Rattle.plist_reader.specs.Grammar.{node, width, AreSpaces, IsWord, IsUnit, IsHigh, IsLow, IsEscape, IsQuoted, IsText, IsHex}
+use Rattle.plist_reader.specs.Characters.{is_space, is_word, is_between}
+use Rattle.plist_reader.specs.Reading.{ended_in, text_begun, value_begun, between, in_word, step, run}
+use Rattle.plist_reader.specs.Grammar.{width, AreSpaces}
 use Rattle.plist_reader.proofs.RunLemmas.{run_step}
 
 -- ---- states

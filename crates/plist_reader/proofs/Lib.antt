@@ -8,3 +8,6 @@ pub mod GivenStrings
 pub mod GivenTexts
 pub mod SpelledEscapes
 pub mod SpelledRests
+pub mod SpelledSteps
+pub mod SpelledRuns
+pub mod SpelledTexts

@@ -1,7 +1,7 @@
 -- Each escape that the reader takes is one of the grammar.
-use Rattle.std.proofs.Common.{inl, inr, ◌≡◌, ℕ, zero, suc, ◌+◌, ◌-◌, ◌*◌, ◌<◌, ◌≤◌, Bool, true, false, cond, eqb, ltb, leb, ◌&&◌, ◌||◌, List, [], ◌∷◌, ◌++◌, Option, Some, None, refl, sym, ap, subst, ◌∙◌, arith}
+use Rattle.std.proofs.Common.{inl, inr, ◌≡◌, ℕ, ◌+◌, ◌-◌, ◌*◌, ◌<◌, ◌≤◌, Bool, true, false, cond, eqb, ltb, leb, ◌&&◌, ◌||◌, List, [], ◌∷◌, ◌++◌, Option, Some, None, refl, sym, ap, subst, ◌∙◌, arith}
 use Rattle.std.specs.Prelude.{◌⊎◌}
-use Rattle.std.proofs.lemmas.Bool.{ltb-true, ltb-false, leb-true, eqb-true, both_ways, and_parts, cases_Bool, or_cases, le-leb, lt-ltb}
+use Rattle.std.proofs.lemmas.Bool.{ltb-true, leb-true, eqb-true, both_ways, and_parts, or_cases, le-leb, lt-ltb}
 use lib.Utf8.{scalar}
 use Rattle.plist_reader.specs.declared.escape.Escape.{Escape as EscapeState}
 use Rattle.plist_reader.specs.declared.escape.Escape.TheVariants.{Begun, Octal, Octals, Unit0, Unit1, Unit2, Unit3, High, HighBackslash, Low, Low1, Low2, Low3}

@@ -1,23 +1,16 @@
 -- What must be left of a text behind each place, so that the whole has a tree: the grammar of the rest, by what is open.
-use Rattle.std.proofs.Common.{inl, inr, ◌≡◌, ℕ, zero, suc, ◌+◌, ◌-◌, ◌*◌, ◌<◌, ◌≤◌, Bool, true, false, cond, List, [], ◌∷◌, ◌++◌, length, Option, Some, None, refl, sym, ap, subst, ◌∙◌, arith, append_assoc}
-use Rattle.std.specs.Prelude.{◌⊎◌}
-use Rattle.std.specs.List.{AllByRecursion}
-use Rattle.std.proofs.lemmas.List.{append-nil, length-append}
-use Rattle.std.specs.Char.{len_utf8}
+use Rattle.std.proofs.Common.{◌≡◌, ℕ, suc, ◌+◌, false, List, [], ◌∷◌, ◌++◌, length, refl, sym, ap, subst, ◌∙◌, arith}
 use Rattle.plist_reader.specs.declared.tree.Tree.{Tree}
 use Rattle.plist_reader.specs.declared.tree.TreeNode.{TreeNode}
 use Rattle.plist_reader.specs.declared.tree.TreeValue.TheVariants as tree
 use Rattle.plist_reader.specs.declared.reader.Dictionary.{Dictionary}
-use Rattle.plist_reader.specs.declared.reader.Phase.{Phase}
-use Rattle.plist_reader.specs.declared.reader.Phase.TheVariants.{Value, Item, ItemEnd, Key, KeyEnd, PairEnd, End}
 use Rattle.plist_reader.specs.declared.reader.Open.{Open}
 use Rattle.plist_reader.specs.declared.reader.Open.TheVariants.{Items, Pairs}
-use Rattle.plist_reader.specs.Characters.{is_space, is_word}
 use Rattle.plist_reader.specs.Keys.{is_among}
 use Rattle.plist_reader.specs.Grammar as grammar
 use Rattle.plist_reader.specs.Grammar.{node, width, AreSpaces, IsText, IsTail, IsItem, IsEntry, AreNone, Spells, SpellItems, SpellEntries, inner_of, own_of, items_nodes, items_numbers, entries_nodes, entries_numbers}
 use Rattle.plist_reader.proofs.GivenTokens.{width-append}
-use Rattle.plist_reader.proofs.GivenTexts.{with_value, item_parts, entry_parts, items_on, item_numbers_on, entries_on, entry_numbers_on, with_value-length}
+use Rattle.plist_reader.proofs.GivenTexts.{with_value, item_parts, entry_parts, items_on, item_numbers_on, entries_on, entry_numbers_on}
 
 -- what a rest must be where a value has ended: by the nodes, the value's number, the place and the rest
 abbrev pub Onward : Type 1

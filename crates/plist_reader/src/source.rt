@@ -19,6 +19,8 @@ pub fn read(alloc: Global, source: &[u8]) -> Result<Tree, ReadError>
     requires { length source.now ≤ source_limit }
     // What it answers is what its definition computes.
     ensures exact { Gives (λ t. t) result (read_of source.now) }
+    // What is read is spelled so by the grammar.
+    ensures found { IfOk result (HasTree source.now) }
     // What the grammar spells is read, unless memory runs out.
     ensures only { (t : Tree) → HasTree source.now t → Gives (λ t. t) result (Ok t) }
     ensures tree { IfOk result IsTree }

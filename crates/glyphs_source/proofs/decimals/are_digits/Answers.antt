@@ -1,5 +1,5 @@
 -- `all` answers whether each byte is a digit
-use Rattle.std.proofs.Common.{rules, tests, ap, sym, ◌∙◌, arith, Bool, true, ◌&&◌, ◌≡◌, List, ℕ, length, ltb, nat_lt}
+use Rattle.std.proofs.Common.{rules, tests, arith, ◌≡◌}
 use Rattle.std.specs.Char.{is_ascii_digit}
 use Rattle.std.specs.List.{list_all}
 use Rattle.std.proofs.lemmas.Iterator.{YieldsList-from_slice}

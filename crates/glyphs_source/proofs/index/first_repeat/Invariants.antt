@@ -1,7 +1,6 @@
 -- the first glyph that repeats a code among those left is the first among all
 use Rattle.std.proofs.Common.{◌≡◌}
 use Rattle.indexmap.specs.IndexMap.{values}
-use Rattle.refusal_codes.specs.First.{foremost}
 use Rattle.glyphs_source.specs.IndexReading.{repeated_codes}
 use Rattle.glyphs_source.proofs.index.first_repeat.Given as goal
 

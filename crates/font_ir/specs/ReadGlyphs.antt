@@ -1,0 +1,47 @@
+-- The glyphs that are read from a source: what their layers fulfil. The limits are fontc's own.
+use Rattle.std.specs.Prelude.{◌≡◌, ℕ, ◌<◌, ◌≤◌, ℤ, pos, ◌≤ℤ◌, Bool, List, length, map}
+use Rattle.std.specs.List.{All, AllPairs}
+use Rattle.font_ir.specs.declared.glyph.Contour.{Contour}
+use Rattle.font_ir.specs.declared.glyph.Shape.{Shape}
+use Rattle.font_ir.specs.declared.glyph.Shape.TheVariants.{Path, Component}
+use Rattle.font_ir.specs.declared.glyph.LayerIr.{LayerIr}
+use Rattle.font_ir.specs.declared.glyph.GlyphIr.{GlyphIr}
+use Rattle.font_ir.specs.FlatGlyphs.{AreGlyphPlaces}
+
+-- what of a shape is the same at each place: which points of a path are on the curve, and the glyph of a component
+pub data ShapeForm : Type 0 where
+  path_form : List Bool → ShapeForm
+  component_form : List ℕ → ShapeForm
+
+abbrev pub form_of : Shape → ShapeForm
+form_of (Path contour) = path_form (map (λ point. point.on) contour.points)
+form_of (Component base at scale quarters) = component_form base
+
+-- layers of one form can be interpolated
+abbrev pub layer_form : LayerIr → List ShapeForm
+layer_form layer = map form_of layer.shapes
+
+-- a path has points
+abbrev pub HasPoints : Shape → Type 0
+HasPoints (Path contour) = 0 < length contour.points
+HasPoints (Component base at scale quarters) = Unit {0}
+
+pub record IsReadGlyph (glyph : GlyphIr) : Type 0 where
+  pub places : AreGlyphPlaces glyph.places
+  pub masters : glyph.masters ≤ length glyph.places
+  pub layers : length glyph.layers ≡ length glyph.places
+  pub one_form : AllPairs (λ a b. layer_form a ≡ layer_form b) glyph.layers
+  pub widths : All (λ layer. (pos 0 ≤ℤ layer.width) × (layer.width ≤ℤ pos 32767)) glyph.layers
+  pub points : All (λ layer. All HasPoints layer.shapes) glyph.layers
+
+-- components aren't built: each shape is a path
+abbrev pub IsPath : Shape → Type 0
+IsPath (Path contour) = Unit {0}
+IsPath (Component base at scale quarters) = ⊥
+
+abbrev pub HasNoComponents : GlyphIr → Type 0
+HasNoComponents glyph = All (λ layer. All IsPath layer.shapes) glyph.layers
+
+-- anchors aren't built
+abbrev pub HasNoAnchors : GlyphIr → Type 0
+HasNoAnchors glyph = All (λ layer. length layer.anchors ≡ 0) glyph.layers

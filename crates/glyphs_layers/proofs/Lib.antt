@@ -1,0 +1,5 @@
+mod HeaderLaws
+mod LayerLoops
+mod ReadLaws
+mod Triangle
+mod WorkedRows

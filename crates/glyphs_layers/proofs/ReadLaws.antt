@@ -1,0 +1,188 @@
+-- What holds of each glyph whose layers are read: the limits that the readers above rely on.
+use Rattle.std.proofs.Common.{◌≡◌, ℕ, ◌+◌, ◌<◌, ◌≤◌, Bool, true, false, ◌&&◌, List, [], ◌∷◌, ◌++◌, length, map, Option, Some, None, Result, Ok, Err, refl, sym, ap, ◌∙◌, subst, arith, take, drop, ◌-◌}
+use Rattle.std.specs.Prelude.{codes, option_and_then, unwrap_or, is_some, flat_map, ℤ, pos, ◌≤ℤ◌, if◌then◌else◌, ◌==◌, nat_le, IfOk}
+use Rattle.std.specs.List.{All, AllPairs, Any, AllByRecursion, list_all}
+use Rattle.std.specs.Option.{option_map_or}
+use Rattle.std.proofs.lemmas.List.Elements.{All-from_recursion}
+use Rattle.std.proofs.lemmas.Bool.{eqb-false}
+use Rattle.std.proofs.lemmas.Bool.Decides.{nat_tests}
+use Rattle.std.proofs.lemmas.List.{length-map, length-append, length-drop, length-take}
+use Rattle.std.proofs.lemmas.Int.{ints}
+use Rattle.plist_reader.specs.declared.tree.Tree.{Tree}
+use Rattle.fixed_math.specs.declared.F2Dot14.{F2Dot14}
+use Rattle.font_ir.specs.declared.header.Header.{Header}
+use Rattle.font_ir.specs.declared.header.Master.{Master}
+use Rattle.font_ir.specs.declared.glyph.Shape.{Shape}
+use Rattle.font_ir.specs.declared.glyph.Shape.TheVariants.{Path, Component}
+use Rattle.font_ir.specs.declared.glyph.LayerIr.{LayerIr}
+use Rattle.font_ir.specs.declared.glyph.GlyphIr.{GlyphIr}
+use Rattle.font_ir.specs.FlatGlyphs.{AreGlyphPlaces}
+use Rattle.font_ir.specs.ReadGlyphs.{IsReadGlyph, HasNoComponents, HasNoAnchors, HasPoints, IsPath, layer_form}
+use Rattle.refusal_codes.specs.declared.errors.ReadError.{ReadError}
+use Rattle.refusal_codes.specs.declared.refusal.Refusal.{Refusal}
+use Rattle.refusal_codes.specs.declared.first.Failure.{Failure}
+use Rattle.refusal_codes.specs.First.{first_of, foremost, judged, refusal_of}
+use Rattle.refusal_codes.specs.Gives.{Gives}
+use Rattle.glyphs_source.specs.declared.decimals.Decimal.{Decimal}
+use Rattle.glyphs_source.specs.Decimals.{is_whole, is_natural_in}
+use Rattle.plist_reader.specs.Tree.{find_in}
+use Rattle.glyphs_source.specs.Values.{place_at, decimal_at, natural_by, natural_in, natural_or}
+use Rattle.glyphs_source.specs.HeaderReading.{header_of, master_record}
+use Rattle.glyphs_layers.specs.LayerRules.{items_under, layer_numbers, layer_of, glyph_failures, glyph_whole_failures}
+use Rattle.glyphs_layers.specs.LayerReading.{contour_of, path_of, shapes_of, layer_record, master_layers, glyph_record, glyph_of, point_of, last_first}
+use Rattle.glyphs_layers.proofs.HeaderLaws.{judged_ok, header-masters, master_record-location}
+
+-- ---- single layers
+
+natural_small : (low high : ℕ) (o : Option Decimal) → low ≤ high → natural_by low high o ≤ high
+natural_small low high None le = le
+natural_small low high (Some d) le = chosen (is_whole d && is_natural_in low high d) refl
+  where
+    chosen : (b : Bool) → (is_whole d && is_natural_in low high d) ≡ b → (if b then d.whole else low) ≤ high
+    chosen true e = grind (arith, nat_tests)
+    chosen false e = le
+
+number_small : (t : Tree) (o : Option ℕ) → option_map_or (natural_in 0 32767 t) o 0 ≤ 32767
+unfolding natural_in
+number_small t None = omega arith
+number_small t (Some n) = natural_small 0 32767 (decimal_at t n) (omega arith)
+
+-- a path that stands has points
+points_there : (t : Tree) (nodes : List ℕ) → (length nodes == 0) ≡ false → 0 < length (map (point_of t) (last_first nodes))
+points_there t nodes e =
+    let n = length nodes - 1 in
+    let some : length nodes ≡ 0 → ⊥ = eqb-false (length nodes) 0 e in
+    omega (arith, length-map (last_first nodes) (point_of t), length-append (drop n nodes) (take n nodes), length-drop n nodes, length-take n nodes)
+
+path_stands : (t : Tree) (nodes : List ℕ) → AllByRecursion HasPoints (path_of t nodes)
+unfolding contour_of
+path_stands t nodes = chosen (length nodes == 0) (points_there t nodes)
+  where
+    chosen : (b : Bool) → (b ≡ false → 0 < length (map (point_of t) (last_first nodes))) → AllByRecursion HasPoints (if b then [] else Path (contour_of t nodes) ∷ [])
+    chosen true some = tt
+    chosen false some = (some refl, tt)
+
+path_plain : (t : Tree) (nodes : List ℕ) → AllByRecursion IsPath (path_of t nodes)
+path_plain t nodes = chosen (length nodes == 0)
+  where
+    chosen : (b : Bool) → AllByRecursion IsPath (if b then [] else Path (contour_of t nodes) ∷ [])
+    chosen true = tt
+    chosen false = (tt, tt)
+
+all_append : {X : Type 0} (P : X → Type 0) (xs ys : List X) → AllByRecursion P xs → AllByRecursion P ys → AllByRecursion P (xs ++ ys)
+all_append P [] ys a b = b
+all_append P (x ∷ xs) ys a b = (a.0, all_append P xs ys a.1 b)
+
+shapes_stand : (t : Tree) (ns : List ℕ) → AllByRecursion HasPoints (flat_map (shapes_of t) ns)
+unfolding shapes_of
+shapes_stand t [] = tt
+shapes_stand t (n ∷ ns) = all_append HasPoints _ _ (path_stands t (items_under t n (codes "nodes"))) (shapes_stand t ns)
+
+shapes_plain : (t : Tree) (ns : List ℕ) → AllByRecursion IsPath (flat_map (shapes_of t) ns)
+unfolding shapes_of
+shapes_plain t [] = tt
+shapes_plain t (n ∷ ns) = all_append IsPath _ _ (path_plain t (items_under t n (codes "nodes"))) (shapes_plain t ns)
+
+-- ---- a glyph at one place
+
+origin_alone : AreGlyphPlaces ([] ∷ [])
+origin_alone = record {
+  few = omega arith;
+  one_length = λ i j d below within. absurd (omega arith);
+  different = λ i j d below within. absurd (omega arith);
+  origin = (0, [], omega arith, refl, λ k d within. absurd (omega arith));
+}
+
+-- what holds of a glyph that is read
+pub record Facts (given : ℕ) (glyph : GlyphIr) : Type 0 where
+  pub number : glyph.number ≡ given
+  pub read : IsReadGlyph glyph
+  pub components : HasNoComponents glyph
+  pub anchors : HasNoAnchors glyph
+
+abbrev glyph_at : ℕ → ℕ → List (List F2Dot14) → List LayerIr → GlyphIr
+glyph_at number place places layers = record { number = number; place = place; masters = 1; places = places; layers = layers }
+
+width_range : (t : Tree) (n : ℕ) → (pos 0 ≤ℤ (layer_record t n).width) × ((layer_record t n).width ≤ℤ pos 32767)
+unfolding layer_record
+width_range t n =
+    let small : natural_or 0 32767 0 t n (codes "width") ≤ 32767 = number_small t (find_in t n (codes "width")) in
+    (omega (arith, ints), omega (arith, ints))
+
+layer_points : (t : Tree) (n : ℕ) → All HasPoints (layer_record t n).shapes
+unfolding layer_record
+layer_points t n = All-from_recursion HasPoints _ (shapes_stand t (items_under t n (codes "shapes")))
+
+layer_paths : (t : Tree) (n : ℕ) → All IsPath (layer_record t n).shapes
+unfolding layer_record
+layer_paths t n = All-from_recursion IsPath _ (shapes_plain t (items_under t n (codes "shapes")))
+
+layer_bare : (t : Tree) (n : ℕ) → length (layer_record t n).anchors ≡ 0
+unfolding layer_record
+layer_bare t n = refl
+
+one_layer_facts : (t : Tree) (number place n : ℕ) → Facts number (glyph_at number place ([] ∷ []) (layer_record t n ∷ []))
+one_layer_facts t number place n = record {
+  number = refl;
+  read = record {
+    places = origin_alone;
+    masters = omega arith;
+    layers = refl;
+    one_form = λ i j d below within. absurd (omega arith);
+    widths = All-from_recursion (λ (layer : LayerIr). (pos 0 ≤ℤ layer.width) × (layer.width ≤ℤ pos 32767)) (layer_record t n ∷ []) (width_range t n, tt);
+    points = All-from_recursion (λ (layer : LayerIr). All HasPoints layer.shapes) (layer_record t n ∷ []) (layer_points t n, tt);
+  };
+  components = All-from_recursion (λ (layer : LayerIr). All IsPath layer.shapes) (layer_record t n ∷ []) (layer_paths t n, tt);
+  anchors = All-from_recursion (λ (layer : LayerIr). length layer.anchors ≡ 0) (layer_record t n ∷ []) (layer_bare t n, tt);
+}
+
+-- the layer that the master has
+one_layer : (t : Tree) (o : Option ℕ) → (is_some o && true) ≡ true → (n : ℕ) × (option_map_or (λ n. layer_record t n ∷ []) o [] ++ [] ≡ layer_record t n ∷ [])
+one_layer t None e = absurd cc
+one_layer t (Some n) e = (n, refl)
+
+no_failure : (b : Bool) (f : Failure) → foremost (if b then [] else f ∷ []) ≡ None → b ≡ true
+no_failure true f e = refl
+no_failure false f e = absurd cc
+
+layer_there : (t : Tree) (m : Master) (g : ℕ) → foremost (glyph_whole_failures t (m ∷ []) g) ≡ None → (is_some (layer_of t (layer_numbers t g) m) && true) ≡ true
+unfolding glyph_whole_failures
+layer_there t m g e = no_failure (is_some (layer_of t (layer_numbers t g) m) && true) _ e
+
+record_facts : (t : Tree) (m : Master) (number g : ℕ) → m.location ≡ [] → (is_some (layer_of t (layer_numbers t g) m) && true) ≡ true → Facts number (glyph_record t (m ∷ []) number g)
+unfolding glyph_record
+record_facts t m number g at there =
+    let found = one_layer t (layer_of t (layer_numbers t g) m) there in
+    let here : Facts number (glyph_at number (place_at t g) (m.location ∷ []) (layer_record t found.0 ∷ [])) =
+    subst (λ (place : List F2Dot14). Facts number (glyph_at number (place_at t g) (place ∷ []) (layer_record t found.0 ∷ []))) (sym at) (one_layer_facts t number (place_at t g) found.0) in
+    subst (λ (layers : List LayerIr). Facts number (glyph_at number (place_at t g) (m.location ∷ []) layers)) (sym found.1) here
+
+one_master_facts : (t : Tree) (m : Master) (name : List ℕ) (number g : ℕ) (x : GlyphIr) → m.location ≡ [] → glyph_of t (m ∷ []) name number g ≡ Ok x → Facts number x
+unfolding glyph_of
+one_master_facts t m name number g x at e =
+    let parts = judged_ok (refusal_of 1 3 name) (first_of (glyph_failures t (m ∷ []) g)) (foremost (glyph_whole_failures t (m ∷ []) g)) (glyph_record t (m ∷ []) number g) x e in
+    subst (λ (y : GlyphIr). Facts number y) parts.2 (record_facts t m number g at (layer_there t m g parts.1))
+
+-- of each glyph that is read with the header's masters
+pub read_facts : (t : Tree) (h : Header) → header_of t ≡ Ok h → (masters : List Master) → masters ≡ h.masters → (name : List ℕ) (number g : ℕ) (r : Result GlyphIr ReadError) → Gives (λ (x : GlyphIr). x) r (glyph_of t masters name number g) → IfOk r (Facts number)
+read_facts t h e masters same name number g (Err error) given = tt
+read_facts t h e masters same name number g (Ok x) given =
+    let found = header-masters t h e in
+    one_master_facts t (master_record t found.0) name number g x (master_record-location t found.0)
+    (subst (λ (ms : List Master). glyph_of t ms name number g ≡ Ok x) (same ∙ found.1) given)
+
+pub read_number : (number : ℕ) (r : Result GlyphIr ReadError) → IfOk r (Facts number) → IfOk r (λ x. x.number ≡ number)
+read_number number (Err error) facts = tt
+read_number number (Ok x) facts = facts.number
+
+pub read_read : (number : ℕ) (r : Result GlyphIr ReadError) → IfOk r (Facts number) → IfOk r IsReadGlyph
+read_read number (Err error) facts = tt
+read_read number (Ok x) facts = facts.read
+
+pub read_components : (number : ℕ) (r : Result GlyphIr ReadError) → IfOk r (Facts number) → IfOk r HasNoComponents
+read_components number (Err error) facts = tt
+read_components number (Ok x) facts = facts.components
+
+pub read_anchors : (number : ℕ) (r : Result GlyphIr ReadError) → IfOk r (Facts number) → IfOk r HasNoAnchors
+read_anchors number (Err error) facts = tt
+read_anchors number (Ok x) facts = facts.anchors

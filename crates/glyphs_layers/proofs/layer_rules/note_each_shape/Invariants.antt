@@ -1,0 +1,10 @@
+-- what is noted of the values that are left is what is noted of all
+use Rattle.std.proofs.Common.{◌≡◌, drop}
+use Rattle.std.specs.Prelude.{flat_map}
+use Rattle.refusal_codes.specs.First.{noted}
+use Rattle.glyphs_layers.specs.LayerRules.{shape_failures}
+use Rattle.glyphs_layers.proofs.layer_rules.note_each_shape.Given as goal
+
+abbrev pub invariant-loop-shape : goal.invariant-loop-shape
+invariant-loop-shape l =
+    noted l.first (flat_map (shape_failures l.tree) (drop l.shape-index l.shapes)) ≡ noted l.initial.first (flat_map (shape_failures l.tree) l.shapes)

@@ -1,0 +1,142 @@
+-- The rules that a glyph's layers may fail (Glyphs file format, version 3; the rules are fontc's own). A glyph has a list
+-- of layers, and each master's layer is the first one that names the master. The other layers are ignored with all that
+-- they hold. A form that isn't built is of a wrong shape, and a value of a wrong shape isn't looked into further.
+use Rattle.std.specs.Prelude.{ℕ, Bool, true, false, ◌||◌, ◌==◌, is_some, List, [], ◌∷◌, ◌++◌, length, slice_index, flat_map, codes, Option, Some, None, option_and_then, unwrap_or, if◌then◌else◌}
+use Rattle.std.specs.Option.{option_map_or}
+use Rattle.std.specs.List.{find, list_all}
+use Rattle.plist_reader.specs.declared.tree.Tree.{Tree}
+use Rattle.plist_reader.specs.Tree.{find_in, spells}
+use Rattle.font_ir.specs.declared.header.Master.{Master}
+use Rattle.refusal_codes.specs.declared.rule.Rule.TheVariants.{WrongShape, MissingKey, NotWhole, MissingLayer, CubicNode, OpenContour}
+use Rattle.refusal_codes.specs.declared.first.Failure.{Failure}
+use Rattle.glyphs_source.specs.declared.decimals.Decimal.{Decimal}
+use Rattle.glyphs_source.specs.declared.values.Range.TheVariants.{Natural, Coordinate}
+use Rattle.glyphs_source.specs.Decimals.{is_whole}
+use Rattle.glyphs_source.specs.Values.{text_at, items_at, is_dictionary, decimal_at, fails, whole_failures, text_failures, empty_list_failures, required, optional}
+
+-- a list, each value of which may fail
+abbrev pub each_by : (ℕ → List Failure) → Tree → ℕ → Option (List ℕ) → List Failure
+each_by failures t n None = fails WrongShape t n
+each_by failures t n (Some items) = flat_map failures items
+
+-- the values of the list under a key, none where there is no such list
+abbrev pub items_under : Tree → ℕ → List ℕ → List ℕ
+items_under t pairs key = unwrap_or (option_and_then (items_at t) (find_in t pairs key)) []
+
+-- ---- nodes: a list of x, y and a type, and maybe a fourth value, which is ignored
+
+-- whether a value is this text
+abbrev pub is_text : Tree → List ℕ → ℕ → Bool
+is_text t word n = spells word (text_at t n)
+
+-- whether a node's type is one of those of a straight line, of a cubic curve, and of a quadratic curve. A final `s` says
+-- that the node is smooth
+abbrev pub is_line : Tree → ℕ → Bool
+is_line t n = is_text t (codes "l") n || is_text t (codes "ls") n
+
+abbrev pub is_cubic : Tree → ℕ → Bool
+is_cubic t n = is_text t (codes "c") n || is_text t (codes "cs") n
+
+abbrev pub is_quadratic : Tree → ℕ → Bool
+is_quadratic t n = is_text t (codes "q") n || is_text t (codes "qs") n || is_text t (codes "o") n || is_text t (codes "os") n
+
+-- a node's type: only straight lines are built. A type of a quadratic curve fails at the node, one that is no type at the
+-- type's value
+unfoldable pub type_failures : Tree → ℕ → ℕ → List Failure
+type_failures t node kind =
+    if is_line t kind
+    then []
+    else if is_cubic t kind
+    then fails CubicNode t node
+    else if is_quadratic t kind
+    then fails WrongShape t node
+    else fails WrongShape t kind
+
+unfoldable pub node_parts_failures : Tree → ℕ → ℕ → ℕ → ℕ → List Failure
+node_parts_failures t node x y kind =
+    whole_failures Coordinate t x ++ whole_failures Coordinate t y ++ type_failures t node kind
+
+abbrev pub node_failures_by : Tree → ℕ → Option (List ℕ) → List Failure
+node_failures_by t n None = fails WrongShape t n
+node_failures_by t n (Some parts) =
+    if length parts == 3 || length parts == 4
+    then node_parts_failures t n (slice_index parts 0) (slice_index parts 1) (slice_index parts 2)
+    else fails WrongShape t n
+
+unfoldable pub node_failures : Tree → ℕ → List Failure
+node_failures t n = node_failures_by t n (items_at t n)
+
+unfoldable pub nodes_failures : Tree → ℕ → List Failure
+nodes_failures t n = each_by (node_failures t) t n (items_at t n)
+
+-- ---- paths and other shapes
+
+-- `closed` is a whole number, and a path whose `closed` is 0 isn't built. The place is the path, whether it has nodes or not
+abbrev pub closed_failures_by : Tree → ℕ → ℕ → Option Decimal → List Failure
+closed_failures_by t path n None = fails WrongShape t n
+closed_failures_by t path n (Some d) =
+    if is_whole d then (if d.whole == 0 then fails OpenContour t path else []) else fails NotWhole t n
+
+unfoldable pub closed_failures : Tree → ℕ → ℕ → List Failure
+closed_failures t path n = closed_failures_by t path n (decimal_at t n)
+
+-- a shape without nodes: a component isn't built, and a shape must be one of the two
+unfoldable pub other_shape_failures : Tree → ℕ → List Failure
+other_shape_failures t n = if is_some (find_in t n (codes "ref")) then fails WrongShape t n else fails MissingKey t n
+
+abbrev pub shape_failures_by : Tree → ℕ → Option ℕ → List Failure
+shape_failures_by t n None = other_shape_failures t n
+shape_failures_by t n (Some nodes) = optional t n (codes "closed") (closed_failures t n) ++ nodes_failures t nodes
+
+unfoldable pub shape_parts_failures : Tree → ℕ → List Failure
+shape_parts_failures t n = shape_failures_by t n (find_in t n (codes "nodes"))
+
+unfoldable pub shape_failures : Tree → ℕ → List Failure
+shape_failures t n = if is_dictionary t n then shape_parts_failures t n else fails WrongShape t n
+
+unfoldable pub shapes_failures : Tree → ℕ → List Failure
+shapes_failures t n = each_by (shape_failures t) t n (items_at t n)
+
+-- ---- layers
+
+-- what a layer holds: anchors aren't built
+unfoldable pub layer_failures : Tree → ℕ → List Failure
+layer_failures t n =
+    required t n (codes "width") (whole_failures (Natural 0 32767) t)
+    ++ optional t n (codes "shapes") (shapes_failures t)
+    ++ optional t n (codes "anchors") (empty_list_failures t)
+
+-- each layer is a dictionary, and its `layerId` a text where it has one
+unfoldable pub entry_failures : Tree → ℕ → List Failure
+entry_failures t n = if is_dictionary t n then optional t n (codes "layerId") (text_failures t) else fails WrongShape t n
+
+unfoldable pub entries_failures : Tree → ℕ → List Failure
+entries_failures t n = each_by (entry_failures t) t n (items_at t n)
+
+-- the values of a glyph's list of layers
+unfoldable pub layer_numbers : Tree → ℕ → List ℕ
+layer_numbers t glyph = items_under t glyph (codes "layers")
+
+-- whether a layer names the master with this id
+abbrev pub is_layer_of : Tree → List ℕ → ℕ → Bool
+is_layer_of t id n = spells id (option_and_then (text_at t) (find_in t n (codes "layerId")))
+
+-- a master's layer: the first that names it
+abbrev pub layer_of : Tree → List ℕ → Master → Option ℕ
+layer_of t layers m = find (is_layer_of t m.id) layers
+
+-- the local rules that a master's layer fails, where it is there
+abbrev pub master_failures : Tree → List ℕ → Master → List Failure
+master_failures t layers m = option_map_or (layer_failures t) (layer_of t layers m) []
+
+-- the local rules that a glyph's layers fail
+unfoldable pub glyph_failures : Tree → List Master → ℕ → List Failure
+glyph_failures t masters glyph =
+    optional t glyph (codes "layers") (entries_failures t)
+    ++ flat_map (master_failures t (layer_numbers t glyph)) masters
+
+-- ---- whole rules: each master has a layer
+
+unfoldable pub glyph_whole_failures : Tree → List Master → ℕ → List Failure
+glyph_whole_failures t masters glyph =
+    if list_all (λ m. is_some (layer_of t (layer_numbers t glyph) m)) masters then [] else fails MissingLayer t glyph

@@ -1,0 +1,2 @@
+pub mod LayerReading
+pub mod LayerRules

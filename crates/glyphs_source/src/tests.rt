@@ -1,0 +1,86 @@
+ghost use Rattle.std.specs.Prelude.{IfOk};
+ghost use Rattle.plist_reader.specs.Tree.{IsTree};
+
+use super::*;
+use font_ir::Header;
+use plist_reader::{Tree, read};
+use refusal_codes::{ReadError, Rule};
+use std::test::Fail;
+
+const TRIANGLE: &[u8] = b"{
+.formatVersion = 3;
+familyName = Tri;
+fontMaster = (
+{
+id = m1;
+}
+);
+glyphs = (
+{
+glyphname = A;
+unicode = (65,97);
+},
+{
+glyphname = B;
+export = 0;
+kernLeft = A;
+}
+);
+unitsPerEm = 1000;
+}
+";
+
+fn triangle(rt: &HostRuntime) -> Result<Tree, ReadError>
+    ensures { IfOk result IsTree }
+{
+    read(rt.alloc(), TRIANGLE)
+}
+
+#[test]
+fn a_header_has_the_defaults_of_the_format(rt: HostRuntime) -> Result<(), Fail> {
+    let tree = triangle(&rt)?;
+    let header = header(rt.alloc(), &tree)?;
+    assert_eq!(rt; header.upem, 1000);
+    assert_eq!(rt; header.family.as_str(), "Tri");
+    assert_eq!(rt; (header.major, header.minor), (1, 0));
+    assert_eq!(rt; header.masters.len(), 1);
+    let master = &header.masters.as_slice()[0];
+    assert_eq!(rt; master.id.as_str(), "m1");
+    assert_eq!(rt; (master.ascender, master.descender), (800, -200));
+    Ok(())
+}
+
+#[test]
+fn an_index_finds_glyphs_by_name_and_by_number(rt: HostRuntime) -> Result<(), Fail> {
+    let tree = triangle(&rt)?;
+    let index = glyph_index(rt.alloc(), &tree)?;
+    assert_eq!(rt; index.len(), 2);
+    assert!(rt; !index.is_empty());
+    let (name, entry) = index.at(1).ok_or("no second glyph")?;
+    assert_eq!(rt; name.as_str(), "B");
+    assert!(rt; !entry.exported);
+    let (name, _) = index.at(0).ok_or("no first glyph")?;
+    let entry = index.get(name).ok_or("A is missing")?;
+    assert!(rt; entry.exported);
+    assert_eq!(rt; entry.codes.as_slice(), [65, 97].as_slice());
+    Ok(())
+}
+
+/// The rule that a refused header fails, and where.
+fn failure_of(answer: Result<Header, ReadError>) -> Option<(Rule, u64)> {
+    match answer {
+        Ok(_header) => None,
+        Err(error) => match error {
+            ReadError::Refused(refusal) => Some((refusal.rule, refusal.place)),
+            ReadError::NoMemory => None,
+        },
+    }
+}
+
+#[test]
+fn a_source_without_keys_lacks_one_at_its_dictionary(rt: HostRuntime) -> Result<(), Fail> {
+    let tree = read(rt.alloc(), b"{}")?;
+    let failure = failure_of(header(rt.alloc(), &tree));
+    assert_eq!(rt; failure, Some((Rule::MissingKey, 0)));
+    Ok(())
+}
