@@ -1,6 +1,6 @@
 ghost use Rattle.std.specs.Prelude.{◌≡◌, Some, option_map, map, IsSome};
 ghost use Rattle.access_context.specs.Plain.{plain};
-ghost use Rattle.access_context.specs.Read.{plain_item, read_of, value_read};
+ghost use Rattle.access_context.specs.Read.{plain_item, read_of, value_read, all_done};
 
 use crate::settled::Settled;
 use std::marker::Model;
@@ -51,6 +51,25 @@ impl<Id: Copy + Ord, V> Reads<Id, V> {
             _ => unreachable!(),
         }
     }
+
+    /// Whether every item has a value. It takes no memory.
+    pub fn all_done(&self) -> bool
+        ensures { result ≡ all_done self.now }
+    {
+        each_done(self.items.as_slice())
+    }
+}
+
+/// Whether every item has a value.
+fn each_done<Id, V>(items: &[(Id, Settled<V>)]) -> bool
+    ensures { result ≡ all_done (map plain_item items.now) }
+{
+    for item in items {
+        if !item.1.is_done() {
+            return false;
+        }
+    }
+    true
 }
 
 /// What the first item with this id is.

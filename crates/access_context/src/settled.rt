@@ -1,5 +1,5 @@
 ghost use Rattle.std.specs.Prelude.{◌≡◌, IfOk};
-ghost use Rattle.access_context.specs.Plain.{plain};
+ghost use Rattle.access_context.specs.Plain.{plain, is_done};
 
 use crate::access::Spec;
 use plain_lists::Sequence;
@@ -19,6 +19,16 @@ pub enum Settled<V> {
 }
 
 impl<V> Settled<V> {
+    /// Whether there is a value.
+    pub fn is_done(&self) -> bool
+        ensures { result ≡ is_done (plain self.now) }
+    {
+        match self {
+            Settled::Done(_) => true,
+            _ => false,
+        }
+    }
+
     /// The same, a value being shared with the copy.
     pub fn copy(&self, alloc: Global) -> Result<Settled<V>, NoMemory>
         ensures { IfOk result (λ s. plain s ≡ plain self.now) }

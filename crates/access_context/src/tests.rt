@@ -11,6 +11,9 @@ fn a_job_reads_what_came_of_its_items(rt: HostRuntime) -> Result<(), Fail> {
     let reads = Reads::of(items);
     assert_eq!(rt; *reads.done(&7), 70);
     assert_eq!(rt; *reads.get(&8), Settled::Blocked);
+    assert!(rt; !reads.all_done());
+    let value = Arc::new(rt.alloc(), 70u64)?;
+    assert!(rt; Reads::of(vec![in rt.alloc(); (7u32, Settled::Done(value))]?).all_done());
     Ok(())
 }
 

@@ -1,0 +1,95 @@
+ghost use Rattle.std.specs.Prelude.{◌≡◌, ◌<◌, length, slice_get, Err, IfOk, IfSome};
+ghost use Rattle.font_ir.specs.FlatGlyphs.{IsFlatGlyph};
+ghost use Rattle.font_ir.specs.ReadGlyphs.{IsReadGlyph, HasNoComponents, HasNoAnchors};
+ghost use Rattle.refusal_codes.specs.First.{foremost, refusal_of};
+ghost use Rattle.refusal_codes.specs.Gives.{Gives, RefusesRead};
+ghost use Rattle.font_ir.specs.declared.glyph.FlatGlyph.{FlatGlyph};
+ghost use Rattle.component_flatten.specs.Flattening.{flat_record, limit_failures, flat_of};
+
+use crate::drawing::{copied_places, drawn, widths};
+use crate::limits::{all_small, too_many_points};
+use font_ir::{FlatGlyph, GlyphIr, Name};
+use glyphs_source::GlyphIndex;
+use plain_lists::Sequence;
+use refusal_codes::{Failure, ReadError, Rule};
+use std::alloc::{AllocError, Global};
+use std::sync::Arc;
+
+/// The glyph with its contours drawn.
+///
+/// Components and anchors aren't built. The error is that a place has more than 8,000 drawn points, else that a drawn
+/// coordinate is beyond 16383 in size; it stands at the glyph.
+pub fn flatten(
+    alloc: Global,
+    glyph: &GlyphIr,
+    index: &GlyphIndex,
+    bases: &[Arc<FlatGlyph>],
+) -> Result<FlatGlyph, ReadError>
+    requires number { glyph.now.number < length index.now }
+    requires read { IsReadGlyph glyph.now }
+    requires components { HasNoComponents glyph.now }
+    requires anchors { HasNoAnchors glyph.now }
+    ensures record { IfSome (slice_get index.now glyph.now.number) (λ entry. Gives (λ flat. flat) result (flat_of entry.0 glyph.now)) }
+    ensures flat { IfOk result IsFlatGlyph }
+{
+    // A glyph without components has no bases.
+    let _ = bases;
+    let (name, _) = index.at(glyph.number).unwrap();
+    draw(alloc, glyph, name)
+}
+
+/// The glyph with its contours drawn, where it has this name.
+#[tactic(auto, unfolding(crate::specs::Flattening::flat_of))]
+fn draw(alloc: Global, glyph: &GlyphIr, name: &Name) -> Result<FlatGlyph, ReadError>
+    ensures { Gives (λ flat. flat) result (flat_of name.now glyph.now) }
+{
+    let flat = record(alloc, glyph)?;
+    match failure_in(&flat) {
+        Some(failure) => Err(refused(alloc, name, failure)),
+        None => Ok(flat),
+    }
+}
+
+/// The first rule that a drawn glyph fails.
+fn failure_in(flat: &FlatGlyph) -> Option<Failure>
+    ensures { result ≡ foremost (limit_failures flat.now) }
+{
+    if too_many_points(flat.drawn.as_slice()) {
+        Some(Failure {
+            rule: Rule::TooManyPoints,
+            place: flat.place,
+        })
+    } else if all_small(flat.drawn.as_slice()) {
+        None
+    } else {
+        Some(Failure {
+            rule: Rule::CoordinateTooLarge,
+            place: flat.place,
+        })
+    }
+}
+
+/// The error of a failure that the job of a flat glyph finds: the job is of stratum 1 and kind 4, and has the glyph's name.
+fn refused(alloc: Global, name: &Name, failure: Failure) -> ReadError
+    ensures { RefusesRead {Y = FlatGlyph} result (Err (refusal_of 1 4 name.now failure)) }
+{
+    match name.copy(alloc) {
+        Ok(name) => ReadError::Refused(failure.refusal(1, 4, name)),
+        Err(_) => ReadError::NoMemory,
+    }
+}
+
+#[tactic(auto, unfolding(crate::specs::Flattening::flat_record))]
+fn record(alloc: Global, glyph: &GlyphIr) -> Result<FlatGlyph, AllocError>
+    ensures { IfOk result (λ flat. flat ≡ flat_record glyph.now) }
+{
+    Ok(FlatGlyph {
+        number: glyph.number,
+        place: glyph.place,
+        places: copied_places(alloc, glyph.places.as_slice())?,
+        widths: widths(alloc, glyph.layers.as_slice())?,
+        drawn: drawn(alloc, glyph.layers.as_slice())?,
+        kept: Sequence::new(alloc),
+        anchors: Sequence::new(alloc),
+    })
+}

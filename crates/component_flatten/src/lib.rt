@@ -1,0 +1,8 @@
+//! Draws the contours of a glyph.
+#![tactic(auto)]
+
+mod drawing;
+mod flat;
+mod limits;
+
+pub use flat::flatten;

@@ -1,0 +1,10 @@
+pub mod Members
+pub mod Growth
+pub mod Confluence
+pub mod Limit
+pub mod Run
+pub mod Owned
+pub mod Kept
+pub mod Due
+pub mod Boards
+pub mod Examples

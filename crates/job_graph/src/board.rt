@@ -1,0 +1,212 @@
+ghost use Rattle.std.specs.Prelude.{◌≡◌, ◌<◌, [], ◌∷◌, ◌++◌, option_map, IfOk, OnOk, IfErr, OnErr, Some, None, slice_get, if◌then◌else◌};
+ghost use Rattle.std.specs.List.{list_any};
+ghost use Rattle.access_context.specs.Plain.{plain, plain_outcome};
+ghost use Rattle.job_graph.specs.Rounds.{value_in, is_unsettled_job, IsOutcomeOf};
+ghost use Rattle.job_graph.specs.Histories.{is_halt_of, out_of, state_of, end_of};
+ghost use Rattle.job_graph.specs.Promises.{IsHistory};
+
+use crate::claim::{Claim, Ticket, Unfinished};
+use crate::event::{End, Event};
+use crate::plan::Plan;
+use crate::{lists, scan};
+use access_context::{Outcome, Settled, Spec};
+use refusal_codes::NoMemory;
+use std::alloc::Global;
+use std::marker::Model;
+
+/// A board of jobs: what each worker did so far, and what came of it. A contract sees its plan, its workers and its
+/// events; all else follows from these.
+#[derive(Drop)]
+pub struct Board<P: Plan> {
+    plan: P,
+    workers: u32,
+    events: Vec<Event<P::Id>>,
+    jobs: Vec<Spec<P::Id>>,
+    values: Vec<(P::Id, Settled<P::Value>)>,
+    outs: Vec<Option<P::Id>>,
+    halted: Vec<bool>,
+    any_halted: bool,
+}
+
+impl<P: Plan> Model for Board<P> {
+    ghost use Rattle.std.specs.Prelude.{map};
+    ghost use Rattle.job_graph.specs.BoardView.{BoardView, IsBoard};
+    ghost use Rattle.job_graph.specs.Rounds.{state_from};
+
+    ghost Value = { BoardView P P.Id };
+
+    ghost view = { λ b. record { plan = b.plan; workers = b.workers; events = b.events.items } };
+
+    ghost invariant = { λ b. IsBoard P.Id.eq (P.meaning b.plan) b.workers b.events (state_from b.jobs.items b.values.items) b.outs.items b.halted.items b.any_halted };
+}
+
+impl<P: Plan> Board<P> {
+    ghost use Rattle.job_graph.specs.BoardView.{BoardView};
+    ghost use Rattle.job_graph.specs.Answers.{IsAnswer};
+    ghost use Rattle.job_graph.specs.declared.event.Event.TheVariants as event;
+
+    /// A board on which nothing happened yet.
+    pub fn new(alloc: Global, plan: P, workers: u32) -> Result<Board<P>, NoMemory>
+        ensures made { IfOk result (λ b. b ≡ record { plan = plan; workers = workers; events = [] }) }
+        ensures history { IfOk result (λ b. IsHistory P.Id.eq (P.meaning b.plan) b.workers b.events) }
+    {
+        let jobs = plan.opening(alloc)?;
+        let count = workers as usize;
+        let events = Vec::with_capacity(alloc, count)?;
+        let outs = lists::none_out(alloc, count)?;
+        let halted = lists::none_halted(alloc, count)?;
+        Ok(Board {
+            plan,
+            workers,
+            events,
+            jobs,
+            values: Vec::new(alloc),
+            outs,
+            halted,
+            any_halted: false,
+        })
+    }
+
+    /// Hands a worker a ready job that wasn't handed out, or says why not.
+    pub fn claim(&mut self, alloc: Global, worker: u32) -> Claim<P>
+        requires known { worker < self.old.workers }
+        requires free { slice_get (out_of self.old.workers self.old.events) worker ≡ Some None }
+        ensures answer { IsAnswer P.Id.eq (P.meaning self.old.plan) self.old worker result self.new }
+        ensures history { IsHistory P.Id.eq (P.meaning self.new.plan) self.new.workers self.new.events }
+    {
+        if self.any_halted {
+            return Claim::Halted;
+        }
+        let next = scan::next_run(
+            alloc,
+            &self.plan,
+            self.jobs.as_slice(),
+            self.values.as_slice(),
+            self.events.as_slice(),
+        );
+        match next {
+            Err(_) => Claim::NoMemory,
+            Ok(None) => {
+                let count = scan::running(self.outs.as_slice(), self.workers);
+                if count > 0 {
+                    return Claim::Idle(count);
+                }
+                Claim::Ended
+            }
+            Ok(Some((id, reads))) => {
+                let event = Event::Claim(worker, id);
+                if lists::note(&mut self.events, self.halted.as_slice(), event) {
+                    self.outs[worker as usize] = Some(id);
+                    Claim::Run(Ticket::of(id), reads)
+                } else {
+                    Claim::NoMemory
+                }
+            }
+        }
+    }
+
+    /// Gives a job what came of it. Where memory runs out, the board is as before and both parts come back.
+    pub fn finish(
+        &mut self,
+        _alloc: Global,
+        worker: u32,
+        ticket: Ticket<P::Id>,
+        outcome: Outcome<P::Value, P::Id>,
+    ) -> Result<(), Unfinished<P>>
+        requires out { slice_get (out_of self.old.workers self.old.events) worker ≡ Some (Some ticket) }
+        requires outcome { IsOutcomeOf P.Id.eq (P.meaning self.old.plan) ticket (plain_outcome outcome) }
+        ensures ok { OnOk result (self.new ≡ record self.old { events = self.old.events ++ event.Finish worker ticket ∷ [] }) }
+        ensures err { OnErr result (self.new ≡ self.old) }
+        ensures back { IfErr result (λ u. (u.ticket ≡ ticket) × (u.outcome ≡ outcome)) }
+        ensures history { IsHistory P.Id.eq (P.meaning self.new.plan) self.new.workers self.new.events }
+    {
+        let id = *ticket.id();
+        let event = Event::Finish(worker, id);
+        let count = outcome.added.len();
+        let halted = self.halted.as_slice();
+        if !lists::make_room(
+            &mut self.values,
+            &mut self.jobs,
+            count,
+            &mut self.events,
+            halted,
+            event,
+        ) {
+            return Err(Unfinished { ticket, outcome });
+        }
+        let Outcome { value, added } = outcome;
+        self.values.push_reserved((id, value));
+        lists::add_all(&mut self.jobs, added.into_vec());
+        self.outs[worker as usize] = None;
+        Ok(())
+    }
+
+    /// Stops the board for all. Only a worker's first halt counts. A job that it has out is given up. It takes no memory.
+    pub fn halt(&mut self, worker: u32)
+        requires { worker < self.old.workers }
+        ensures halts { self.new ≡ (if list_any (is_halt_of worker) self.old.events then self.old else record self.old { events = self.old.events ++ event.Halt worker ∷ [] }) }
+        ensures history { IsHistory P.Id.eq (P.meaning self.new.plan) self.new.workers self.new.events }
+    {
+        let place = worker as usize;
+        if !self.halted[place] {
+            self.halted[place] = true;
+            self.events.push_reserved(Event::Halt(worker));
+            self.outs[place] = None;
+            self.any_halted = true;
+        }
+    }
+
+    /// The plan. It takes no memory.
+    pub fn plan(&self) -> &P
+        ensures { result.now ≡ self.now.plan }
+    {
+        &self.plan
+    }
+
+    /// How many workers there are. It takes no memory.
+    pub fn workers(&self) -> u32
+        ensures { result ≡ self.now.workers }
+    {
+        self.workers
+    }
+
+    /// Where the board stands. It takes no memory.
+    pub fn result(&self) -> End
+        ensures end { result ≡ end_of P.Id.eq (P.meaning self.now.plan) self.now.workers self.now.events }
+        ensures history { IsHistory P.Id.eq (P.meaning self.now.plan) self.now.workers self.now.events }
+    {
+        if self.any_halted {
+            return End::Halted;
+        }
+        if scan::some_ready(&self.plan, self.jobs.as_slice(), self.values.as_slice()) {
+            return End::Running;
+        }
+        if scan::running(self.outs.as_slice(), self.workers) == 0 {
+            End::Ended
+        } else {
+            End::Running
+        }
+    }
+
+    /// What happened so far. It takes no memory.
+    pub fn events(&self) -> &[Event<P::Id>]
+        ensures events { result.now ≡ self.now.events }
+        ensures history { IsHistory P.Id.eq (P.meaning self.now.plan) self.now.workers self.now.events }
+    {
+        self.events.as_slice()
+    }
+
+    /// What came of a job, where it is settled. It takes no memory.
+    pub fn get(&self, id: &P::Id) -> Option<&Settled<P::Value>>
+        ensures { option_map (λ s. plain s.now) result ≡ value_in P.Id.eq (state_of P.Id.eq (P.meaning self.now.plan) self.now.events) id.now }
+    {
+        scan::value_of(self.values.as_slice(), id)
+    }
+
+    /// Whether this is a job that isn't settled; on a board that has ended it never will be. It takes no memory.
+    pub fn is_stuck(&self, id: &P::Id) -> bool
+        ensures { result ≡ is_unsettled_job P.Id.eq (state_of P.Id.eq (P.meaning self.now.plan) self.now.events) id.now }
+    {
+        scan::has_job(self.jobs.as_slice(), id) && !scan::is_settled(self.values.as_slice(), id)
+    }
+}

@@ -1,0 +1,4 @@
+pub mod Least
+pub mod Outlines
+pub mod Measuring
+pub mod Tables

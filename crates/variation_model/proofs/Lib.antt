@@ -1,0 +1,9 @@
+pub mod Steps
+pub mod ScalarLemmas
+pub mod SupportLengths
+pub mod ValueLemmas
+pub mod OrderLemmas
+pub mod Rows
+pub mod DeltaLemmas
+pub mod SupportSteps
+pub mod ModelLemmas

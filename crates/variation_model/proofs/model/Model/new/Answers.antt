@@ -1,0 +1,14 @@
+use Rattle.variation_model.proofs.ModelLemmas.{order_within, supports_of-parts}
+use Rattle.variation_model.proofs.model.Model.new.Goals as goal
+
+pub supports_in_order-requires-clause-positions : goal.supports_in_order-requires-clause-positions
+supports_in_order-requires-clause-positions c =
+    rw c.as_slice.ensures.value (order_within c.args.places.now c.in_ok-order.order.items c.in_ok-order.ensures)
+
+pub invariant_of-result : goal.invariant_of-result
+invariant_of-result c =
+    rw c.in_ok-places.ensures (record {
+      are_places = record { few = c.requires.few; one_length = c.requires.one_length; different = c.requires.different; has_zero = c.requires.has_zero };
+      in_order = c.in_ok-order.ensures;
+      are_supports = supports_of-parts c.args.places.now c.in_ok-order.order.items c.as_slice.result.now c.in_ok-supports.supports.items c.in_ok-order.ensures c.as_slice.ensures.value c.in_ok-supports.ensures;
+    })

@@ -1,0 +1,5 @@
+pub mod Places
+pub mod Supports
+pub mod Scalar
+pub mod Deltas
+pub mod Parts

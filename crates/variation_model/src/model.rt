@@ -1,0 +1,200 @@
+ghost use Rattle.std.specs.Prelude.{◌≡◌, ◌≢◌, ℕ, ◌-◌, ◌+◌, ◌*◌, ◌^◌, ◌<◌, ◌≤◌, ◌-ℤ◌, ◌*ℤ◌, Bool, true, false, List, [], map, unsigned_abs, All, MatchOption, IfOk, length, replicate, EachIndex, Contains};
+ghost use Rattle.variation_model.specs.Places.{ArePlaces, axis_count, place_at, zero_number, order_of};
+ghost use Rattle.fixed_math.specs.FixedPoint.{half_up};
+ghost use Rattle.variation_model.specs.Scalar.{scalar_of};
+ghost use Rattle.variation_model.specs.Supports.{supports_after, supports_of};
+ghost use Rattle.variation_model.specs.Deltas.{GivesDeltas, deltas_after, deltas_of, is_storable, region_at, value_at_place, value_of};
+
+use crate::errors::DeltaError;
+use crate::order::positions;
+use crate::scalars::scalar;
+use crate::supports::support;
+use fixed_math::{F2Dot14, Fixed, round_half_up};
+use font_ir::{Location, Region};
+use plain_lists::Sequence;
+use refusal_codes::NoMemory;
+use std::alloc::{AllocError, Global};
+
+/// The regions of a family and how values become deltas over them. A contract sees a model as the list of its places.
+#[derive(Debug, Drop)]
+pub struct Model {
+    places: Vec<Location>,
+    order: Vec<u32>,
+    supports: Vec<Region>,
+}
+
+impl std::marker::Model for Model {
+    ghost use Rattle.std.specs.Prelude.{List};
+    ghost use Rattle.fixed_math.specs.declared.F2Dot14.{F2Dot14};
+    ghost use Rattle.variation_model.specs.Parts.{IsModel};
+
+    ghost Value = { List (List F2Dot14) };
+
+    ghost view = { λ m. m.places.items };
+
+    ghost invariant = { λ m. IsModel m.places.items m.order.items m.supports.items };
+}
+
+impl Model {
+    /// The model of these places, which are normalised coordinates. It costs at most the cube of the number of places times
+    /// the number of axes; `deltas` then costs at most its square times the number of axes.
+    pub fn new(alloc: Global, places: &[Location]) -> Result<Model, NoMemory>
+        requires few { length places.now < 2 ^ 32 }
+        requires one_length { EachIndex places.now (λ i. length (place_at places.now i) ≡ axis_count places.now) }
+        requires different { (i j : ℕ) → i < j → j < length places.now → place_at places.now i ≢ place_at places.now j }
+        requires has_zero { Contains places.now (replicate (axis_count places.now) zero_number) }
+        ensures places { IfOk result (λ model. model ≡ places.now) }
+    {
+        let order = positions(alloc, places)?;
+        let supports = supports_in_order(alloc, places, order.as_slice())?;
+        let places = copies(alloc, places)?;
+        Ok(Model {
+            places,
+            order,
+            supports,
+        })
+    }
+
+    /// The positions of the places in the model's order.
+    pub fn order(&self) -> &[u32]
+        ensures { result.now ≡ order_of self.now }
+    {
+        self.order.as_slice()
+    }
+
+    /// The region of each place, in the model's order.
+    pub fn supports(&self) -> &[Region]
+        ensures { result.now ≡ supports_of self.now }
+    {
+        self.supports.as_slice()
+    }
+
+    /// The deltas, in the model's order, of a value that has these numbers at the places, in the order in which the model was
+    /// given them. Each is formed from the earlier ones as they are answered, and rounded to the nearest, a tie going up.
+    pub fn deltas(&self, alloc: Global, values: &[Fixed]) -> Result<Vec<i16>, DeltaError>
+        requires { length values.now ≡ length self.now }
+        ensures { GivesDeltas result (deltas_of self.now values.now) }
+    {
+        deltas_over(
+            alloc,
+            self.supports.as_slice(),
+            self.places.as_slice(),
+            self.order.as_slice(),
+            values,
+        )
+    }
+
+    /// What the deltas, one per place in the model's order, give at a place: a number over 65536. It takes no memory.
+    pub fn value_at(&self, deltas: &[i16], at: &[F2Dot14]) -> i64
+        requires deltas { length deltas.now ≡ length self.now }
+        requires axes { length at.now ≡ axis_count self.now }
+        ensures { result ≡ value_of (supports_of self.now) deltas.now at.now }
+    {
+        value_of(self.supports.as_slice(), deltas, at)
+    }
+}
+
+/// The supports of the places, which are told by their positions in the model's order.
+fn supports_in_order(
+    alloc: Global,
+    places: &[Location],
+    order: &[u32],
+) -> Result<Vec<Region>, AllocError>
+    requires one_length { EachIndex places.now (λ i. length (place_at places.now i) ≡ axis_count places.now) }
+    requires positions { All (λ i. i < length places.now) order.now }
+    ensures { IfOk result (λ supports. supports.items ≡ supports_after places.now [] (map (place_at places.now) order.now)) }
+{
+    let mut supports = Vec::with_capacity(alloc, order.len())?;
+    for (i, position) in order.iter().enumerate() {
+        let place = places[*position as usize].as_slice();
+        supports.push(support(alloc, places, &order[..i], place)?)?;
+    }
+    Ok(supports)
+}
+
+/// The same places again.
+fn copies(alloc: Global, places: &[Location]) -> Result<Vec<Location>, AllocError>
+    ensures { IfOk result (λ copies. copies.items ≡ places.now) }
+{
+    let mut copies = Vec::with_capacity(alloc, places.len())?;
+    for place in places {
+        let numbers = Vec::from_slice(alloc, place.as_slice())?;
+        copies.push(Sequence::from_vec(numbers))?;
+    }
+    Ok(copies)
+}
+
+/// The deltas over regions, whose places are told by their positions.
+fn deltas_over(
+    alloc: Global,
+    regions: &[Region],
+    places: &[Location],
+    order: &[u32],
+    values: &[Fixed],
+) -> Result<Vec<i16>, DeltaError>
+    requires few { length regions.now < 2 ^ 32 }
+    requires one_each { length order.now ≡ length regions.now }
+    requires positions { All (λ i. i < length places.now) order.now }
+    requires one_length { EachIndex places.now (λ i. length (place_at places.now i) ≡ axis_count places.now) }
+    requires axes { EachIndex regions.now (λ i. length (region_at regions.now i).sides ≡ axis_count places.now) }
+    requires values { length values.now ≡ length places.now }
+    ensures { GivesDeltas result (deltas_after regions.now [] (map (place_at places.now) order.now) (map (value_at_place values.now) order.now)) }
+{
+    let mut deltas = Vec::with_capacity(alloc, order.len())?;
+    for (k, i) in order.iter().enumerate() {
+        let i = *i as usize;
+        let delta = next_delta(regions, deltas.as_slice(), places[i].as_slice(), values[i]);
+        match stored(delta) {
+            Some(small) => deltas.push(small)?,
+            None => {
+                let at = k as u32;
+                return Err(DeltaError::TooLarge { at, value: delta });
+            }
+        }
+    }
+    Ok(deltas)
+}
+
+/// The delta as it is stored, where it can be.
+fn stored(delta: i64) -> Option<i16>
+    ensures { MatchOption result (is_storable delta ≡ false) (λ small. (is_storable delta ≡ true) × (small ≡ delta)) }
+{
+    if -32768 <= delta && delta <= 32767 {
+        Some(delta as i16)
+    } else {
+        None
+    }
+}
+
+/// What a value lacks, after the earlier deltas, at its place, rounded.
+fn next_delta(regions: &[Region], deltas: &[i16], place: &[F2Dot14], value: Fixed) -> i64
+    requires few { length regions.now < 2 ^ 32 }
+    requires enough { length deltas.now < length regions.now }
+    requires axes { EachIndex regions.now (λ i. length place.now ≡ length (region_at regions.now i).sides) }
+    ensures { result ≡ half_up (value.0 -ℤ value_of regions.now deltas.now place.now) }
+{
+    round_half_up(i64::from(value.0) - value_of(regions, deltas, place))
+}
+
+/// The sum of deltas, each times the scalar of its region at a place.
+fn value_of(regions: &[Region], deltas: &[i16], place: &[F2Dot14]) -> i64
+    requires few { length regions.now < 2 ^ 32 }
+    requires enough { length deltas.now ≤ length regions.now }
+    requires axes { EachIndex regions.now (λ i. length place.now ≡ length (region_at regions.now i).sides) }
+    ensures value { result ≡ value_of regions.now deltas.now place.now }
+    ensures within { unsigned_abs result ≤ 2147483648 * length deltas.now }
+{
+    let mut sum = 0i64;
+    for (i, delta) in deltas.iter().enumerate() {
+        sum += term(&regions[i], *delta, place);
+    }
+    sum
+}
+
+/// A delta times the scalar of its region at a place.
+fn term(region: &Region, delta: i16, place: &[F2Dot14]) -> i64
+    requires { length place.now ≡ length region.now.sides }
+    ensures { result ≡ scalar_of region.now.sides place.now *ℤ delta }
+{
+    i64::from(scalar(region, place).0) * i64::from(delta)
+}

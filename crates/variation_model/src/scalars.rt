@@ -1,0 +1,46 @@
+ghost use Rattle.std.specs.Prelude.{◌≡◌, ◌-ℤ◌, length};
+ghost use Rattle.variation_model.specs.Scalar.{axis_scalar, scalar_of};
+
+use fixed_math::{F2Dot14, Fixed, mul, ratio};
+use font_ir::Region;
+
+/// By how much the deltas of a region count at a place, in 16.16, from 0 to 1 (OpenType 1.9, "Font variations common table
+/// formats"). The place has one coordinate per axis of the region. It takes no memory.
+pub fn scalar(region: &Region, at: &[F2Dot14]) -> Fixed
+    requires { length at.now ≡ length region.now.sides }
+    ensures { result.0 ≡ scalar_of region.now.sides at.now }
+{
+    let sides = region.sides.as_slice();
+    let mut product = Fixed(65536);
+    for (i, side) in sides.iter().enumerate() {
+        product = mul(product, on_axis(*side, at[i]));
+    }
+    product
+}
+
+/// The same on one axis, with its start, peak and end.
+fn on_axis(side: (F2Dot14, F2Dot14, F2Dot14), v: F2Dot14) -> Fixed
+    ensures { result.0 ≡ axis_scalar side v }
+{
+    let (start, peak, end) = side;
+    if peak.0 == 0 {
+        Fixed(65536)
+    } else if v.0 == peak.0 {
+        Fixed(65536)
+    } else if v.0 <= start.0 {
+        Fixed(0)
+    } else if end.0 <= v.0 {
+        Fixed(0)
+    } else if v.0 < peak.0 {
+        ratio(gap(start, v), gap(start, peak))
+    } else {
+        ratio(gap(v, end), gap(peak, end))
+    }
+}
+
+/// How far it is from one number to another.
+fn gap(from: F2Dot14, to: F2Dot14) -> i32
+    ensures { result ≡ to.0 -ℤ from.0 }
+{
+    i32::from(to.0) - i32::from(from.0)
+}
