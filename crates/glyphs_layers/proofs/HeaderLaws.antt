@@ -11,14 +11,9 @@ use Rattle.refusal_codes.specs.declared.first.Failure.{Failure}
 use Rattle.refusal_codes.specs.declared.rule.Rule.TheVariants.{WrongShape, MissingKey}
 use Rattle.refusal_codes.specs.First.{first_of, foremost, judged, refusal_of}
 use Rattle.refusal_codes.proofs.FirstLaws.{first_of_none}
+use Rattle.refusal_codes.proofs.JudgedLaws.{judged_ok}
 use Rattle.glyphs_source.specs.Values.{fails, items_at, is_dictionary, under_by}
 use Rattle.glyphs_source.specs.HeaderReading.{masters_failures_by, masters_failures, numbers_failures, design_forms_failures, feature_forms_failures, top_failures, header_failures, whole_rules_by, header_whole_failures, master_record, first_master, master_numbers, header_record, header_of}
-
--- what a job answers where it answers a value: no rule fails, and it is that value
-pub judged_ok : {Y : Type 0} (refusal : Failure → Refusal) (least whole : Option Failure) (value y : Y) → judged refusal least whole value ≡ Ok y → (least ≡ None) × (whole ≡ None) × (value ≡ y)
-judged_ok refusal (Some f) whole value y e = absurd cc
-judged_ok refusal None (Some f) value y e = absurd cc
-judged_ok refusal None None value y e = (refl, refl, cc)
 
 -- of two lists that are empty together the second is
 last_empty : (xs ys : List Failure) → xs ++ ys ≡ [] → ys ≡ []

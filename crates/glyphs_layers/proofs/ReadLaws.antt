@@ -23,6 +23,7 @@ use Rattle.refusal_codes.specs.declared.refusal.Refusal.{Refusal}
 use Rattle.refusal_codes.specs.declared.first.Failure.{Failure}
 use Rattle.refusal_codes.specs.First.{first_of, foremost, judged, refusal_of}
 use Rattle.refusal_codes.specs.Gives.{Gives}
+use Rattle.refusal_codes.proofs.JudgedLaws.{judged_ok}
 use Rattle.glyphs_source.specs.declared.decimals.Decimal.{Decimal}
 use Rattle.glyphs_source.specs.Decimals.{is_whole, is_natural_in}
 use Rattle.plist_reader.specs.Tree.{find_in}
@@ -30,7 +31,7 @@ use Rattle.glyphs_source.specs.Values.{place_at, decimal_at, natural_by, natural
 use Rattle.glyphs_source.specs.HeaderReading.{header_of, master_record}
 use Rattle.glyphs_layers.specs.LayerRules.{items_under, layer_numbers, layer_of, glyph_failures, glyph_whole_failures}
 use Rattle.glyphs_layers.specs.LayerReading.{contour_of, path_of, shapes_of, layer_record, master_layers, glyph_record, glyph_of, point_of, last_first}
-use Rattle.glyphs_layers.proofs.HeaderLaws.{judged_ok, header-masters, master_record-location}
+use Rattle.glyphs_layers.proofs.HeaderLaws.{header-masters, master_record-location}
 
 -- ---- single layers
 

@@ -6,3 +6,6 @@ mod layer_rules;
 mod layers;
 
 pub use glyph_layers::raw_glyph;
+
+#[cfg(test)]
+mod tests;
