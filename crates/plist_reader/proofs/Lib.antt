@@ -11,3 +11,4 @@ pub mod SpelledRests
 pub mod SpelledSteps
 pub mod SpelledRuns
 pub mod SpelledTexts
+pub mod RefusalLemmas

@@ -57,7 +57,7 @@ if_ok-bind P Q (Err e) f h k = tt
 -- ---- texts that end
 
 -- what the end of a text leaves
-abbrev EndsText : List TreeNode → List Open → Phase → ℕ → ℕ → List ℕ → Reader → Type 0
+abbrev pub EndsText : List TreeNode → List Open → Phase → ℕ → ℕ → List ℕ → Reader → Type 0
 EndsText nodes brackets phase at end text s = Good s × (s.token ≡ Between) × ((t : Tree) (cs : List ℕ) → Rest s t end cs → AfterText phase brackets t nodes at text end cs)
 
 ends_value : (nodes : List TreeNode) (brackets : List Open) (at end : ℕ) (text : List ℕ) → Good (settled (nodes ++ node at end (tree.Text text) ∷ []) brackets (length nodes)) × ((settled (nodes ++ node at end (tree.Text text) ∷ []) brackets (length nodes)).token ≡ Between) × ((t : Tree) (cs : List ℕ) → Rest (settled (nodes ++ node at end (tree.Text text) ∷ []) brackets (length nodes)) t end cs → After brackets t (nodes ++ node at end (tree.Text text) ∷ []) (length nodes) end cs)
@@ -71,7 +71,7 @@ back-key_ended nodes [] token at end text g = tt
 back-key_ended nodes (Items p done ∷ outer) token at end text g = tt
 back-key_ended nodes (Pairs d ∷ outer) token at end text g = if_ok-known (EndsText nodes (Pairs d ∷ outer) Key at end text) (is_among text d.keys) _ _ (λ _. tt) (λ e. ((tt, refl, refl), refl, λ t cs h. (e, h)))
 
-back-text_ended : (nodes : List TreeNode) (brackets : List Open) (phase : Phase) (token : Token) (at end : ℕ) (text : List ℕ) → CanBegin phase → Agrees phase brackets → IfOk (text_ended (in_token nodes brackets phase token text []) at end) (EndsText nodes brackets phase at end text)
+pub back-text_ended : (nodes : List TreeNode) (brackets : List Open) (phase : Phase) (token : Token) (at end : ℕ) (text : List ℕ) → CanBegin phase → Agrees phase brackets → IfOk (text_ended (in_token nodes brackets phase token text []) at end) (EndsText nodes brackets phase at end text)
 back-text_ended nodes brackets Value token at end text b g =
     let P : Result Reader Refusal → Type 0 = λ d. IfOk d (EndsText nodes brackets Value at end text) in
     subst P (sym (text-ended nodes brackets Value token at end text tt)) (ends_value nodes brackets at end text)
@@ -295,7 +295,7 @@ back-step_in nodes brackets phase (Escape at backslash escape) text bytes place 
 back-step_in nodes brackets phase (Bytes at) text bytes place c g = with_no_text nodes brackets phase (Bytes at) text bytes place c g.2 (back-in_bytes nodes brackets phase at place c bytes g.1 g.0)
 back-step_in nodes brackets phase (Half at high) text bytes place c g = with_no_text nodes brackets phase (Half at high) text bytes place c g.2 (back-in_half nodes brackets phase at high place c bytes g.1 g.0)
 
-back-step : (r : Reader) (place c : ℕ) → Good r → IfOk (step r place c) (Back r place c)
+pub back-step : (r : Reader) (place c : ℕ) → Good r → IfOk (step r place c) (Back r place c)
 unfolding step
 back-step r place c g = back-step_in r.nodes r.brackets r.phase r.token r.text r.bytes place c g
 
@@ -352,7 +352,7 @@ Spelled cs t = (v : grammar.Value) × IsTextOf v cs × (t ≡ tree_of v)
 from_zero : (v : grammar.Value) (gap text : List ℕ) → Spells v 0 (0 + width gap) text → Spells v 0 (width gap) text
 from_zero v gap text h = let P : ℕ → Type 0 = λ x. Spells v 0 x text in let e : 0 + width gap ≡ width gap = omega arith in subst P e h
 
-run-spelled : (cs : List ℕ) → IfOk (run start 0 cs) (Spelled cs)
+pub run-spelled : (cs : List ℕ) → IfOk (run start 0 cs) (Spelled cs)
 unfolding start
 run-spelled cs = IfOk-weaker (run (ready [] [] Value) 0 cs) (λ t. Rest (ready [] [] Value) t 0 cs) (Spelled cs)
     (λ t h. (h.value, record { gap = h.gap; text = h.text; after = h.rest; parts = h.parts; gap_spaces = h.spaces; spelled = from_zero h.value h.gap h.text h.spelled; after_spaces = h.onward.0 }, h.onward.1 ∙ ap (λ n. record { nodes = inner_of h.value 0 ++ own_of h.value 0 ∷ []; top = n }) (omega arith)))

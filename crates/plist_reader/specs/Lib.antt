@@ -3,4 +3,5 @@ pub mod Escapes
 pub mod Grammar
 pub mod Keys
 pub mod Reading
+pub mod Refusals
 pub mod Tree

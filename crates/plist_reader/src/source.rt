@@ -1,7 +1,8 @@
-ghost use Rattle.std.specs.Prelude.{◌≡◌, ◌≤◌, length, IfOk, Ok, List, ℕ};
+ghost use Rattle.std.specs.Prelude.{◌≡◌, ◌≤◌, length, IfOk, IfErr, Ok, List, ℕ};
 ghost use Rattle.refusal_codes.specs.Gives.{Gives};
 ghost use Rattle.plist_reader.specs.Tree.{IsTree, source_limit};
 ghost use Rattle.plist_reader.specs.Grammar.{HasTree};
+ghost use Rattle.plist_reader.specs.Refusals.{IsErrorOf};
 ghost use Rattle.plist_reader.specs.declared.tree.Tree.{Tree};
 ghost use Rattle.plist_reader.specs.Reading.{refusal, read_of, run, start};
 ghost use Rattle.std.specs.Str.{chars};
@@ -17,6 +18,8 @@ use std::str;
 /// The errors are those of memory, and one refusal for each text that is no property list, at the byte that explains it.
 pub fn read(alloc: Global, source: &[u8]) -> Result<Tree, ReadError>
     requires { length source.now ≤ source_limit }
+    // A refusal names the end of the text, or a character with which no text with a tree goes on.
+    ensures refused { IfErr result (IsErrorOf source.now) }
     // What it answers is what its definition computes.
     ensures exact { Gives (λ t. t) result (read_of source.now) }
     // What is read is spelled so by the grammar.
