@@ -1,6 +1,6 @@
 -- What is drawn fulfils what writers ask of a flat glyph.
-use Rattle.std.proofs.Common.{◌≡◌, ℕ, ◌+◌, ◌<◌, ◌≤◌, zero, suc, Bool, true, false, List, [], ◌∷◌, ◌++◌, length, get_or, map, Option, Some, None, Result, Ok, Err, refl, sym, ap, ◌∙◌, subst, arith}
-use Rattle.std.specs.Prelude.{not, ◌&&◌, ◌||◌, nat_le, nat_lt, flat_map, ℤ, pos, negsuc, neg_ℤ, ◌≤ℤ◌, unsigned_abs, if◌then◌else◌, IfOk}
+use Rattle.std.proofs.Common.{◌≡◌, ℕ, ◌<◌, ◌≤◌, suc, Bool, true, false, List, [], ◌∷◌, ◌++◌, length, get_or, map, None, Result, Ok, Err, refl, sym, ap, ◌∙◌, subst, arith}
+use Rattle.std.specs.Prelude.{not, ◌&&◌, ◌||◌, nat_le, flat_map, ℤ, pos, negsuc, neg_ℤ, ◌≤ℤ◌, unsigned_abs, if◌then◌else◌, IfOk}
 use Rattle.std.specs.List.{All, AllPairs, AllByRecursion, list_any, list_all}
 use Rattle.std.proofs.lemmas.Bool.{leb-true, ltb-false}
 use Rattle.std.proofs.lemmas.Int.{ints}
@@ -19,8 +19,6 @@ use Rattle.font_ir.specs.declared.glyph.FlatGlyph.{FlatGlyph}
 use Rattle.font_ir.specs.FlatGlyphs.{IsSmall, IsSmallFixed, IsSmallPoint, shape_of, point_count, IsFlatGlyph}
 use Rattle.font_ir.specs.ReadGlyphs.{ShapeForm, path_form, component_form, form_of, layer_form, HasPoints, IsReadGlyph}
 use Rattle.refusal_codes.specs.declared.errors.ReadError.{ReadError}
-use Rattle.refusal_codes.specs.declared.refusal.Refusal.{Refusal}
-use Rattle.refusal_codes.specs.declared.rule.Rule.TheVariants.{CoordinateTooLarge, TooManyPoints}
 use Rattle.refusal_codes.specs.declared.first.Failure.{Failure}
 use Rattle.refusal_codes.specs.First.{foremost, refusal_of}
 use Rattle.refusal_codes.specs.Gives.{Gives}

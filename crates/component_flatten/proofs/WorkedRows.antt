@@ -1,6 +1,6 @@
 -- Worked examples: what the job of a flat glyph answers for a triangle at one place.
-use Rattle.std.proofs.Common.{◌≡◌, ℕ, List, [], ◌∷◌, refl}
-use Rattle.std.specs.Prelude.{Result, Ok, Err, ℤ, pos, neg_ℤ, Bool, true, false, codes}
+use Rattle.std.proofs.Common.{◌≡◌, [], ◌∷◌, refl}
+use Rattle.std.specs.Prelude.{Ok, Err, ℤ, pos, neg_ℤ, true, codes}
 use Rattle.font_ir.specs.declared.glyph.DrawnPoint.{DrawnPoint}
 use Rattle.font_ir.specs.declared.glyph.Contour.{Contour}
 use Rattle.font_ir.specs.declared.glyph.Shape.TheVariants.{Path}

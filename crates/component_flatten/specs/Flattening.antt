@@ -1,6 +1,6 @@
 -- A glyph with its contours drawn (Glyphs file format, version 3; the limits are fontc's own). Components and anchors aren't
 -- built, so a glyph's drawn contours at a place are the paths of its layer there, in their order.
-use Rattle.std.specs.Prelude.{ℕ, Bool, not, ◌&&◌, nat_lt, nat_le, List, [], ◌∷◌, ◌++◌, length, map, flat_map, Option, None, Result, unsigned_abs, if◌then◌else◌}
+use Rattle.std.specs.Prelude.{ℕ, Bool, not, ◌&&◌, nat_lt, nat_le, List, [], ◌∷◌, ◌++◌, map, flat_map, None, Result, unsigned_abs, if◌then◌else◌}
 use Rattle.std.specs.List.{list_any, list_all}
 use Rattle.fixed_math.specs.declared.Fixed.{Fixed}
 use Rattle.font_ir.specs.declared.glyph.DrawnPoint.{DrawnPoint}

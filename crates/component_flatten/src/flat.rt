@@ -1,4 +1,4 @@
-ghost use Rattle.std.specs.Prelude.{◌≡◌, ◌<◌, length, slice_get, Err, IfOk, IfSome};
+ghost use Rattle.std.specs.Prelude.{◌≡◌, ◌<◌, [], length, slice_get, Err, IfOk, IfSome};
 ghost use Rattle.font_ir.specs.FlatGlyphs.{IsFlatGlyph};
 ghost use Rattle.font_ir.specs.ReadGlyphs.{IsReadGlyph, HasNoComponents, HasNoAnchors};
 ghost use Rattle.refusal_codes.specs.First.{foremost, refusal_of};
@@ -31,6 +31,8 @@ pub fn flatten(
     requires anchors { HasNoAnchors glyph.now }
     ensures record { IfSome (slice_get index.now glyph.now.number) (λ entry. Gives (λ flat. flat) result (flat_of entry.0 glyph.now)) }
     ensures flat { IfOk result IsFlatGlyph }
+    ensures places { IfOk result (λ flat. flat.places ≡ glyph.now.places) }
+    ensures kept { IfOk result (λ flat. flat.kept ≡ []) }
 {
     // A glyph without components has no bases.
     let _ = bases;
@@ -41,7 +43,9 @@ pub fn flatten(
 /// The glyph with its contours drawn, where it has this name.
 #[tactic(auto, unfolding(crate::specs::Flattening::flat_of))]
 fn draw(alloc: Global, glyph: &GlyphIr, name: &Name) -> Result<FlatGlyph, ReadError>
-    ensures { Gives (λ flat. flat) result (flat_of name.now glyph.now) }
+    ensures record { Gives (λ flat. flat) result (flat_of name.now glyph.now) }
+    ensures places { IfOk result (λ flat. flat.places ≡ glyph.now.places) }
+    ensures kept { IfOk result (λ flat. flat.kept ≡ []) }
 {
     let flat = record(alloc, glyph)?;
     match failure_in(&flat) {
@@ -81,7 +85,9 @@ fn refused(alloc: Global, name: &Name, failure: Failure) -> ReadError
 
 #[tactic(auto, unfolding(crate::specs::Flattening::flat_record))]
 fn record(alloc: Global, glyph: &GlyphIr) -> Result<FlatGlyph, AllocError>
-    ensures { IfOk result (λ flat. flat ≡ flat_record glyph.now) }
+    ensures record { IfOk result (λ flat. flat ≡ flat_record glyph.now) }
+    ensures places { IfOk result (λ flat. flat.places ≡ glyph.now.places) }
+    ensures kept { IfOk result (λ flat. flat.kept ≡ []) }
 {
     Ok(FlatGlyph {
         number: glyph.number,

@@ -1,4 +1,3 @@
-mod HeaderLaws
 mod LayerLoops
 mod ReadLaws
 mod Triangle

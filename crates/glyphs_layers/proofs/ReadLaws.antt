@@ -1,7 +1,7 @@
 -- What holds of each glyph whose layers are read: the limits that the readers above rely on.
-use Rattle.std.proofs.Common.{◌≡◌, ℕ, ◌+◌, ◌<◌, ◌≤◌, Bool, true, false, ◌&&◌, List, [], ◌∷◌, ◌++◌, length, map, Option, Some, None, Result, Ok, Err, refl, sym, ap, ◌∙◌, subst, arith, take, drop, ◌-◌}
-use Rattle.std.specs.Prelude.{codes, option_and_then, unwrap_or, is_some, flat_map, ℤ, pos, ◌≤ℤ◌, if◌then◌else◌, ◌==◌, nat_le, IfOk}
-use Rattle.std.specs.List.{All, AllPairs, Any, AllByRecursion, list_all}
+use Rattle.std.proofs.Common.{◌≡◌, ℕ, ◌<◌, ◌≤◌, Bool, true, false, ◌&&◌, List, [], ◌∷◌, ◌++◌, length, map, Option, Some, None, Result, Ok, Err, refl, sym, ◌∙◌, subst, arith, take, drop, ◌-◌}
+use Rattle.std.specs.Prelude.{codes, is_some, flat_map, pos, ◌≤ℤ◌, if◌then◌else◌, ◌==◌, IfOk}
+use Rattle.std.specs.List.{All, AllByRecursion}
 use Rattle.std.specs.Option.{option_map_or}
 use Rattle.std.proofs.lemmas.List.Elements.{All-from_recursion}
 use Rattle.std.proofs.lemmas.Bool.{eqb-false}
@@ -12,16 +12,14 @@ use Rattle.plist_reader.specs.declared.tree.Tree.{Tree}
 use Rattle.fixed_math.specs.declared.F2Dot14.{F2Dot14}
 use Rattle.font_ir.specs.declared.header.Header.{Header}
 use Rattle.font_ir.specs.declared.header.Master.{Master}
-use Rattle.font_ir.specs.declared.glyph.Shape.{Shape}
-use Rattle.font_ir.specs.declared.glyph.Shape.TheVariants.{Path, Component}
+use Rattle.font_ir.specs.declared.glyph.Shape.TheVariants.{Path}
 use Rattle.font_ir.specs.declared.glyph.LayerIr.{LayerIr}
 use Rattle.font_ir.specs.declared.glyph.GlyphIr.{GlyphIr}
 use Rattle.font_ir.specs.FlatGlyphs.{AreGlyphPlaces}
-use Rattle.font_ir.specs.ReadGlyphs.{IsReadGlyph, HasNoComponents, HasNoAnchors, HasPoints, IsPath, layer_form}
+use Rattle.font_ir.specs.ReadGlyphs.{IsReadGlyph, HasNoComponents, HasNoAnchors, HasPoints, IsPath}
 use Rattle.refusal_codes.specs.declared.errors.ReadError.{ReadError}
-use Rattle.refusal_codes.specs.declared.refusal.Refusal.{Refusal}
 use Rattle.refusal_codes.specs.declared.first.Failure.{Failure}
-use Rattle.refusal_codes.specs.First.{first_of, foremost, judged, refusal_of}
+use Rattle.refusal_codes.specs.First.{first_of, foremost, refusal_of}
 use Rattle.refusal_codes.specs.Gives.{Gives}
 use Rattle.refusal_codes.proofs.JudgedLaws.{judged_ok}
 use Rattle.glyphs_source.specs.declared.decimals.Decimal.{Decimal}
@@ -30,8 +28,8 @@ use Rattle.plist_reader.specs.Tree.{find_in}
 use Rattle.glyphs_source.specs.Values.{place_at, decimal_at, natural_by, natural_in, natural_or}
 use Rattle.glyphs_source.specs.HeaderReading.{header_of, master_record}
 use Rattle.glyphs_layers.specs.LayerRules.{items_under, layer_numbers, layer_of, glyph_failures, glyph_whole_failures}
-use Rattle.glyphs_layers.specs.LayerReading.{contour_of, path_of, shapes_of, layer_record, master_layers, glyph_record, glyph_of, point_of, last_first}
-use Rattle.glyphs_layers.proofs.HeaderLaws.{header-masters, master_record-location}
+use Rattle.glyphs_layers.specs.LayerReading.{contour_of, path_of, shapes_of, layer_record, glyph_record, glyph_of, point_of, last_first}
+use Rattle.glyphs_source.proofs.HeaderLaws.{header-masters, master_record-location}
 
 -- ---- single layers
 

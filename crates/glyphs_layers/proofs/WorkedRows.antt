@@ -1,12 +1,9 @@
 -- Worked examples: what the job of a glyph's layers answers for the triangle, whose dictionary is the value 40, and for
 -- variants of it.
-use Rattle.std.proofs.Common.{◌≡◌, ℕ, List, [], ◌∷◌, refl}
-use Rattle.std.specs.Prelude.{Result, Ok, Err, ℤ, pos, neg_ℤ, Bool, true, codes}
+use Rattle.std.proofs.Common.{◌≡◌, ℕ, [], ◌∷◌, refl}
+use Rattle.std.specs.Prelude.{Result, Ok, Err, ℤ, pos, true, codes}
 use Rattle.font_ir.specs.declared.glyph.DrawnPoint.{DrawnPoint}
-use Rattle.font_ir.specs.declared.glyph.Contour.{Contour}
-use Rattle.font_ir.specs.declared.glyph.Shape.{Shape}
 use Rattle.font_ir.specs.declared.glyph.Shape.TheVariants.{Path}
-use Rattle.font_ir.specs.declared.glyph.LayerIr.{LayerIr}
 use Rattle.font_ir.specs.declared.glyph.GlyphIr.{GlyphIr}
 use Rattle.plist_reader.specs.declared.tree.Tree.{Tree}
 use Rattle.refusal_codes.specs.declared.refusal.Refusal.{Refusal}

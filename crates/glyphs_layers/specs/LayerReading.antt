@@ -1,6 +1,6 @@
 -- What a glyph's layers say (Glyphs file format, version 3; that the last node stored is where a contour starts is fontc's
 -- own reading).
-use Rattle.std.specs.Prelude.{ℕ, ◌-◌, ◌*◌, ◌&&◌, ◌==◌, nat_le, Bool, true, List, [], ◌∷◌, ◌++◌, length, take, drop, map, flat_map, slice_index, codes, Option, Some, None, Result, ℤ, pos, neg_ℤ, option_and_then, if◌then◌else◌}
+use Rattle.std.specs.Prelude.{ℕ, ◌-◌, ◌*◌, ◌&&◌, ◌==◌, nat_le, true, List, [], ◌∷◌, ◌++◌, length, take, drop, map, flat_map, slice_index, codes, Option, Some, None, Result, ℤ, pos, neg_ℤ, if◌then◌else◌}
 use Rattle.std.specs.Option.{option_map_or}
 use Rattle.plist_reader.specs.declared.tree.Tree.{Tree}
 use Rattle.fixed_math.specs.declared.Fixed.{Fixed}

@@ -31,6 +31,7 @@ pub fn raw_glyph(
     ensures record { IfSome (slice_get index.now number)
         (λ entry. Gives (λ glyph. glyph) result (glyph_of tree.now header.now.masters entry.0 number entry.1.node)) }
     ensures number { IfOk result (λ glyph. glyph.number ≡ number) }
+    ensures places { IfOk result (λ glyph. glyph.places ≡ map (λ master. master.location) header.now.masters) }
     ensures read { IfOk result IsReadGlyph }
     ensures components { IfOk result HasNoComponents }
     ensures anchors { IfOk result HasNoAnchors }
@@ -57,7 +58,8 @@ fn read_glyph(
     glyph: u32,
 ) -> Result<GlyphIr, ReadError>
     requires { length masters.now < 2 ^ 32 }
-    ensures { Gives (λ glyph. glyph) result (glyph_of tree.now masters.now name.now number glyph) }
+    ensures record { Gives (λ glyph. glyph) result (glyph_of tree.now masters.now name.now number glyph) }
+    ensures places { IfOk result (λ read. read.places ≡ map (λ master. master.location) masters.now) }
 {
     let mut first = FirstFailure::new();
     note_glyph(tree, masters, glyph, &mut first);
@@ -90,7 +92,8 @@ fn record(
     glyph: u32,
 ) -> Result<GlyphIr, AllocError>
     requires { length masters.now < 2 ^ 32 }
-    ensures { IfOk result (λ read. read ≡ glyph_record tree.now masters.now number glyph) }
+    ensures record { IfOk result (λ read. read ≡ glyph_record tree.now masters.now number glyph) }
+    ensures places { IfOk result (λ read. read.places ≡ map (λ master. master.location) masters.now) }
 {
     Ok(GlyphIr {
         number,

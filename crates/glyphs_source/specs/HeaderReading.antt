@@ -1,6 +1,6 @@
 -- What a source says of the whole font, and the rules that it may fail there (Glyphs file format, version 3; the rules
 -- and the defaults are fontc's own). One master is read, without axes: a form that isn't built is of a wrong shape.
-use Rattle.std.specs.Prelude.{ℕ, ◌*◌, ◌/◌, Bool, not, ◌&&◌, ◌||◌, ◌==◌, nat_lt, List, [], ◌∷◌, ◌++◌, length, slice_get, flat_map, Option, Some, None, Result, pos, ◌-ℤ◌, codes, option_and_then, unwrap_or, if◌then◌else◌}
+use Rattle.std.specs.Prelude.{◌≡◌, ℕ, ◌*◌, ◌/◌, ◌≤◌, Bool, not, ◌&&◌, ◌||◌, ◌==◌, nat_lt, List, [], ◌∷◌, ◌++◌, length, slice_get, map, flat_map, Option, Some, None, Result, pos, ◌-ℤ◌, codes, option_and_then, unwrap_or, if◌then◌else◌}
 use Rattle.std.specs.Option.{option_map_or}
 use Rattle.plist_reader.specs.declared.tree.Tree.{Tree}
 use Rattle.plist_reader.specs.Tree.{find_in}
@@ -174,3 +174,18 @@ header_record t = record {
 -- what the job of the header answers: it is of stratum 0 and kind 1, and without a name
 unfoldable pub header_of : Tree → Result Header Refusal
 header_of t = judged (refusal_of 0 1 []) (first_of (header_failures t)) (foremost (header_whole_failures t)) (header_record t)
+
+-- ---- what each header that is read fulfils
+
+-- its numbers are in their ranges
+pub record HasSmallNumbers (header : Header) : Type 0 where
+  pub units : header.upem ≤ 16384
+  pub major : header.major ≤ 32767
+  pub minor : header.minor ≤ 999
+
+-- one master, which is the default one, and no axes
+pub record IsReadHeader (header : Header) : Type 0 where
+  pub numbers : HasSmallNumbers header
+  pub one_master : map (λ master. master.location) header.masters ≡ [] ∷ []
+  pub no_axes : header.axes ≡ []
+  pub origin : header.origin ≡ 0

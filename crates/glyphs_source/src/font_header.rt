@@ -3,7 +3,7 @@ ghost use Rattle.plist_reader.specs.Tree.{IsTree};
 ghost use Rattle.refusal_codes.specs.declared.errors.ReadError.TheVariants as read_errors;
 ghost use Rattle.refusal_codes.specs.First.{refusal_of};
 ghost use Rattle.refusal_codes.specs.Gives.{Gives};
-ghost use Rattle.glyphs_source.specs.HeaderReading.{units_per_em, master_record, first_master, master_numbers, place_under, header_record, header_of};
+ghost use Rattle.glyphs_source.specs.HeaderReading.{units_per_em, master_record, first_master, master_numbers, place_under, header_record, header_of, HasSmallNumbers, IsReadHeader};
 
 use crate::header_rules::{note_header, whole_failure};
 use crate::keys::{copied, natural_or, text_under};
@@ -21,7 +21,8 @@ use std::alloc::{AllocError, Global};
 #[tactic(auto, unfolding(crate::specs::HeaderReading::header_of))]
 pub fn header(alloc: Global, tree: &Tree) -> Result<Header, ReadError>
     requires { IsTree tree.now }
-    ensures { Gives (λ header. header) result (header_of tree.now) }
+    ensures record { Gives (λ header. header) result (header_of tree.now) }
+    ensures read { IfOk result IsReadHeader }
 {
     let mut first = FirstFailure::new();
     note_header(tree, &mut first);
@@ -43,7 +44,8 @@ fn refused(alloc: Global, failure: Failure) -> ReadError
 
 #[tactic(auto, unfolding(crate::specs::HeaderReading::header_record))]
 fn record(alloc: Global, tree: &Tree) -> Result<Header, AllocError>
-    ensures { IfOk result (λ header. header ≡ header_record tree.now) }
+    ensures record { IfOk result (λ header. header ≡ header_record tree.now) }
+    ensures numbers { IfOk result HasSmallNumbers }
 {
     let family = copied(alloc, text_under(tree, tree.top, b"familyName"))?;
     let masters = masters(alloc, tree, master_numbers(tree))?;

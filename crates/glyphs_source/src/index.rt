@@ -36,10 +36,12 @@ impl Model for GlyphIndex {
 
 impl GlyphIndex {
     ghost use Rattle.std.specs.Map.{lookup};
+    ghost use Rattle.std.specs.List.{IsDistinct};
 
-    /// How many glyphs there are.
+    /// How many glyphs there are. No two have the same name.
     pub fn len(&self) -> usize
-        ensures { result ≡ length self.now }
+        ensures len { result ≡ length self.now }
+        ensures different { IsDistinct (pointwise nat_eq) (keys_of self.now) }
     {
         self.entries.len()
     }
@@ -70,10 +72,11 @@ impl GlyphIndex {
 ///
 /// The error is the least failure by place, then by rule, of the rules of single values; where none of them fails, it is
 /// the first glyph whose name an earlier one has, or else the first in which a code stands again among those exported.
-#[tactic(auto, unfolding(crate::specs::IndexReading::index_of))]
+#[tactic(auto, using(crate::proofs::IndexLaws::entries_from_length), unfolding(crate::specs::IndexReading::index_of))]
 pub fn glyph_index(alloc: Global, tree: &Tree) -> Result<GlyphIndex, ReadError>
     requires { IsTree tree.now }
-    ensures { Gives (λ index. index) result (index_of tree.now) }
+    ensures entries { Gives (λ index. index) result (index_of tree.now) }
+    ensures few { IfOk result (λ index. length index < 2 ^ 32) }
 {
     let mut first = FirstFailure::new();
     note_index(tree, &mut first);

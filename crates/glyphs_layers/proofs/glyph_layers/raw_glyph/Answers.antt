@@ -1,6 +1,6 @@
-use Rattle.std.proofs.Common.{◌≡◌, ◌<◌, ◌^◌, length, subst, sym, List}
+use Rattle.std.proofs.Common.{◌<◌, ◌^◌, length, subst, sym, List}
 use Rattle.font_ir.specs.declared.header.Master.{Master}
-use Rattle.glyphs_layers.proofs.HeaderLaws.{few_masters}
+use Rattle.glyphs_source.proofs.HeaderLaws.{few_masters}
 use Rattle.glyphs_layers.proofs.ReadLaws.{read_facts, read_number, read_read, read_components, read_anchors}
 use Rattle.glyphs_layers.proofs.glyph_layers.raw_glyph.Goals as goal
 
@@ -11,19 +11,19 @@ read_glyph-requires c =
 pub returns-clause-number : goal.returns-clause-number
 returns-clause-number c =
     read_number c.args.number c.read_glyph.result
-    (read_facts c.args.tree.now c.args.header.now c.requires.header c.as_slice.result.now c.as_slice.ensures _ c.args.number _ c.read_glyph.result c.read_glyph.ensures)
+    (read_facts c.args.tree.now c.args.header.now c.requires.header c.as_slice.result.now c.as_slice.ensures _ c.args.number _ c.read_glyph.result c.read_glyph.ensures.record)
 
 pub returns-clause-read : goal.returns-clause-read
 returns-clause-read c =
     read_read c.args.number c.read_glyph.result
-    (read_facts c.args.tree.now c.args.header.now c.requires.header c.as_slice.result.now c.as_slice.ensures _ c.args.number _ c.read_glyph.result c.read_glyph.ensures)
+    (read_facts c.args.tree.now c.args.header.now c.requires.header c.as_slice.result.now c.as_slice.ensures _ c.args.number _ c.read_glyph.result c.read_glyph.ensures.record)
 
 pub returns-clause-components : goal.returns-clause-components
 returns-clause-components c =
     read_components c.args.number c.read_glyph.result
-    (read_facts c.args.tree.now c.args.header.now c.requires.header c.as_slice.result.now c.as_slice.ensures _ c.args.number _ c.read_glyph.result c.read_glyph.ensures)
+    (read_facts c.args.tree.now c.args.header.now c.requires.header c.as_slice.result.now c.as_slice.ensures _ c.args.number _ c.read_glyph.result c.read_glyph.ensures.record)
 
 pub returns-clause-anchors : goal.returns-clause-anchors
 returns-clause-anchors c =
     read_anchors c.args.number c.read_glyph.result
-    (read_facts c.args.tree.now c.args.header.now c.requires.header c.as_slice.result.now c.as_slice.ensures _ c.args.number _ c.read_glyph.result c.read_glyph.ensures)
+    (read_facts c.args.tree.now c.args.header.now c.requires.header c.as_slice.result.now c.as_slice.ensures _ c.args.number _ c.read_glyph.result c.read_glyph.ensures.record)

@@ -1,6 +1,5 @@
-use Rattle.std.proofs.Common.{arith, ap, ◌∙◌, ◌≡◌, Option}
+use Rattle.std.proofs.Common.{arith, ap, ◌∙◌}
 use Rattle.refusal_codes.specs.First.{noted}
-use Rattle.refusal_codes.specs.declared.first.Failure.{Failure}
 use Rattle.font_ir.specs.declared.header.Master.{Master}
 use Rattle.glyphs_layers.specs.LayerRules.{master_failures}
 use Rattle.glyphs_layers.proofs.LayerLoops.{noted_turn}

@@ -1,19 +1,18 @@
 -- A header that is read has one master, at no axis.
-use Rattle.std.proofs.Common.{◌≡◌, ℕ, ◌+◌, ◌<◌, ◌≤◌, ◌^◌, Bool, true, false, List, [], ◌∷◌, ◌++◌, length, Option, Some, None, Result, Ok, Err, refl, sym, ap, ◌∙◌, subst, arith, lit<}
+use Rattle.std.proofs.Common.{◌≡◌, ℕ, ◌<◌, ◌^◌, Bool, true, false, List, [], ◌∷◌, ◌++◌, length, map, Option, Some, None, Ok, refl, sym, ap, ◌∙◌, subst, lit<}
 use Rattle.std.specs.Prelude.{codes, option_and_then, unwrap_or, if◌then◌else◌}
 use Rattle.std.specs.Option.{option_map_or}
 use Rattle.plist_reader.specs.declared.tree.Tree.{Tree}
 use Rattle.plist_reader.specs.Tree.{find_in}
 use Rattle.font_ir.specs.declared.header.Header.{Header}
 use Rattle.font_ir.specs.declared.header.Master.{Master}
-use Rattle.refusal_codes.specs.declared.refusal.Refusal.{Refusal}
 use Rattle.refusal_codes.specs.declared.first.Failure.{Failure}
-use Rattle.refusal_codes.specs.declared.rule.Rule.TheVariants.{WrongShape, MissingKey}
-use Rattle.refusal_codes.specs.First.{first_of, foremost, judged, refusal_of}
+use Rattle.refusal_codes.specs.declared.rule.Rule.TheVariants.{MissingKey}
+use Rattle.refusal_codes.specs.First.{first_of, foremost, refusal_of}
 use Rattle.refusal_codes.proofs.FirstLaws.{first_of_none}
 use Rattle.refusal_codes.proofs.JudgedLaws.{judged_ok}
 use Rattle.glyphs_source.specs.Values.{fails, items_at, is_dictionary, under_by}
-use Rattle.glyphs_source.specs.HeaderReading.{masters_failures_by, masters_failures, numbers_failures, design_forms_failures, feature_forms_failures, top_failures, header_failures, whole_rules_by, header_whole_failures, master_record, first_master, master_numbers, header_record, header_of}
+use Rattle.glyphs_source.specs.HeaderReading.{HasSmallNumbers, IsReadHeader, masters_failures_by, masters_failures, numbers_failures, design_forms_failures, feature_forms_failures, top_failures, header_failures, whole_rules_by, header_whole_failures, master_record, first_master, master_numbers, header_record, header_of}
 
 -- of two lists that are empty together the second is
 last_empty : (xs ys : List Failure) → xs ++ ys ≡ [] → ys ≡ []
@@ -60,3 +59,26 @@ few_masters t h e = let found = header-masters t h e in subst (λ (ms : List Mas
 pub master_record-location : (t : Tree) (m : ℕ) → (master_record t m).location ≡ []
 unfolding master_record
 master_record-location t m = refl
+
+located : (t : Tree) (m : ℕ) (ms : List Master) → ms ≡ master_record t m ∷ [] → map (λ (master : Master). master.location) ms ≡ [] ∷ []
+unfolding master_record
+located t m ms e = ap (map (λ (master : Master). master.location)) e
+
+no_axes : (t : Tree) → (header_record t).axes ≡ []
+unfolding header_record
+no_axes t = refl
+
+first_origin : (t : Tree) → (header_record t).origin ≡ 0
+unfolding header_record
+first_origin t = refl
+
+-- what a header that is read fulfils
+pub read_header : (t : Tree) (h : Header) → h ≡ header_record t → first_of (header_failures t) ≡ None → foremost (header_whole_failures t) ≡ None → HasSmallNumbers h → IsReadHeader h
+read_header t h is local whole numbers =
+    let found = one_master t local whole in
+    record {
+      numbers = numbers;
+      one_master = located t found.0 h.masters (ap (λ (x : Header). x.masters) is ∙ found.1);
+      no_axes = ap (λ (x : Header). x.axes) is ∙ no_axes t;
+      origin = ap (λ (x : Header). x.origin) is ∙ first_origin t;
+    }
