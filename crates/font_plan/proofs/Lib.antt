@@ -1,0 +1,4 @@
+pub mod DrawnLaws
+pub mod Names
+pub mod Steps
+pub mod TableLaws

@@ -1,0 +1,101 @@
+ghost use Rattle.std.specs.Prelude.{◌≡◌, ◌≤◌, ◌<◌, ◌^◌, length, Ok};
+ghost use Rattle.std.specs.List.{All};
+ghost use Rattle.plist_reader.specs.Tree.{IsTree};
+ghost use Rattle.refusal_codes.specs.Gives.{Compiles};
+ghost use Rattle.glyphs_source.specs.HeaderReading.{IsReadHeader};
+ghost use Rattle.metrics_tables.specs.Measuring.{glyphs_of};
+ghost use Rattle.font_plan.specs.Drawn.{IsDrawn};
+ghost use Rattle.font_plan.specs.Font.{font_of, tree_font, source_too_large, too_many_glyphs, glyphs_font, written, order_in};
+
+use crate::glyphs::glyphs_in;
+use crate::order::order_in;
+use crate::written::write_font;
+use font_ir::{FlatGlyph, Header};
+use glyphs_source::{GlyphIndex, glyph_index, header};
+use plain_lists::Text;
+use plist_reader::{Tree, read};
+use refusal_codes::{CompileError, Refusal, Rule};
+use std::alloc::Global;
+use std::sync::Arc;
+
+/// The most glyphs that a font may have.
+const GLYPH_LIMIT: usize = 65535;
+
+/// A font that was compiled.
+#[derive(Debug, Drop)]
+pub struct Built {
+    /// The bytes of the font.
+    pub font: Vec<u8>,
+}
+
+/// Compiles a source of at most 67,108,864 bytes.
+///
+/// It answers the font of an accepted source, and a refusal for every other one. Of several rules that a source fails it
+/// names the one that its parts meet first: the property list, the header, the index, then glyph by glyph, and last the font.
+#[tactic(auto, unfolding(crate::specs::Font::font_of))]
+pub fn compile_one(alloc: Global, source: &[u8]) -> Result<Built, CompileError>
+    requires { length source.now ≤ 67108864 }
+    ensures { Compiles (λ built. built.font.items) result (font_of source.now) }
+{
+    let tree = read(alloc, source)?;
+    let font = compile_tree(alloc, &tree)?;
+    Ok(Built { font })
+}
+
+/// The font of a source's property list.
+#[tactic(auto, unfolding(crate::specs::Font::tree_font))]
+fn compile_tree(alloc: Global, tree: &Tree) -> Result<Vec<u8>, CompileError>
+    requires { IsTree tree.now }
+    ensures { Compiles (λ font. font.items) result (tree_font tree.now) }
+{
+    let header = header(alloc, tree)?;
+    let index = glyph_index(alloc, tree)?;
+    let glyphs = glyphs_in(alloc, tree, &header, &index)?;
+    compile_glyphs(alloc, &header, &index, glyphs.as_slice())
+}
+
+/// The font of these glyphs, where there are not too many.
+fn compile_glyphs(
+    alloc: Global,
+    header: &Header,
+    index: &GlyphIndex,
+    glyphs: &[Arc<FlatGlyph>],
+) -> Result<Vec<u8>, CompileError>
+    requires header { IsReadHeader header.now }
+    requires few { length index.now < 2 ^ 32 }
+    requires drawn { All (IsDrawn header.now) (glyphs_of glyphs.now) }
+    requires order { length glyphs.now ≡ length (order_in index.now).names }
+    ensures { Compiles (λ font. font.items) result (glyphs_font header.now (glyphs_of glyphs.now)) }
+{
+    if glyphs.len() > GLYPH_LIMIT {
+        return Err(CompileError::Refused(too_many_glyphs(alloc, glyphs.len() as u64)));
+    }
+    let order = order_in(alloc, index)?;
+    write_font(alloc, header, &order, glyphs)
+}
+
+/// The refusal of too many glyphs: the job of the order is of stratum 2 and kind 9, and has no name.
+fn too_many_glyphs(alloc: Global, count: u64) -> Refusal
+    ensures { result ≡ too_many_glyphs count }
+{
+    Refusal {
+        stratum: 2,
+        kind: 9,
+        name: Text::new(alloc),
+        rule: Rule::TooManyGlyphs,
+        place: count,
+    }
+}
+
+/// The refusal of a source that has more than 67,108,864 bytes. It takes no memory.
+pub fn source_too_large(alloc: Global) -> Refusal
+    ensures { result ≡ source_too_large }
+{
+    Refusal {
+        stratum: 0,
+        kind: 0,
+        name: Text::new(alloc),
+        rule: Rule::TooLarge,
+        place: 67_108_864,
+    }
+}
