@@ -2,3 +2,4 @@ pub mod DrawnLaws
 pub mod Names
 pub mod Steps
 pub mod TableLaws
+pub mod TooLarge

@@ -1,11 +1,11 @@
-ghost use Rattle.std.specs.Prelude.{◌≡◌, ◌≤◌, ◌<◌, ◌^◌, length, Ok};
+ghost use Rattle.std.specs.Prelude.{◌≡◌, ◌≤◌, ◌<◌, ◌^◌, ℕ, List, length, Ok, Err};
 ghost use Rattle.std.specs.List.{All};
 ghost use Rattle.plist_reader.specs.Tree.{IsTree};
 ghost use Rattle.refusal_codes.specs.Gives.{Compiles};
 ghost use Rattle.glyphs_source.specs.HeaderReading.{IsReadHeader};
 ghost use Rattle.metrics_tables.specs.Measuring.{glyphs_of};
 ghost use Rattle.font_plan.specs.Drawn.{IsDrawn};
-ghost use Rattle.font_plan.specs.Font.{font_of, tree_font, source_too_large, too_many_glyphs, glyphs_font, written, order_in};
+ghost use Rattle.font_plan.specs.Font.{font_of, tree_font, too_many_glyphs, glyphs_font, written, order_in};
 
 use crate::glyphs::glyphs_in;
 use crate::order::order_in;
@@ -88,8 +88,9 @@ fn too_many_glyphs(alloc: Global, count: u64) -> Refusal
 }
 
 /// The refusal of a source that has more than 67,108,864 bytes. It takes no memory.
+#[tactic(auto, using(crate::proofs::TooLarge::too_large_refused))]
 pub fn source_too_large(alloc: Global) -> Refusal
-    ensures { result ≡ source_too_large }
+    ensures { (source : List ℕ) → 67108864 < length source → font_of source ≡ Err result }
 {
     Refusal {
         stratum: 0,

@@ -1,0 +1,4 @@
+pub mod Commands
+pub mod Runs
+pub mod Statuses
+pub mod Words

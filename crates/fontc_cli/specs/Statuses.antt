@@ -1,0 +1,13 @@
+-- The exit status of each way in which a run can end. fontc's own: 3 and 6 are kept for faults of a font that is inspected
+-- and of the console.
+use Rattle.std.specs.Prelude.{ℕ}
+use Rattle.fontc_cli.specs.declared.status.Status.{Status}
+use Rattle.fontc_cli.specs.declared.status.Status.TheVariants.{Done, Usage, Refused, ReadFault, WriteFault, NoMemory}
+
+abbrev pub exit_code : Status → ℕ
+exit_code Done = 0
+exit_code Usage = 1
+exit_code (Refused r) = 2
+exit_code ReadFault = 4
+exit_code WriteFault = 5
+exit_code NoMemory = 7

@@ -1,0 +1,9 @@
+//! The commands of fontc: their words, and what each reads, compiles and writes.
+#![tactic(auto)]
+
+mod command;
+mod runs;
+mod status;
+
+pub use runs::{run, run_alone};
+pub use status::{Report, Status};

@@ -1,0 +1,81 @@
+ghost use Rattle.std.specs.Prelude.{◌≡◌, ◌≤◌, map, length, IfSome};
+ghost use Rattle.std.specs.String.{string_bytes};
+ghost use Rattle.outside_io.specs.Files.{told_bytes};
+ghost use Rattle.fontc_cli.specs.Commands.{command_of};
+ghost use Rattle.fontc_cli.specs.Runs.{BuildEnds, RunEnds, IsComplete, outside};
+ghost use Rattle.fontc_cli.specs.Words.{shown};
+
+use crate::command::{BuildCommand, read_command};
+use crate::status::{Report, Status};
+use font_plan::{compile_one, source_too_large};
+use outside_io::{Console, Files, Gate};
+use refusal_codes::CompileError;
+use std::alloc::Global;
+use whole_files::{ReadWholeError, read_whole, write_whole};
+
+/// The most bytes that a source may have.
+const SOURCE_LIMIT: usize = 67_108_864;
+
+/// Runs the command that the words are, over these files and this console.
+pub fn run<F: Files, C: Console, G: Gate + Sync>(
+    alloc: Global,
+    words: &[String],
+    files: &mut F,
+    console: &mut C,
+    _gate: &G,
+) -> Report
+    ensures ends { RunEnds (command_of (map string_bytes words.now)) result.status (outside F.holds F.failed_reads F.failed_writes files.old) (outside F.holds F.failed_reads F.failed_writes files.new) }
+    ensures complete { IsComplete (command_of (map string_bytes words.now)) result.status (outside F.holds F.failed_reads F.failed_writes files.old) (outside F.holds F.failed_reads F.failed_writes files.new) }
+{
+    run_alone(alloc, words, files, console)
+}
+
+/// Runs the command that the words are, over these files and this console. It waits for nobody.
+pub fn run_alone<F: Files, C: Console>(
+    alloc: Global,
+    words: &[String],
+    files: &mut F,
+    _console: &mut C,
+) -> Report
+    ensures ends { RunEnds (command_of (map string_bytes words.now)) result.status (outside F.holds F.failed_reads F.failed_writes files.old) (outside F.holds F.failed_reads F.failed_writes files.new) }
+    ensures complete { IsComplete (command_of (map string_bytes words.now)) result.status (outside F.holds F.failed_reads F.failed_writes files.old) (outside F.holds F.failed_reads F.failed_writes files.new) }
+{
+    let status = match read_command(words) {
+        None => Status::Usage,
+        Some(command) => build(alloc, command, files),
+    };
+    Report { status }
+}
+
+/// Compiles the source at one path and writes its font to another.
+fn build<F: Files>(alloc: Global, command: BuildCommand<'_>, files: &mut F) -> Status
+    ensures { BuildEnds (shown command.entry) result (outside F.holds F.failed_reads F.failed_writes files.old) (outside F.holds F.failed_reads F.failed_writes files.new) }
+{
+    match read_whole(alloc, files, command.source, SOURCE_LIMIT) {
+        Ok(source) => build_source(alloc, command, files, source.as_slice()),
+        Err(ReadWholeError::TooLong) => Status::Refused(source_too_large(alloc)),
+        Err(ReadWholeError::Failed) => Status::ReadFault,
+        Err(ReadWholeError::NoMemory) => Status::NoMemory,
+    }
+}
+
+/// Compiles a source that was read, and writes its font.
+fn build_source<F: Files>(
+    alloc: Global,
+    command: BuildCommand<'_>,
+    files: &mut F,
+    source: &[u8],
+) -> Status
+    requires fits { length source.now ≤ 67108864 }
+    requires read { IfSome (told_bytes (F.holds files.old command.source.now)) (λ bytes. source.now ≡ bytes) }
+    ensures { BuildEnds (shown command.entry) result (outside F.holds F.failed_reads F.failed_writes files.old) (outside F.holds F.failed_reads F.failed_writes files.new) }
+{
+    match compile_one(alloc, source) {
+        Ok(built) => match write_whole(files, command.output, built.font.as_slice()) {
+            Ok(()) => Status::Done,
+            Err(_) => Status::WriteFault,
+        },
+        Err(CompileError::Refused(refusal)) => Status::Refused(refusal),
+        Err(CompileError::NoMemory) => Status::NoMemory,
+    }
+}

@@ -1,0 +1,43 @@
+ghost use Rattle.std.specs.Prelude.{◌≡◌};
+ghost use Rattle.fontc_cli.specs.Statuses.{exit_code};
+
+use refusal_codes::Refusal;
+
+/// How a run ended.
+#[derive(Debug, Drop)]
+pub enum Status {
+    /// The font was written.
+    Done,
+    /// The words are no command.
+    Usage,
+    /// The source fails a rule.
+    Refused(Refusal),
+    /// The source could not be read.
+    ReadFault,
+    /// The font could not be written.
+    WriteFault,
+    /// Memory ran out.
+    NoMemory,
+}
+
+impl Status {
+    /// The program's exit status.
+    pub fn code(&self) -> u8
+        ensures { result ≡ exit_code self.now }
+    {
+        match self {
+            Status::Done => 0,
+            Status::Usage => 1,
+            Status::Refused(_) => 2,
+            Status::ReadFault => 4,
+            Status::WriteFault => 5,
+            Status::NoMemory => 7,
+        }
+    }
+}
+
+/// What a run answers.
+#[derive(Debug, Drop)]
+pub struct Report {
+    pub status: Status,
+}
