@@ -1,0 +1,7 @@
+pub mod NearestLemmas
+pub mod CoordinateLemmas
+pub mod PairLemmas
+pub mod FallLemmas
+pub mod LineLemmas
+pub mod PointLemmas
+pub mod Rows

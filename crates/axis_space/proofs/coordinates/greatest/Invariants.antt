@@ -1,0 +1,6 @@
+use Rattle.std.proofs.Common.{◌≡◌, take}
+use Rattle.axis_space.specs.Coordinates.{greatest_on}
+use Rattle.axis_space.proofs.coordinates.greatest.Given as goal
+
+abbrev pub invariant-loop-master : goal.invariant-loop-master
+invariant-loop-master l = l.high ≡ greatest_on l.kind l.axis l.fn.from.0 (take l.master-index l.masters)
