@@ -1,5 +1,5 @@
 -- The least and the greatest coordinate of an axis are at the ends, and how pairs follow from coordinates.
-use Rattle.std.proofs.Common.{◌≡◌, ℕ, ◌+◌, ◌<◌, arith, refl, sym, ap, ◌∙◌, ℤ, pos, ◌≤ℤ◌, subst, List, [], ◌∷◌, ◌++◌, append_assoc, length, get_or, map, take}
+use Rattle.std.proofs.Common.{◌≡◌, ℕ, ◌+◌, ◌<◌, arith, sym, ap, ◌∙◌, ℤ, pos, ◌≤ℤ◌, subst, List, [], ◌∷◌, ◌++◌, append_assoc, length, get_or, map, take}
 use Rattle.std.proofs.lemmas.Int.{ints, clamps}
 use Rattle.std.proofs.lemmas.List.{map-append, take_more, get_or-map}
 use Rattle.std.proofs.lemmas.List.Elements.{All-cons, All-nil}

@@ -1,18 +1,15 @@
 -- Where pairs in their order don't rise: the first neighbours that don't are where pairs of the set don't, and where there are
 -- none the list is the only rising one.
-use Rattle.std.proofs.Common.{◌≡◌, ◌≢◌, ℕ, zero, suc, ◌<◌, ◌≤◌, ◌+◌, ◌⊎◌, inl, inr, arith, refl, sym, ap, subst, ◌∙◌, ℤ, pos, ◌<ℤ◌, ◌≤ℤ◌, Bool, true, false, cond, List, [], ◌∷◌, length, Option, Some, None, Result, Ok, Err, Vec}
-use Rattle.std.proofs.lemmas.Int.{ints, by_lt_z}
+use Rattle.std.proofs.Common.{◌≡◌, ◌≢◌, zero, suc, inl, inr, arith, refl, sym, subst, ◌∙◌, ◌≤ℤ◌, Bool, true, false, cond, List, [], ◌∷◌, Some, None}
+use Rattle.std.proofs.lemmas.Int.{ints}
 use Rattle.std.proofs.lemmas.List.Elements.{All-cons, All-head, All-tail}
 use Rattle.std.proofs.lemmas.List.Kept.{AllPairs-cons}
-use Rattle.std.specs.Prelude.{◌↔◌, AllPairs, Contains, All, int_lt, slice_index_or}
+use Rattle.std.specs.Prelude.{AllPairs, Contains, All}
 use Rattle.std.specs.List.{AllByRecursion}
 use Rattle.std.specs.List.Sorted.{IsStrictlySortedBy}
-use Rattle.std.specs.declared.cmp.Ordering.TheVariants.{Less, Equal, Greater}
-use Rattle.std.specs.declared.alloc.Global.{Global}
+use Rattle.std.specs.declared.cmp.Ordering.TheVariants.{Less}
 use Rattle.fixed_math.specs.declared.F2Dot14.{F2Dot14}
-use Rattle.axis_space.specs.AxisPairs.{Pair, Rises, IsRisingList, Falls, IsFirstFall, RefusesPairs, OrdersPairs, pair_cmp, in_order, rises, fall_after, first_fall, judged, judged_by, RefusesAs, GivesPairs}
-use Rattle.axis_space.specs.declared.errors.MapError.{MapError}
-use Rattle.axis_space.specs.declared.errors.MapError.TheVariants as map_errors
+use Rattle.axis_space.specs.AxisPairs.{Pair, Rises, IsRisingList, Falls, IsFirstFall, pair_cmp, in_order, rises, fall_after, first_fall}
 use Rattle.axis_space.proofs.PairLemmas.{before, not_before_itself, before_from_rises, contains_head, contains_tail, contains_none, contains_cases, each_of, of_each, same_list, in_order_sorted, in_order_keeps, in_order_from}
 
 -- a list that rises, by recursion

@@ -1,10 +1,9 @@
 -- What the nearest whole number to a quotient is: it keeps the order, it is exact, and so a coordinate between the ends of an
 -- axis lies between -1 and 1.
-use Rattle.std.proofs.Common.{◌≡◌, ℕ, ◌+◌, ◌*◌, ◌<◌, ◌≤◌, arith, refl, sym, ap, ◌∙◌, ℤ, pos, negsuc, ◌+ℤ◌, ◌-ℤ◌, ◌*ℤ◌, ◌≤ℤ◌, ◌<ℤ◌, FitsSigned, to_z, of_z, Bool, true, false, cond}
-use Rattle.std.proofs.Math.Nat.{mul-le-mul_left}
+use Rattle.std.proofs.Common.{◌≡◌, ℕ, ◌*◌, ◌<◌, arith, ap, ◌∙◌, ℤ, pos, negsuc, ◌+ℤ◌, ◌-ℤ◌, ◌*ℤ◌, ◌≤ℤ◌, ◌<ℤ◌, FitsSigned, to_z, of_z}
 use Rattle.std.proofs.lemmas.Int.{ints, by_lt_z}
-use Rattle.std.specs.Int.{w16, w32, w64, w128}
-use Rattle.fixed_math.proofs.FloorLemmas.{floor_at_most, floor_above, floor_monotone, floor_unique, times_below_next, times_monotone}
+use Rattle.std.specs.Int.{w16, w64, w128}
+use Rattle.fixed_math.proofs.FloorLemmas.{floor_monotone, floor_unique}
 use Rattle.axis_space.specs.Normal.{nearest, normalised}
 
 nearest_monotone_nat : (m n : ℤ) (d : ℕ) → 0 < d → m ≤ℤ n → nearest m (pos d) ≤ℤ nearest n (pos d)

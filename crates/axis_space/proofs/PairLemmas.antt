@@ -1,15 +1,15 @@
 -- Pairs in their order: what the comparison says, that two lists in strict order with the same members are one, and that what
 -- puts pairs in order keeps their members.
-use Rattle.std.proofs.Common.{◌≡◌, ◌≢◌, ℕ, ◌<◌, ◌≤◌, ◌+◌, ◌⊎◌, inl, inr, arith, refl, sym, ap, subst, ◌∙◌, lit<, ℤ, pos, negsuc, ◌<ℤ◌, ◌≤ℤ◌, Bool, true, false, ◌&&◌, List, [], ◌∷◌, ◌++◌, length, get_or}
-use Rattle.std.proofs.lemmas.Int.{ints, by_lt_z}
+use Rattle.std.proofs.Common.{◌≡◌, ◌≢◌, ◌⊎◌, inl, inr, arith, refl, sym, ap, subst, ◌∙◌, ℤ, ◌<ℤ◌, ◌≤ℤ◌, Bool, true, ◌&&◌, List, [], ◌∷◌}
+use Rattle.std.proofs.lemmas.Int.{ints}
 use Rattle.std.proofs.lemmas.Cmp.{int_ranked, int_cmp_total, on_total, then_total, tied_itself, and_equiv, on_equiv, int_eq_equiv}
-use Rattle.std.proofs.lemmas.List.Elements.{All-cons, All-nil, All-contains, Contains-append_right, Contains-append_cases, Contains-append_left}
+use Rattle.std.proofs.lemmas.List.Elements.{All-cons, All-nil, All-contains, Contains-append_right, Contains-append_cases}
 use Rattle.std.proofs.lemmas.List.Sorted.{IsPermutation-sym, Contains-permutation}
 use Rattle.std.proofs.lemmas.List.Kept.{IsStrictlySortedBy-dedup, Contains-dedup, Contains-from_dedup}
 use Rattle.std.specs.Cmp.{IsTotalOrder, IsEquivalence, int_cmp_is, both_tied}
-use Rattle.std.specs.List.{Contains, All, AllByRecursion, dedup}
+use Rattle.std.specs.List.{Contains, AllByRecursion, dedup}
 use Rattle.std.specs.List.Sorted.{IsStrictlySortedBy, IsSorted, IsPermutation}
-use Rattle.std.specs.Ordering.{int_cmp, int_eq, is_eq, ordering_then, ordering_reverse, eq_by_cmp, MatchOrdering}
+use Rattle.std.specs.Ordering.{int_cmp, int_eq, is_eq, ordering_then, ordering_reverse, eq_by_cmp}
 use Rattle.std.specs.declared.cmp.Ordering.{Ordering}
 use Rattle.std.specs.declared.cmp.Ordering.TheVariants.{Less, Equal, Greater}
 use Rattle.axis_space.specs.AxisPairs.{Pair, pair, Rises, pair_cmp, placed_by, with_pair, in_order}

@@ -1,7 +1,7 @@
 -- Neighbours: what the functions give is what the relations say, and so a reading is one.
-use Rattle.std.proofs.Common.{◌≡◌, ◌≢◌, ℕ, ◌+◌, ◌<◌, ◌⊎◌, inl, inr, arith, refl, sym, ap, subst, ◌∙◌, ℤ, pos, ◌+ℤ◌, ◌-ℤ◌, ◌*ℤ◌, ◌≤ℤ◌, ◌<ℤ◌, Bool, true, false, cond, List, [], ◌∷◌, length, Option, Some, None}
+use Rattle.std.proofs.Common.{◌≡◌, ℕ, ◌<◌, arith, refl, sym, ap, subst, ◌∙◌, ℤ, pos, ◌+ℤ◌, ◌-ℤ◌, ◌*ℤ◌, ◌≤ℤ◌, ◌<ℤ◌, Bool, true, false, cond, List, [], ◌∷◌, length, Option, Some, None}
 use Rattle.std.proofs.lemmas.Int.{ints, by_lt_z}
-use Rattle.std.proofs.lemmas.List.Elements.{All-cons, All-head, All-tail, All-weaker}
+use Rattle.std.proofs.lemmas.List.Elements.{All-head, All-tail}
 use Rattle.std.specs.Prelude.{IfSome, int_lt, int_le}
 use Rattle.std.specs.List.{All, find}
 use Rattle.std.specs.Ordering.{int_eq}
@@ -10,7 +10,7 @@ use Rattle.axis_space.specs.Points.{IsFirst, IsBelow, IsAbove, IsReading, not_ab
 use Rattle.font_ir.specs.declared.header.Master.{Master}
 use Rattle.std.proofs.lemmas.List.{length-map}
 use Rattle.axis_space.specs.declared.points.Point.{Point}
-use Rattle.axis_space.proofs.LineLemmas.{between_higher, part_up, part_down}
+use Rattle.axis_space.proofs.LineLemmas.{part_up, part_down}
 
 first_fact : (P Q : Point → Type 0) (o : Option Point) → IfSome o (λ p. P p × Q p) → IfSome o P
 first_fact P Q None h = tt

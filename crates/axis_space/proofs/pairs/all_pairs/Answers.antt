@@ -1,4 +1,4 @@
-use Rattle.std.proofs.Common.{◌≡◌, arith}
+use Rattle.std.proofs.Common.{arith}
 use Rattle.std.proofs.lemmas.Grind.{common_steps}
 use Rattle.axis_space.specs.AxisPairs.{pairs_of}
 use Rattle.axis_space.specs.declared.coordinates.Kind.TheVariants.{Design, User}

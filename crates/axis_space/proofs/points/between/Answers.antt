@@ -1,7 +1,6 @@
 use Rattle.std.proofs.Common.{arith, rules, ◌∙◌, ◌<ℤ◌, FitsSigned}
 use Rattle.std.proofs.lemmas.Int.{ints}
 use Rattle.std.specs.Int.{w32, w64}
-use Rattle.axis_space.specs.Points as spec
 use Rattle.axis_space.proofs.LineLemmas.{joined_fits, joined_is, between_is, wrapped_difference}
 use Rattle.axis_space.proofs.points.between.Goals as goal
 

@@ -1,4 +1,4 @@
-use Rattle.std.proofs.Common.{◌≡◌, drop, map}
+use Rattle.std.proofs.Common.{◌≡◌, drop}
 use Rattle.axis_space.specs.Points as spec
 use Rattle.axis_space.proofs.points.neighbour_above.Given as goal
 

@@ -1,5 +1,5 @@
-use Rattle.std.proofs.Common.{◌≡◌, arith, ◌∙◌, pos, ◌*ℤ◌, ◌≤ℤ◌, FitsSigned, to_z, of_z}
-use Rattle.std.proofs.lemmas.Int.{ints, by_lt_z}
+use Rattle.std.proofs.Common.{◌≡◌, arith, ◌∙◌, ◌*ℤ◌, FitsSigned, to_z, of_z}
+use Rattle.std.proofs.lemmas.Int.{ints}
 use Rattle.std.specs.Int.{w64, w128}
 use Rattle.axis_space.specs.Normal.{nearest}
 use Rattle.axis_space.proofs.LineLemmas.{part_up, part_down, product_bounds, part_way_is, part_fits, widened}
