@@ -1,6 +1,6 @@
 -- Where pairs in their order don't rise: the first neighbours that don't are where pairs of the set don't, and where there are
 -- none the list is the only rising one.
-use Rattle.std.proofs.Common.{◌≡◌, ◌≢◌, zero, suc, inl, inr, arith, refl, sym, subst, ◌∙◌, ◌≤ℤ◌, Bool, true, false, cond, List, [], ◌∷◌, Some, None}
+use Rattle.std.proofs.Common.{◌≡◌, ◌≢◌, zero, suc, inl, inr, arith, refl, sym, subst, ◌∙◌, ◌≤ℤ◌, Bool, true, false, cond, List, [], ◌∷◌, Some, None, ap, Ok, Err, Result, ℕ, Option, ℤ}
 use Rattle.std.proofs.lemmas.Int.{ints}
 use Rattle.std.proofs.lemmas.List.Elements.{All-cons, All-head, All-tail}
 use Rattle.std.proofs.lemmas.List.Kept.{AllPairs-cons}
@@ -9,7 +9,8 @@ use Rattle.std.specs.List.{AllByRecursion}
 use Rattle.std.specs.List.Sorted.{IsStrictlySortedBy}
 use Rattle.std.specs.declared.cmp.Ordering.TheVariants.{Less}
 use Rattle.fixed_math.specs.declared.F2Dot14.{F2Dot14}
-use Rattle.axis_space.specs.AxisPairs.{Pair, Rises, IsRisingList, Falls, IsFirstFall, pair_cmp, in_order, rises, fall_after, first_fall}
+use Rattle.axis_space.specs.AxisPairs.{Pair, Rises, IsRisingList, Falls, IsFirstFall, pair_cmp, in_order, rises, fall_after, first_fall, Orders, avar_pairs, pairs_of, judged_by}
+use Rattle.font_ir.specs.declared.header.Master.{Master}
 use Rattle.axis_space.proofs.PairLemmas.{before, not_before_itself, before_from_rises, contains_head, contains_tail, contains_none, contains_cases, each_of, of_each, same_list, in_order_sorted, in_order_keeps, in_order_from}
 
 -- a list that rises, by recursion
@@ -231,3 +232,34 @@ pub accepted : (set qs : List Pair) → qs ≡ in_order set → first_fall (in_o
 accepted set qs e none =
     let rising : IsRisingList set qs = subst (IsRisingList set) (sym e) (rising_list set none) in
     (rising, λ ps r. one_rising_list set ps qs r rising)
+
+judged_orders : (set : List Pair) (o : Option F2Dot14) → first_fall (in_order set) ≡ o → Orders set (judged_by o (in_order set))
+judged_orders set None e = accepted set (in_order set) refl e
+judged_orders set (Some x) e = refused set x e
+
+-- the function gives what is made of the set
+pub avar_pairs_orders : (masters : List Master) (origin axis : ℕ) → Orders (pairs_of masters origin axis) (avar_pairs masters origin axis)
+unfolding avar_pairs
+avar_pairs_orders masters origin axis =
+    let set = pairs_of masters origin axis in
+    judged_orders set (first_fall (in_order set)) refl
+
+first_fall_at_most : (set : List Pair) (x y : F2Dot14) → IsFirstFall set x → IsFirstFall set y → y.0 ≤ℤ x.0
+first_fall_at_most set x y f g =
+    let (p, q, falls, at) = f.reached in
+    subst (λ (z : F2Dot14). y.0 ≤ℤ z.0) at (g.least p q falls)
+
+one_fall : (set : List Pair) (x y : F2Dot14) → IsFirstFall set x → IsFirstFall set y → x ≡ y
+one_fall set x y f g =
+    let low = first_fall_at_most set x y f g in
+    let high = first_fall_at_most set y x g f in
+    let made : ℤ → F2Dot14 = λ z. record { 0 = z } in
+    let same : x.0 ≡ y.0 = omega (arith, ints) in
+    ap made same
+
+-- and only one thing is made of a set
+pub orders_once : (set : List Pair) (a b : Result (List Pair) F2Dot14) → Orders set a → Orders set b → a ≡ b
+orders_once set (Ok ps) (Ok qs) h k = ap Ok (k.1 ps h.0)
+orders_once set (Ok ps) (Err y) h k = absurd (k.1 ps h.0)
+orders_once set (Err x) (Ok qs) h k = absurd (h.1 qs k.0)
+orders_once set (Err x) (Err y) h k = ap Err (one_fall set x y h.0 k.0)

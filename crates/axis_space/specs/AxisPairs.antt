@@ -55,17 +55,23 @@ pub record IsFirstFall (set : List Pair) (x : F2Dot14) : Type 0 where
   pub reached : (p : Pair) × (q : Pair) × Falls set p q × (q.0 ≡ x)
   pub least : (p q : Pair) → Falls set p q → x.0 ≤ℤ q.0.0
 
--- what an answer says of the set: its only rising list, or that there is none and where pairs first don't rise, unless memory
--- ran out
+-- what is made of the set: its rising list, which is the only one; or where there is none, the number at which pairs first don't
+-- rise
+abbrev pub Orders : List Pair → Result (List Pair) F2Dot14 → Type 0
+Orders set (Ok pairs) = IsRisingList set pairs × ((others : List Pair) → IsRisingList set others → others ≡ pairs)
+Orders set (Err x) = IsFirstFall set x × ((pairs : List Pair) → ¬ (IsRisingList set pairs))
+
+-- an answer is what is made of the set, unless memory ran out
 abbrev pub RefusesPairs : MapError → List Pair → Type 0
-RefusesPairs (map_errors.NotRising x) set = IsFirstFall set x × ((pairs : List Pair) → ¬ (IsRisingList set pairs))
+RefusesPairs (map_errors.NotRising x) set = Orders set (Err x)
 RefusesPairs map_errors.NoMemory set = Unit {0}
 
 abbrev pub OrdersPairs : Result (Vec Pair Global) MapError → List Pair → Type 0
-OrdersPairs (Ok v) set = IsRisingList set v.items × ((pairs : List Pair) → IsRisingList set pairs → pairs ≡ v.items)
+OrdersPairs (Ok v) set = Orders set (Ok v.items)
 OrdersPairs (Err e) set = RefusesPairs e set
 
--- The same as a function. Pairs are compared by the first number and then by the second.
+-- The same as a function: what it gives is what is made of the set. Pairs are compared by the first number and then by the
+-- second.
 abbrev pub pair_cmp : Pair → Pair → Ordering
 pair_cmp p q = ordering_then (int_cmp p.0.0 q.0.0) (int_cmp p.1.0 q.1.0)
 

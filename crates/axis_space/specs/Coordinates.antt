@@ -1,7 +1,6 @@
 -- The coordinates of the masters on an axis, and where they lie on the normalised scale (OpenType 1.9, "Coordinate scales and
 -- normalization").
-use Rattle.std.specs.Prelude.{ℕ, ◌<◌, List, map, length, slice_index_or, ℤ, pos}
-use Rattle.std.specs.List.{fold}
+use Rattle.std.specs.Prelude.{ℕ, ◌<◌, List, [], ◌∷◌, map, length, slice_index_or, ℤ, pos}
 use Rattle.std.specs.Int.{int_max, int_min}
 use Rattle.fixed_math.specs.declared.F2Dot14.{F2Dot14}
 use Rattle.fixed_math.specs.declared.Fixed.{Fixed}
@@ -30,17 +29,29 @@ coordinate_on kind axis master = coordinate_at (coordinates_of kind master) axis
 abbrev pub default_on : Kind → ℕ → ℕ → List Master → ℤ
 default_on kind origin axis masters = (coordinate_at (map (coordinate_on kind axis) masters) origin).0
 
--- the least and the greatest of a number and the masters' coordinates
-abbrev pub least_on : Kind → ℕ → ℤ → List Master → ℤ
-least_on kind axis from masters = fold (λ low master. int_min low (coordinate_on kind axis master).0) from masters
+-- the masters' coordinates
+abbrev pub coordinates_on : Kind → ℕ → List Master → List ℤ
+coordinates_on kind axis masters = map (λ master. (coordinate_on kind axis master).0) masters
 
-abbrev pub greatest_on : Kind → ℕ → ℤ → List Master → ℤ
-greatest_on kind axis from masters = fold (λ high master. int_max high (coordinate_on kind axis master).0) from masters
+-- the least and the greatest of some numbers, of which there is at least one
+abbrev pub least_of : ℤ → List ℤ → ℤ
+least_of x [] = x
+least_of x (y ∷ ys) = int_min x (least_of y ys)
+
+abbrev pub least : List ℤ → ℤ
+least [] = pos 0
+least (x ∷ xs) = least_of x xs
+
+abbrev pub greatest_of : ℤ → List ℤ → ℤ
+greatest_of x [] = x
+greatest_of x (y ∷ ys) = int_max x (greatest_of y ys)
+
+abbrev pub greatest : List ℤ → ℤ
+greatest [] = pos 0
+greatest (x ∷ xs) = greatest_of x xs
 
 -- a master's normalised coordinate: where it lies between the least and the greatest one of the masters
 abbrev pub normal_on : Kind → ℕ → ℕ → List Master → Master → F2Dot14
 normal_on kind origin axis masters master =
-    let default = default_on kind origin axis masters in
-    record {
-      0 = normalised (coordinate_on kind axis master).0 (least_on kind axis default masters) default (greatest_on kind axis default masters);
-    }
+    let all = coordinates_on kind axis masters in
+    record { 0 = normalised (coordinate_on kind axis master).0 (least all) (default_on kind origin axis masters) (greatest all) }

@@ -1,5 +1,7 @@
 ghost use Rattle.std.specs.Prelude.{◌≡◌, ◌<◌, ◌≤ℤ◌, length, All};
-ghost use Rattle.axis_space.specs.Coordinates.{HasAxis, coordinates_of, coordinate_on, default_on, least_on, greatest_on};
+ghost use Rattle.std.specs.List.{fold};
+ghost use Rattle.std.specs.Int.{int_max, int_min};
+ghost use Rattle.axis_space.specs.Coordinates.{HasAxis, coordinate_on, coordinates_of, coordinates_on, default_on, least as least_number, greatest as greatest_number};
 ghost use Rattle.axis_space.specs.Normal.{normalised};
 
 use crate::normal::normalise;
@@ -37,8 +39,8 @@ pub fn scale_of(masters: &[Master], kind: Kind, origin: usize, axis: usize) -> S
     requires origin { origin < length masters.now }
     requires axes { All (HasAxis axis) masters.now }
     ensures default { result.default.0 ≡ default_on kind origin axis masters.now }
-    ensures least { result.least.0 ≡ least_on kind axis result.default.0 masters.now }
-    ensures greatest { result.greatest.0 ≡ greatest_on kind axis result.default.0 masters.now }
+    ensures least { result.least.0 ≡ least_number (coordinates_on kind axis masters.now) }
+    ensures greatest { result.greatest.0 ≡ greatest_number (coordinates_on kind axis masters.now) }
     ensures below_default { result.least.0 ≤ℤ result.default.0 }
     ensures above_default { result.default.0 ≤ℤ result.greatest.0 }
     ensures below_each { All (λ m. result.least.0 ≤ℤ (coordinate_on kind axis m).0) masters.now }
@@ -55,7 +57,7 @@ pub fn scale_of(masters: &[Master], kind: Kind, origin: usize, axis: usize) -> S
 /// The least of a number and the masters' coordinates.
 fn least(masters: &[Master], kind: Kind, axis: usize, from: Fixed) -> Fixed
     requires { All (HasAxis axis) masters.now }
-    ensures { result.0 ≡ least_on kind axis from.0 masters.now }
+    ensures { result.0 ≡ fold (λ low m. int_min low (coordinate_on kind axis m).0) from.0 masters.now }
 {
     let mut low = from.0;
     for master in masters {
@@ -67,7 +69,7 @@ fn least(masters: &[Master], kind: Kind, axis: usize, from: Fixed) -> Fixed
 /// The greatest of a number and the masters' coordinates.
 fn greatest(masters: &[Master], kind: Kind, axis: usize, from: Fixed) -> Fixed
     requires { All (HasAxis axis) masters.now }
-    ensures { result.0 ≡ greatest_on kind axis from.0 masters.now }
+    ensures { result.0 ≡ fold (λ high m. int_max high (coordinate_on kind axis m).0) from.0 masters.now }
 {
     let mut high = from.0;
     for master in masters {
