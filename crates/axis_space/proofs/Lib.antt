@@ -4,4 +4,6 @@ pub mod PairLemmas
 pub mod FallLemmas
 pub mod LineLemmas
 pub mod PointLemmas
+pub mod NeighbourLemmas
+pub mod ReadingLemmas
 pub mod Rows

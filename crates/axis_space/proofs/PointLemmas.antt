@@ -6,9 +6,8 @@ use Rattle.std.specs.Prelude.{IfSome, int_lt, int_le}
 use Rattle.std.specs.List.{All, find}
 use Rattle.std.specs.Ordering.{int_eq}
 use Rattle.axis_space.specs.Normal.{nearest}
-use Rattle.axis_space.specs.Points.{IsFirst, IsBelow, IsAbove, IsReading, not_above, higher, below, not_below, lower, above, between, reading, user_at, points_of}
+use Rattle.axis_space.specs.Points.{IsFirst, IsBelow, IsAbove, not_above, higher, below, not_below, lower, above, between, reading, user_at, points_of}
 use Rattle.font_ir.specs.declared.header.Master.{Master}
-use Rattle.std.proofs.lemmas.List.{length-map}
 use Rattle.axis_space.specs.declared.points.Point.{Point}
 use Rattle.axis_space.proofs.LineLemmas.{part_up, part_down}
 
@@ -30,7 +29,7 @@ lower_holds Q (Some p) None h k = h
 lower_holds Q (Some p) (Some q) h k =
     elim (int_lt q.design.0 p.design.0) as (λ b. IfSome (cond b (Some q) (Some p)) Q) [ true ↦ k | false ↦ h ]
 
-le_true : (a b : ℤ) → int_le a b ≡ true → a ≤ℤ b
+pub le_true : (a b : ℤ) → int_le a b ≡ true → a ≤ℤ b
 le_true a b e = grind (arith, ints)
 
 not_above_holds : (P : Point → Type 0) (design : ℤ) (p : Point) (b : Bool) → int_le p.design.0 design ≡ b → P p → IfSome (cond b (Some p) None) (λ q. (q.design.0 ≤ℤ design) × P q)
@@ -112,12 +111,12 @@ ruled_out : (Q : Point → Type 0) (o : Option Point) → ((q : Point) → ¬ (Q
 ruled_out Q None f h = refl
 ruled_out Q (Some q) f h = absurd (f q h)
 
-none_below : (design : ℤ) (ps : List Point) → All (λ r. design <ℤ r.design.0) ps → below design ps ≡ None
+pub none_below : (design : ℤ) (ps : List Point) → All (λ r. design <ℤ r.design.0) ps → below design ps ≡ None
 none_below design ps h =
     let P : Point → Type 0 = λ r. design <ℤ r.design.0 in
     ruled_out (λ q. (q.design.0 ≤ℤ design) × P q) (below design ps) (λ q f. let le = f.0 in let lt = f.1 in omega (arith, ints)) (below_holds P design ps h)
 
-none_above : (design : ℤ) (ps : List Point) → All (λ r. r.design.0 <ℤ design) ps → above design ps ≡ None
+pub none_above : (design : ℤ) (ps : List Point) → All (λ r. r.design.0 <ℤ design) ps → above design ps ≡ None
 none_above design ps h =
     let P : Point → Type 0 = λ r. r.design.0 <ℤ design in
     ruled_out (λ q. (design ≤ℤ q.design.0) × P q) (above design ps) (λ q f. let le = f.0 in let lt = f.1 in omega (arith, ints)) (above_holds P design ps h)
@@ -127,7 +126,7 @@ none_above design ps h =
 between_same : (p : Point) (design : ℤ) → between p p design ≡ p.user.0
 between_same p design = grind (arith, ints)
 
-at_itself : (design : ℤ) (ps : List Point) (p : Point) → IsFirst ps p → p.design.0 ≡ design → reading (below design ps) (above design ps) design ≡ p.user.0
+pub at_itself : (design : ℤ) (ps : List Point) (p : Point) → IsFirst ps p → p.design.0 ≡ design → reading (below design ps) (above design ps) design ≡ p.user.0
 at_itself design ps p first at =
     let low : below design ps ≡ Some p =
     below_by design ps p first (omega (arith, ints)) (λ k d l. λ le. omega (arith, ints)) in
@@ -156,7 +155,7 @@ between_bounded p q design low high true e from to h k =
     part_bounded p.user.0 q.user.0 (design -ℤ p.design.0) (q.design.0 -ℤ p.design.0) low high (omega (arith, ints)) (omega (arith, ints)) (omega (arith, ints)) h k
 between_bounded p q design low high false e from to h k = h
 
-reading_bounded : (a b : Option Point) (design low high : ℤ) → ((a ≡ None) → (b ≡ None) → ⊥) → IfSome a (λ q. (q.design.0 ≤ℤ design) × ((low ≤ℤ q.user.0) × (q.user.0 ≤ℤ high))) → IfSome b (λ q. (design ≤ℤ q.design.0) × ((low ≤ℤ q.user.0) × (q.user.0 ≤ℤ high))) → (low ≤ℤ reading a b design) × (reading a b design ≤ℤ high)
+pub reading_bounded : (a b : Option Point) (design low high : ℤ) → ((a ≡ None) → (b ≡ None) → ⊥) → IfSome a (λ q. (q.design.0 ≤ℤ design) × ((low ≤ℤ q.user.0) × (q.user.0 ≤ℤ high))) → IfSome b (λ q. (design ≤ℤ q.design.0) × ((low ≤ℤ q.user.0) × (q.user.0 ≤ℤ high))) → (low ≤ℤ reading a b design) × (reading a b design ≤ℤ high)
 reading_bounded (Some p) (Some q) design low high some h k =
     between_bounded p q design low high (int_lt p.design.0 q.design.0) refl h.0 k.0 h.1 k.1
 reading_bounded (Some p) None design low high some h k = h.1
@@ -186,21 +185,10 @@ no_lower (Some p) (Some q) e =
 one_side : (design : ℤ) (p : Point) → not_above design p ≡ None → not_below design p ≡ None → ⊥
 one_side design p e f = grind (arith, ints)
 
-some_neighbour : (design : ℤ) (ps : List Point) → 0 < length ps → below design ps ≡ None → above design ps ≡ None → ⊥
+pub some_neighbour : (design : ℤ) (ps : List Point) → 0 < length ps → below design ps ≡ None → above design ps ≡ None → ⊥
 some_neighbour design [] h e f = absurd (omega arith)
 some_neighbour design (p ∷ ps) h e f =
     one_side design p (no_higher (not_above design p) (below design ps) e).0 (no_lower (not_below design p) (above design ps) f).0
-
-pub reading_is : (points : List Point) (design : ℤ) → 0 < length points → IsReading points design (reading (below design points) (above design points) design)
-reading_is points design h = record {
-  inside = λ p q low high. ap (λ o. reading o (above design points) design) (below_is design points p low) ∙ ap (λ o. reading (Some p) o design) (above_is design points q high);
-  before = λ q all high. ap (λ o. reading o (above design points) design) (none_below design points all) ∙ ap (λ o. reading None o design) (above_is design points q high);
-  after = λ p all low. ap (λ o. reading o (above design points) design) (below_is design points p low) ∙ ap (λ o. reading (Some p) o design) (none_above design points all);
-  at_point = λ p first at. at_itself design points p first at;
-  within = λ low high all.
-      let P : Point → Type 0 = λ q. (low ≤ℤ q.user.0) × (q.user.0 ≤ℤ high) in
-      reading_bounded (below design points) (above design points) design low high (some_neighbour design points h) (below_holds P design points all) (above_holds P design points all);
-}
 
 pub below_side : (design : ℤ) (ps : List Point) (o : Option Point) → o ≡ below design ps → IfSome o (λ p. p.design.0 ≤ℤ design)
 below_side design ps o e =
@@ -216,9 +204,3 @@ pub value_is : (masters : List Master) (axis : ℕ) (design u : ℤ) (low high :
 unfolding user_at
 value_is masters axis design u low high l h e =
     e ∙ ap (λ o. reading o high design) l ∙ ap (λ o. reading (below design (points_of masters axis)) o design) h
-
-pub reads : (masters : List Master) (axis : ℕ) (design u : ℤ) → 0 < length masters → u ≡ user_at (points_of masters axis) design → IsReading (points_of masters axis) design u
-unfolding user_at
-reads masters axis design u h e =
-    let some : 0 < length (points_of masters axis) = simp length-map h in
-    subst (IsReading (points_of masters axis) design) (sym e) (reading_is (points_of masters axis) design some)

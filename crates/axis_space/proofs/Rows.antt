@@ -58,6 +58,14 @@ one_user_pairs : avar_pairs one_user 0 0 ≡ Err (number (pos 0))
 unfolding avar_pairs pairs_of
 one_user_pairs = refl
 
+-- masters at 0, 50 and 100 with the user coordinates 0, 100 and 50: the pairs don't rise from a half to 1
+abbrev crossed : List Master
+crossed = master (pos 0) (pos 0) ∷ master (pos 50) (pos 100) ∷ master (pos 100) (pos 50) ∷ []
+
+crossed_pairs : avar_pairs crossed 0 0 ≡ Err (number (pos 16384))
+unfolding avar_pairs pairs_of
+crossed_pairs = refl
+
 -- masters at 400 and 700 whose user coordinates are their design coordinates
 abbrev ends : List Master
 ends = master (pos 26214400) (pos 26214400) ∷ master (pos 45875200) (pos 45875200) ∷ []

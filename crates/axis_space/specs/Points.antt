@@ -1,6 +1,6 @@
 -- User coordinates from design coordinates: each master is a point, and between two neighbours the reading is linear. That it
 -- is rounded to the nearest in 16.16, a tie going up, and cut to the ends is fontc's own.
-use Rattle.std.specs.Prelude.{◌≡◌, ℕ, List, [], ◌∷◌, map, ℤ, pos, ◌+ℤ◌, ◌-ℤ◌, ◌*ℤ◌, ◌≤ℤ◌, ◌<ℤ◌, int_lt, int_le, if◌then◌else◌, Option, Some, None, All}
+use Rattle.std.specs.Prelude.{◌≡◌, ℕ, List, [], ◌∷◌, map, ℤ, pos, ◌+ℤ◌, ◌-ℤ◌, ◌*ℤ◌, ◌≤ℤ◌, ◌<ℤ◌, ◌⊎◌, int_lt, int_le, if◌then◌else◌, Option, Some, None, All}
 use Rattle.std.specs.List.{find}
 use Rattle.std.specs.Ordering.{int_eq}
 use Rattle.font_ir.specs.declared.header.Master.{Master}
@@ -31,6 +31,11 @@ pub record IsAbove (points : List Point) (design : ℤ) (p : Point) : Type 0 whe
   pub first : IsFirst points p
   pub at_least : design ≤ℤ p.design.0
   pub nearest : All (λ q. design ≤ℤ q.design.0 → p.design.0 ≤ℤ q.design.0) points
+
+-- where a design coordinate lies among the points: between two neighbours, or before all of them, or after
+abbrev pub Places : List Point → ℤ → Type 0
+Places points design =
+    ((p : Point) × (q : Point) × IsBelow points design p × IsAbove points design q) ⊎ (((q : Point) × All (λ r. design <ℤ r.design.0) points × IsAbove points design q) ⊎ ((p : Point) × All (λ r. r.design.0 <ℤ design) points × IsBelow points design p))
 
 -- The same as functions: of two points the nearer one, of two with one design coordinate the first.
 abbrev pub not_above : ℤ → Point → Option Point
@@ -77,6 +82,7 @@ user_at points design = reading (below design points) (above design points) desi
 -- what a number is where it is read from the points: on the line between the neighbours, and past the ends that of the end. So
 -- it is a point's own number at each point, and never outside the points' numbers
 pub record IsReading (points : List Point) (design user : ℤ) : Type 0 where
+  pub placed : Places points design
   pub inside : (p q : Point) → IsBelow points design p → IsAbove points design q → user ≡ between p q design
   pub before : (q : Point) → All (λ r. design <ℤ r.design.0) points → IsAbove points design q → user ≡ q.user.0
   pub after : (p : Point) → All (λ r. r.design.0 <ℤ design) points → IsBelow points design p → user ≡ p.user.0

@@ -1,5 +1,6 @@
 use Rattle.axis_space.specs.Points.{points_of}
-use Rattle.axis_space.proofs.PointLemmas.{below_side, above_side, value_is, reads}
+use Rattle.axis_space.proofs.PointLemmas.{below_side, above_side, value_is}
+use Rattle.axis_space.proofs.ReadingLemmas.{reads}
 use Rattle.axis_space.proofs.points.user_of.Goals as goal
 
 pub reading-requires : goal.reading-requires
