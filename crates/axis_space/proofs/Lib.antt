@@ -1,0 +1,9 @@
+pub mod NearestLemmas
+pub mod CoordinateLemmas
+pub mod PairLemmas
+pub mod FallLemmas
+pub mod LineLemmas
+pub mod PointLemmas
+pub mod NeighbourLemmas
+pub mod ReadingLemmas
+pub mod Rows

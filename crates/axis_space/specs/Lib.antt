@@ -1,0 +1,4 @@
+pub mod Normal
+pub mod Coordinates
+pub mod AxisPairs
+pub mod Points
