@@ -12,10 +12,10 @@ if_ok (Ok x) P Q f h = f x h
 if_ok (Err e) P Q f h = tt
 
 module _ {Id V : Type 0} (same : Id → Id → Bool) (plan : Meaning Id V) where
-  outcome_done : (id : Id) (reads : List (Id × Plain V)) → all_done reads ≡ true → outcome_of same plan id reads ≡ plan.outcome id reads
+  pub outcome_done : (id : Id) (reads : List (Id × Plain V)) → all_done reads ≡ true → outcome_of same plan id reads ≡ plan.outcome id reads
   outcome_done id reads e = ap (λ b. cond b (plan.outcome id reads) blocked) e
 
-  outcome_blocked : (id : Id) (reads : List (Id × Plain V)) → all_done reads ≡ false → outcome_of same plan id reads ≡ blocked
+  pub outcome_blocked : (id : Id) (reads : List (Id × Plain V)) → all_done reads ≡ false → outcome_of same plan id reads ≡ blocked
   outcome_blocked id reads e = ap (λ b. cond b (plan.outcome id reads) blocked) e
 
   outcome_due : (id : Id) (reads : List (Id × Plain V)) → (d : IsDue same plan id reads) → outcome_in same plan (limit same plan) d.job ≡ outcome_of same plan id reads

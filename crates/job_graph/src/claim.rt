@@ -1,6 +1,6 @@
 ghost use Rattle.std.specs.Prelude.{◌≡◌, IfOk};
 ghost use Rattle.access_context.specs.Plain.{plain_outcome};
-ghost use Rattle.job_graph.specs.Rounds.{IsDue, IsOutcomeOf};
+ghost use Rattle.job_graph.specs.Rounds.{outcome_of, IsDue, IsOutcomeOf};
 
 use crate::plan::Plan;
 use access_context::{Outcome, Reads, Settled};
@@ -67,7 +67,8 @@ pub fn run_claimed<P: Plan>(
     reads: &Reads<P::Id, P::Value>,
 ) -> Result<Outcome<P::Value, P::Id>, NoMemory>
     requires { IsDue P.Id.eq (P.meaning plan.now) ticket.now reads.now }
-    ensures { IfOk result (λ o. IsOutcomeOf P.Id.eq (P.meaning plan.now) ticket.now (plain_outcome o)) }
+    ensures outcome { IfOk result (λ o. plain_outcome o ≡ outcome_of P.Id.eq (P.meaning plan.now) ticket.now reads.now) }
+    ensures in_limit { IfOk result (λ o. IsOutcomeOf P.Id.eq (P.meaning plan.now) ticket.now (plain_outcome o)) }
 {
     if !reads.all_done() {
         return Ok(Outcome {
