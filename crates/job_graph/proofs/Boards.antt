@@ -24,7 +24,7 @@ use Rattle.job_graph.specs.Histories.{is_halt, is_halt_of, has_halted, out_after
 use Rattle.job_graph.specs.Promises.{IsHistory}
 use Rattle.job_graph.specs.BoardView.{BoardView, IsBoard, halted_after, halted_of}
 use Rattle.job_graph.specs.Answers.{HandsOut, some_claimable}
-use Rattle.job_graph.proofs.Members.{In, find-some, find-In, list_any-In, list_any-found, list_all-In, In-from_Contains, Contains-from_In}
+use Rattle.job_graph.specs.Members.{In, find-some, find-In, list_any-In, list_any-found, list_all-In, In-from_Contains, Contains-from_In}
 use Rattle.job_graph.proofs.Growth.{none≢some, Within, reads_agree, all_settled_within, outcome_within, ready_reads, ready_unsettled, settle}
 use Rattle.job_graph.proofs.Confluence.{nil_append, IsOrderly}
 use Rattle.job_graph.proofs.Limit.{limit_orderly, below_limit}

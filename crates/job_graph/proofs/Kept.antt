@@ -15,17 +15,12 @@ use Rattle.job_graph.specs.Rounds.{State, value_in, is_settled, has_id, is_unset
 use Rattle.job_graph.specs.Laws.{IsLawful}
 use Rattle.job_graph.specs.Histories.{has_halted, out_of, running, is_claim_of, was_claimed, was_finished, state_of, is_allowed, goes_on, is_run, some_ready, end_of}
 use Rattle.job_graph.specs.Promises.{IsReadSettled, IsHistory, IsComplete, AddsNoneBelow, IsFirstOver}
-use Rattle.job_graph.proofs.Members.{In, list_all-In, list_any-In, list_any-found, In-from_Contains, Contains-from_In}
+use Rattle.job_graph.specs.Members.{In, slice_get-In, list_all-In, list_any-In, list_any-found, In-from_Contains, Contains-from_In}
 use Rattle.job_graph.proofs.Growth.{none≢some, none_of, some_of, Within, within_itself, settled_within, ready_reads, ready_awaits}
 use Rattle.job_graph.proofs.Confluence.{IsOrderly, central, settled_up_to}
 use Rattle.job_graph.proofs.Limit.{filter-from, below_limit, limit_below, limit_orderly, limit_over, limit_first}
 use Rattle.job_graph.proofs.Run.{is_run-parts, may_claim, Grows, grows}
 use Rattle.job_graph.proofs.Owned.{Owned, owned}
-
-pub slice_get-In : {X : Type 0} (xs : List X) (i : ℕ) (x : X) → slice_get xs i ≡ Some x → In x xs
-slice_get-In [] i x e = absurd (none≢some x None refl e)
-slice_get-In (y ∷ xs) zero x e = let s : y ≡ x = cc in inl s
-slice_get-In (y ∷ xs) (suc i) x e = inr (slice_get-In xs i x e)
 
 In-length : {X : Type 0} (xs : List X) (x : X) → In x xs → 0 < length xs
 In-length [] x i = absurd i
