@@ -1,11 +1,11 @@
 -- The parts of a board follow its events.
-use Rattle.std.proofs.Common.{◌≡◌, ℕ, zero, suc, ◌+◌, ◌<◌, ◌≤◌, Bool, true, false, not, ◌&&◌, ◌||◌, nat_lt, nat_eq, ◌⊎◌, inl, inr, List, [], ◌∷◌, ◌++◌, map, length, replicate, get_or, Option, Some, None, is_some, refl, sym, ap, ◌∙◌, subst, cond, arith}
-use Rattle.std.specs.Prelude.{IsTrue, ◌↔◌, IfSome, Contains, slice_get, slice_set, count_by, fold, option_map}
-use Rattle.std.specs.List.{list_all, list_any, find}
+use Rattle.std.proofs.Common.{◌≡◌, ℕ, zero, suc, ◌+◌, ◌<◌, ◌≤◌, Bool, true, false, not, ◌&&◌, ◌||◌, nat_eq, inl, inr, List, [], ◌∷◌, ◌++◌, map, length, replicate, get_or, Option, Some, None, is_some, refl, sym, ap, ◌∙◌, subst, cond, arith}
+use Rattle.std.specs.Prelude.{IfSome, slice_get, slice_set, count_by, fold, option_map}
+use Rattle.std.specs.List.{list_any, find}
 use Rattle.std.specs.Vec.{vec_len, vec_capacity}
 use Rattle.std.specs.declared.vec.Vec.{Vec}
 use Rattle.std.specs.declared.alloc.Global.{Global}
-use Rattle.std.proofs.lemmas.Bool.{and_parts, and_from, or_cases, or_left, or_right, or_parts, false≢true, cases_Bool, false_from_ne_true, lt-ltb, eqb-true, eq-eqb, not_from_false, not-true}
+use Rattle.std.proofs.lemmas.Bool.{and_parts, and_from, or_right, false≢true, cases_Bool, false_from_ne_true, lt-ltb, eqb-true, eq-eqb, not_from_false, not-true}
 use Rattle.std.proofs.lemmas.List.{length-set, length-replicate, map-append}
 use Rattle.std.proofs.lemmas.List.Sums.{fold-append, count_by-le-length, sum_by-set}
 use Rattle.std.proofs.lemmas.Option.{slice_get_within, get_or_from_slice_get, slice_get-get_or}
@@ -15,18 +15,17 @@ use Rattle.access_context.specs.Plain.{Plain, PlainOutcome, plain}
 use Rattle.access_context.specs.Read.{plain_item}
 use Rattle.job_graph.specs.declared.event.Event.{Event}
 use Rattle.job_graph.specs.declared.event.Event.TheVariants as event
-use Rattle.job_graph.specs.declared.event.End.{End}
 use Rattle.job_graph.specs.declared.event.End.TheVariants.{Running, Ended, Halted}
 use Rattle.job_graph.specs.Meaning.{Meaning}
-use Rattle.job_graph.specs.Rounds.{State, state_from, value_in, is_settled, is_unsettled_job, is_ready, reads_in, outcome_in, limit, IsDue, IsOutcomeOf}
+use Rattle.job_graph.specs.Rounds.{State, state_from, value_in, is_unsettled_job, is_ready, reads_in, outcome_in, limit, IsOutcomeOf}
 use Rattle.job_graph.specs.Laws.{IsLawful}
-use Rattle.job_graph.specs.Histories.{is_halt, is_halt_of, has_halted, out_after, out_of, running, was_claimed, has_out, state_after, state_of, is_ready_id, is_allowed, is_run, some_ready, is_claimable, next_of, IsNext, end_of}
+use Rattle.job_graph.specs.Histories.{is_halt, is_halt_of, has_halted, out_after, out_of, running, was_claimed, has_out, state_of, is_ready_id, is_allowed, is_run, some_ready, is_claimable, next_of, IsNext, end_of}
 use Rattle.job_graph.specs.Promises.{IsHistory}
 use Rattle.job_graph.specs.BoardView.{BoardView, IsBoard, halted_after, halted_of}
 use Rattle.job_graph.specs.Answers.{HandsOut, some_claimable}
-use Rattle.job_graph.specs.Members.{In, find-some, find-In, list_any-In, list_any-found, list_all-In, In-from_Contains, Contains-from_In}
+use Rattle.job_graph.specs.Members.{In, find-some, find-In, list_any-In, list_any-found, In-from_Contains, Contains-from_In}
 use Rattle.job_graph.proofs.Growth.{none≢some, Within, reads_agree, all_settled_within, outcome_within, ready_reads, ready_unsettled, settle}
-use Rattle.job_graph.proofs.Confluence.{nil_append, IsOrderly}
+use Rattle.job_graph.proofs.Confluence.{nil_append}
 use Rattle.job_graph.proofs.Limit.{limit_orderly, below_limit}
 use Rattle.job_graph.proofs.Run.{get_set_same, get_set_other, is_run-push, run_induction, state_of-push, out_of-push, claim_allowed, IsOut, Grows, grows, finish_is}
 use Rattle.job_graph.proofs.Owned.{list_any-push}

@@ -1,11 +1,10 @@
 -- What comes of a claimed job.
-use Rattle.std.proofs.Common.{◌≡◌, Bool, true, false, List, Option, Some, None, Result, Ok, Err, refl, sym, ap, ◌∙◌, subst, cond}
+use Rattle.std.proofs.Common.{◌≡◌, Bool, true, false, List, Result, Ok, Err, sym, ap, ◌∙◌, cond}
 use Rattle.std.specs.Prelude.{IfOk}
-use Rattle.access_context.specs.declared.access.Spec.{Spec}
 use Rattle.access_context.specs.Plain.{Plain, PlainOutcome}
 use Rattle.access_context.specs.Read.{all_done}
 use Rattle.job_graph.specs.Meaning.{Meaning}
-use Rattle.job_graph.specs.Rounds.{State, blocked, reads_in, outcome_of, outcome_in, limit, IsDue, IsOutcomeOf}
+use Rattle.job_graph.specs.Rounds.{blocked, reads_in, outcome_of, outcome_in, limit, IsDue, IsOutcomeOf}
 
 pub if_ok : {T E : Type 0} (r : Result T E) (P Q : T → Type 0) → ((x : T) → P x → Q x) → IfOk r P → IfOk r Q
 if_ok (Ok x) P Q f h = f x h

@@ -1,5 +1,5 @@
-use Rattle.std.proofs.Common.{◌≡◌, List, sym, ap, ◌∙◌, subst}
-use Rattle.access_context.specs.Plain.{PlainOutcome, Blocked, plain_outcome}
+use Rattle.std.proofs.Common.{◌≡◌, sym, ap, ◌∙◌}
+use Rattle.access_context.specs.Plain.{plain_outcome}
 use Rattle.job_graph.specs.Rounds.{outcome_of, IsOutcomeOf}
 use Rattle.job_graph.proofs.Due.{if_ok, outcome_done, outcome_blocked, due_blocked, due_done}
 use Rattle.job_graph.proofs.claim.run_claimed.Goals as goal

@@ -1,4 +1,4 @@
-use Rattle.std.proofs.Common.{◌≡◌, map, is_some, sym, ap, ◌∙◌}
+use Rattle.std.proofs.Common.{map, is_some, sym, ap, ◌∙◌}
 use Rattle.std.specs.List.{list_any}
 use Rattle.access_context.specs.Read.{plain_item, read_of}
 use Rattle.job_graph.specs.Rounds.{has_id}

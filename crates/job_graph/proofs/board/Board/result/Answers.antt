@@ -1,4 +1,4 @@
-use Rattle.std.proofs.Common.{◌≡◌, length, sym, ap, ◌∙◌}
+use Rattle.std.proofs.Common.{length, sym, ap, ◌∙◌}
 use Rattle.job_graph.proofs.Kept.{complete_of_end}
 use Rattle.job_graph.proofs.Boards.{board_history, length_outs, ends_ready, ends_over}
 use Rattle.job_graph.proofs.board.Board.result.Goals as goal
