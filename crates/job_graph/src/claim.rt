@@ -60,6 +60,7 @@ pub struct Unfinished<P: Plan> {
 }
 
 /// Runs a claimed job: where an item that it reads has no value it is blocked, and adds nothing.
+#[tactic(auto, using(crate::proofs::Due::outcome_blocked))]
 pub fn run_claimed<P: Plan>(
     alloc: Global,
     plan: &P,

@@ -1,12 +1,8 @@
 use Rattle.std.proofs.Common.{◌≡◌, sym, ap, ◌∙◌}
 use Rattle.access_context.specs.Plain.{plain_outcome}
 use Rattle.job_graph.specs.Rounds.{outcome_of, IsOutcomeOf}
-use Rattle.job_graph.proofs.Due.{if_ok, outcome_done, outcome_blocked, due_blocked, due_done}
+use Rattle.job_graph.proofs.Due.{if_ok, outcome_done, due_blocked, due_done}
 use Rattle.job_graph.proofs.claim.run_claimed.Goals as goal
-
-pub returns-then-not-all_done-clause-outcome : goal.returns-then-not-all_done-clause-outcome
-returns-then-not-all_done-clause-outcome g c =
-    rw c.new.ensures (sym (outcome_blocked g.P.Id.PartialEq.eq (g.P.Plan.meaning c.args.plan.now) c.args.ticket.now c.args.reads.now (sym c.all_done.ensures ∙ c.if-not-all_done.true)))
 
 pub returns-then-not-all_done-clause-in_limit : goal.returns-then-not-all_done-clause-in_limit
 returns-then-not-all_done-clause-in_limit g c =
