@@ -8,3 +8,4 @@ pub mod Due
 pub mod Boards
 pub mod Examples
 pub mod Hands
+pub mod Tables

@@ -26,9 +26,9 @@ added_few (row ∷ rows) zero k i = In-append_left row.2 (flat_map (λ row. row.
 added_few (row ∷ rows) (suc id) k i = In-append_right row.2 (flat_map (λ row. row.2) rows) k (added_few rows id k i)
 
 module _ (opening : List ℕ) (rows : List (ℕ × Access ℕ × List ℕ)) where
-  record Known (job : Spec ℕ) : Type 0 where
-    is : job ≡ job_at rows job.id
-    few : In job.id (opening ++ flat_map (λ row. row.2) rows)
+  pub record Known (job : Spec ℕ) : Type 0 where
+    pub is : job ≡ job_at rows job.id
+    pub few : In job.id (opening ++ flat_map (λ row. row.2) rows)
 
   known_from : (ids : List ℕ) → ((k : ℕ) → In k ids → In k (opening ++ flat_map (λ row. row.2) rows)) → (job : Spec ℕ) → In job (map (job_at rows) ids) → Known job
   known_from ids few job i =
@@ -44,7 +44,7 @@ module _ (opening : List ℕ) (rows : List (ℕ × Access ℕ × List ℕ)) wher
         | false ↦ λ i. absurd i
       ]
 
-  known : (n : ℕ) (job : Spec ℕ) → In job (rounds nat_eq (table opening rows) n).jobs → Known job
+  pub known : (n : ℕ) (job : Spec ℕ) → In job (rounds nat_eq (table opening rows) n).jobs → Known job
   known zero job i = known_from opening (λ k j. In-append_left opening (flat_map (λ row. row.2) rows) k j) job i
   known (suc n) job i =
       let plan = table opening rows in

@@ -1,10 +1,11 @@
 -- Plans that a finite table gives, as the tests use them: the row of a job has its stratum, what it waits for, and the
--- ids of the jobs that it adds. What comes of a job is its own id.
-use Rattle.std.specs.Prelude.{ℕ, nat_le, nat_lt, Bool, true, ◌&&◌, List, [], ◌++◌, map, Option, Some, None, slice_get}
+-- ids of the jobs that it adds. What comes of a job is the sum of its id and of the values that it reads.
+use Rattle.std.specs.Prelude.{ℕ, ◌+◌, ◌%◌, ◌^◌, nat_eq, nat_le, nat_lt, fold, unwrap_or, Bool, true, ◌&&◌, List, [], ◌++◌, map, Option, Some, None, slice_get}
 use Rattle.std.specs.List.{list_all, flat_map}
 use Rattle.access_context.specs.declared.access.Access.{Access}
 use Rattle.access_context.specs.declared.access.Spec.{Spec}
-use Rattle.access_context.specs.Plain.{Done}
+use Rattle.access_context.specs.Plain.{Plain, Done}
+use Rattle.access_context.specs.Read.{value_read}
 use Rattle.job_graph.specs.Meaning.{Meaning}
 
 -- the parts of a row. Where there is none, the job is of the lowest stratum, waits for nothing and adds none.
@@ -38,11 +39,15 @@ module _ (rows : List (ℕ × Access ℕ × List ℕ)) where
   abbrev pub is_sound : Bool
   is_sound = list_all is_sound_row rows
 
+-- a sum with one more value that is read, in 32 bits
+abbrev pub add_read : List (ℕ × Plain ℕ) → ℕ → ℕ → ℕ
+add_read reads total id = (total + unwrap_or (value_read nat_eq reads id) 0) % 2 ^ 32
+
 -- the plan of a table that begins with the jobs of these ids
 abbrev pub table : List ℕ → List (ℕ × Access ℕ × List ℕ) → Meaning ℕ ℕ
 table opening rows = record {
   opening = map (job_at rows) opening;
   stratum = stratum_at rows;
-  outcome = λ id reads. record { value = Done id; added = map (job_at rows) (row_added (slice_get rows id)) };
+  outcome = λ id reads. record { value = Done (fold (add_read reads) id (row_access (slice_get rows id)).reads); added = map (job_at rows) (row_added (slice_get rows id)) };
   universe = opening ++ flat_map (λ row. row.2) rows;
 }

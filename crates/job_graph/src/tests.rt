@@ -90,7 +90,7 @@ fn orders_end_alike<R: Abort>(rt: &R, alloc: Global, workers: u32, orders: u32) 
             (1, Some(1), false),
             (2, None, true),
             (3, None, false),
-            (4, Some(4), false),
+            (4, Some(5), false),
         ] {
             assert_eq!(rt;
                 value(&board, id),
@@ -142,6 +142,9 @@ fn a_worker_is_idle_while_the_one_ready_job_runs(rt: HostRuntime) -> Result<(), 
     assert_eq!(rt; board.events(), history.as_slice());
     assert_eq!(rt; board.result(), End::Ended);
     assert_eq!(rt; board.plan().stratum(&2), 0);
+    for (id, wanted) in [(0, 0), (1, 1), (2, 3)] {
+        assert_eq!(rt; value(&board, id), Some(wanted));
+    }
     Ok(())
 }
 
@@ -167,8 +170,8 @@ fn a_job_waits_for_all_that_it_reads(rt: HostRuntime) -> Result<(), Fail> {
     calls(&rt, rt.alloc(), &mut board, &mut hands, wanted.as_slice())?;
     assert_eq!(rt; board.result(), End::Ended);
     assert_eq!(rt; board.events().len(), 8);
-    for id in 0..4 {
-        assert_eq!(rt; value(&board, id), Some(id));
+    for (id, wanted) in [(0, 0), (1, 1), (2, 2), (3, 6)] {
+        assert_eq!(rt; value(&board, id), Some(wanted));
         assert!(rt; !board.is_stuck(&id));
     }
     Ok(())

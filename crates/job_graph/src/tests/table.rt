@@ -1,8 +1,8 @@
 // Plans that a table gives: a row for each job, which its place names.
-ghost use Rattle.std.specs.Prelude.{◌≡◌, map, Some, IfOk, true};
+ghost use Rattle.std.specs.Prelude.{◌≡◌, map, fold, All, IsSome, IfOk, true, nat_eq, nat_le, slice_get};
 ghost use Rattle.std.specs.List.{list_all};
-ghost use Rattle.std.specs.Prelude.{nat_le, slice_get};
-ghost use Rattle.job_graph.specs.Tables.{row_stratum, row_access, row_added, is_above, stratum_at, job_at, is_sound_row, is_sound, table};
+ghost use Rattle.access_context.specs.Read.{value_read};
+ghost use Rattle.job_graph.specs.Tables.{row_access, row_added, is_above, stratum_at, job_at, is_sound_row, is_sound, add_read, table};
 ghost use Rattle.job_graph.specs.TableLaws.{table_lawful};
 
 use crate::Plan;
@@ -28,7 +28,7 @@ pub fn row(
     Ok((stratum, Access { reads, awaits }, added))
 }
 
-/// A plan by its table. What comes of a job is its own id.
+/// A plan by its table. What comes of a job is the sum of its id and of the values that it reads, in 32 bits.
 #[derive(Drop)]
 pub struct Table {
     opening: Vec<u32>,
@@ -147,6 +147,28 @@ fn added_by(alloc: Global, rows: &[Row], id: u32) -> Result<Vec<Spec<u32>>, NoMe
     }
 }
 
+/// What a job reads.
+fn reads_at(rows: &[Row], id: u32) -> &[u32]
+    ensures { result.now ≡ (row_access (slice_get rows.now id)).reads }
+{
+    match rows.get(id as usize) {
+        Some(row) => row.1.reads.as_slice(),
+        None => &[],
+    }
+}
+
+/// The sum of a number and of the values of these items.
+fn sum_of(reads: &Reads<u32, u32>, start: u32, ids: &[u32]) -> u32
+    requires { All (λ id. IsSome (value_read nat_eq reads.now id)) ids.now }
+    ensures { result ≡ fold (add_read reads.now) start ids.now }
+{
+    let mut sum = start;
+    for id in ids {
+        sum = sum.wrapping_add(*reads.done(id));
+    }
+    sum
+}
+
 impl Plan for Table {
     type Id = u32;
 
@@ -166,11 +188,13 @@ impl Plan for Table {
         &self,
         alloc: Global,
         id: &u32,
-        _reads: &Reads<u32, u32>,
+        reads: &Reads<u32, u32>,
     ) -> Result<Outcome<u32, u32>, NoMemory> {
-        let added = added_by(alloc, self.rows.as_slice(), *id)?;
+        let rows = self.rows.as_slice();
+        let sum = sum_of(reads, *id, reads_at(rows, *id));
+        let added = added_by(alloc, rows, *id)?;
         Ok(Outcome {
-            value: Settled::Done(Arc::new(alloc, *id)?),
+            value: Settled::Done(Arc::new(alloc, sum)?),
             added: Sequence::from_vec(added),
         })
     }
