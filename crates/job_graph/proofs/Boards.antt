@@ -1,11 +1,11 @@
 -- The parts of a board follow its events.
-use Rattle.std.proofs.Common.{◌≡◌, ℕ, zero, suc, ◌+◌, ◌<◌, ◌≤◌, Bool, true, false, not, ◌&&◌, ◌||◌, nat_lt, nat_eq, ◌⊎◌, inl, inr, List, [], ◌∷◌, ◌++◌, map, length, replicate, get_or, Option, Some, None, is_some, refl, sym, ap, ◌∙◌, subst, cond, arith}
-use Rattle.std.specs.Prelude.{IsTrue, ◌↔◌, Contains, slice_get, slice_set, count_by, fold}
-use Rattle.std.specs.List.{list_all, list_any, find}
+use Rattle.std.proofs.Common.{◌≡◌, ℕ, zero, suc, ◌+◌, ◌<◌, ◌≤◌, Bool, true, false, not, ◌&&◌, ◌||◌, nat_eq, inl, inr, List, [], ◌∷◌, ◌++◌, map, length, replicate, get_or, Option, Some, None, is_some, refl, sym, ap, ◌∙◌, subst, cond, arith}
+use Rattle.std.specs.Prelude.{IfSome, slice_get, slice_set, count_by, fold, option_map}
+use Rattle.std.specs.List.{list_any, find}
 use Rattle.std.specs.Vec.{vec_len, vec_capacity}
 use Rattle.std.specs.declared.vec.Vec.{Vec}
 use Rattle.std.specs.declared.alloc.Global.{Global}
-use Rattle.std.proofs.lemmas.Bool.{and_parts, and_from, or_cases, or_left, or_right, or_parts, false≢true, cases_Bool, false_from_ne_true, lt-ltb, eqb-true, eq-eqb, not_from_false, not-true}
+use Rattle.std.proofs.lemmas.Bool.{and_parts, and_from, or_right, false≢true, cases_Bool, false_from_ne_true, lt-ltb, eqb-true, eq-eqb, not_from_false, not-true}
 use Rattle.std.proofs.lemmas.List.{length-set, length-replicate, map-append}
 use Rattle.std.proofs.lemmas.List.Sums.{fold-append, count_by-le-length, sum_by-set}
 use Rattle.std.proofs.lemmas.Option.{slice_get_within, get_or_from_slice_get, slice_get-get_or}
@@ -15,22 +15,21 @@ use Rattle.access_context.specs.Plain.{Plain, PlainOutcome, plain}
 use Rattle.access_context.specs.Read.{plain_item}
 use Rattle.job_graph.specs.declared.event.Event.{Event}
 use Rattle.job_graph.specs.declared.event.Event.TheVariants as event
-use Rattle.job_graph.specs.declared.event.End.{End}
 use Rattle.job_graph.specs.declared.event.End.TheVariants.{Running, Ended, Halted}
 use Rattle.job_graph.specs.Meaning.{Meaning}
-use Rattle.job_graph.specs.Rounds.{State, state_from, value_in, is_settled, is_ready, reads_in, outcome_in, limit, IsDue, IsOutcomeOf}
+use Rattle.job_graph.specs.Rounds.{State, state_from, value_in, is_unsettled_job, is_ready, reads_in, outcome_in, limit, IsOutcomeOf}
 use Rattle.job_graph.specs.Laws.{IsLawful}
-use Rattle.job_graph.specs.Histories.{is_halt, is_halt_of, has_halted, out_after, out_of, running, was_claimed, has_out, state_after, state_of, is_ready_id, is_allowed, is_run, some_ready, is_claimable, next_of, IsNext, end_of}
+use Rattle.job_graph.specs.Histories.{is_halt, is_halt_of, has_halted, out_after, out_of, running, was_claimed, has_out, state_of, is_ready_id, is_allowed, is_run, some_ready, is_claimable, next_of, IsNext, end_of}
 use Rattle.job_graph.specs.Promises.{IsHistory}
 use Rattle.job_graph.specs.BoardView.{BoardView, IsBoard, halted_after, halted_of}
 use Rattle.job_graph.specs.Answers.{HandsOut, some_claimable}
-use Rattle.job_graph.proofs.Members.{In, find-some, find-In, list_any-In, list_any-found, list_all-In, In-from_Contains, Contains-from_In}
+use Rattle.job_graph.specs.Members.{In, find-some, find-In, list_any-In, list_any-found, In-from_Contains, Contains-from_In}
 use Rattle.job_graph.proofs.Growth.{none≢some, Within, reads_agree, all_settled_within, outcome_within, ready_reads, ready_unsettled, settle}
-use Rattle.job_graph.proofs.Confluence.{nil_append, IsOrderly}
+use Rattle.job_graph.proofs.Confluence.{nil_append}
 use Rattle.job_graph.proofs.Limit.{limit_orderly, below_limit}
 use Rattle.job_graph.proofs.Run.{get_set_same, get_set_other, is_run-push, run_induction, state_of-push, out_of-push, claim_allowed, IsOut, Grows, grows, finish_is}
 use Rattle.job_graph.proofs.Owned.{list_any-push}
-use Rattle.job_graph.proofs.Kept.{claimed_runs, within_limit, history_of}
+use Rattle.job_graph.proofs.Kept.{claimed_runs, within_limit, history_of, complete_of_end}
 
 length_fold-out : {Id : Type 0} (outs : List (Option Id)) (events : List (Event Id)) → length (fold out_after outs events) ≡ length outs
 length_fold-out outs [] = refl
@@ -240,6 +239,17 @@ module _ {Id V : Type 0} (same : Id → Id → Bool) (plan : Meaning Id V) (work
         ]) in
         end_is _ _ _ nobody over (eq-eqb (running workers events.items) 0 stands)
 
+    -- what is settled is settled so in the limit
+    pub settled_is : (id : Id) (x : Plain V) → value_in same state id ≡ Some x → value_in same (limit same plan) id ≡ Some x
+    settled_is id x e = (history_of same plan workers lawful events.items b.legal).values id x (sym (ap (λ s. value_in same s id) b.state_is) ∙ e)
+
+    -- a board that has ended tells the limit's values and stuck jobs
+    pub ended_values : end_of same plan workers events.items ≡ Ended → (id : Id) → value_in same state id ≡ value_in same (limit same plan) id
+    ended_values e id = ap (λ s. value_in same s id) b.state_is ∙ (complete_of_end same plan workers lawful events.items b.legal e).values id
+
+    pub ended_stuck : end_of same plan workers events.items ≡ Ended → (id : Id) → is_unsettled_job same state id ≡ is_unsettled_job same (limit same plan) id
+    ended_stuck e id = ap (λ s. is_unsettled_job same s id) b.state_is ∙ (complete_of_end same plan workers lawful events.items b.legal e).stuck id
+
   pub new_history : IsLawful same plan → (events : List (Event Id)) → events ≡ [] → IsHistory same plan workers events
   new_history lawful events e = history_of same plan workers lawful events (ap (is_run same plan workers) e)
 
@@ -301,3 +311,17 @@ next_none same plan state events o n e = subst (IsNext same plan state events) e
 
 pub next_some : {Id V : Type 0} (same : Id → Id → Bool) (plan : Meaning Id V) (state : State Id V) (events : List (Event Id)) (o : Option (Id × List (Id × Plain V))) (id : Id) (reads : List (Id × Plain V)) → IsNext same plan state events o → o ≡ Some (id, reads) → (job : Spec Id) × (next_of same plan state events state.jobs ≡ Some job) × (job.id ≡ id) × (reads ≡ reads_in same state job.access.reads)
 next_some same plan state events o id reads n e = subst (IsNext same plan state events) e n
+
+-- what is said of the value that a search may find
+pub if_some : {X Y : Type 0} (o : Option X) (f : X → Y) (P : Y → Type 0) (v : Option Y) → option_map f o ≡ v → ((y : Y) → v ≡ Some y → P y) → IfSome o (λ x. P (f x))
+if_some None f P v e h = tt
+if_some (Some x) f P v e h = h (f x) (sym e)
+
+-- what `&&` answers of a job that is there, and of one that isn't
+pub stuck_there : (there settled found : Bool) → there ≡ true → settled ≡ found → not settled ≡ (there && not found)
+stuck_there true settled found e is = ap not is
+stuck_there false settled found e is = absurd (false≢true e)
+
+pub stuck_absent : (answer there found : Bool) → answer ≡ false → answer ≡ there → answer ≡ (there && not found)
+stuck_absent answer true found e is = absurd (false≢true (sym e ∙ is))
+stuck_absent answer false found e is = e

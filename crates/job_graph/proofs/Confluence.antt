@@ -1,14 +1,14 @@
 -- Two growths of one graph come to the same.
-use Rattle.std.proofs.Common.{◌≡◌, ℕ, ◌≤◌, Bool, true, false, not, ◌&&◌, ◌||◌, nat_le, ◌⊎◌, inl, inr, List, [], ◌∷◌, ◌++◌, map, Option, Some, None, is_some, refl, sym, ap, ◌∙◌, subst, cond, unwrap_or, arith}
+use Rattle.std.proofs.Common.{◌≡◌, ℕ, ◌≤◌, Bool, true, false, not, ◌||◌, nat_le, inl, inr, List, [], ◌∷◌, ◌++◌, Option, Some, None, refl, sym, ap, ◌∙◌, subst, arith}
 use Rattle.std.specs.Prelude.{IsTrue, ◌↔◌}
-use Rattle.std.specs.List.{list_all, list_any, flat_map, filter}
-use Rattle.std.proofs.lemmas.Bool.{and_parts, and_from, or_cases, or_left, or_right, false≢true, not-true, not_from_false, leb-true, le-leb, cases_Bool}
+use Rattle.std.specs.List.{list_all}
+use Rattle.std.proofs.lemmas.Bool.{and_from, or_cases, or_left, or_right, false≢true, not-true, not_from_false, leb-true, le-leb, cases_Bool}
 use Rattle.access_context.specs.declared.access.Spec.{Spec}
-use Rattle.access_context.specs.Plain.{Plain, PlainOutcome, Blocked, is_done}
+use Rattle.access_context.specs.Plain.{Plain}
 use Rattle.job_graph.specs.Meaning.{Meaning}
-use Rattle.job_graph.specs.Rounds.{State, value_in, is_settled, item_in, reads_in, start, is_done_up_to, awaits_nothing, is_ready, outcome_of, outcome_in, with_outcomes}
-use Rattle.job_graph.proofs.Members.{In, In-append_left, In-append_right, In-append_cases, list_all-In, list_all-from}
-use Rattle.job_graph.proofs.Growth.{none≢some, some_of, none_of, some_is, read_of-push_cases, read_of-push_last, Within, within_itself, within_through, settled_within, all_settled_within, reads_agree, outcome_within, ready_unsettled, ready_reads, ready_awaits, settle, within_settle, Grown, begun, grown, opening_in}
+use Rattle.job_graph.specs.Rounds.{State, value_in, is_settled, is_done_up_to, awaits_nothing, is_ready, outcome_of, outcome_in}
+use Rattle.job_graph.specs.Members.{In, In-append_right, In-append_cases, list_all-In, list_all-from}
+use Rattle.job_graph.proofs.Growth.{none≢some, some_of, read_of-push_cases, Within, within_itself, within_through, settled_within, all_settled_within, reads_agree, outcome_within, ready_reads, ready_awaits, settle, within_settle, Grown, begun, grown, opening_in}
 
 pub nil_append : {X : Type 0} (xs : List X) → xs ++ [] ≡ xs
 nil_append [] = refl

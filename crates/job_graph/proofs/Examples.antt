@@ -1,11 +1,10 @@
 -- Worked rows: what the definitions say of a small plan.
-use Rattle.std.proofs.Common.{◌≡◌, ℕ, zero, suc, Bool, true, false, List, [], ◌∷◌, map, Option, Some, None, refl, nat_eq}
+use Rattle.std.proofs.Common.{◌≡◌, ℕ, zero, suc, true, false, List, [], ◌∷◌, map, Some, None, refl, nat_eq}
 use Rattle.access_context.specs.declared.access.Spec.{Spec}
-use Rattle.access_context.specs.Plain.{Plain, Done, PlainOutcome}
+use Rattle.access_context.specs.Plain.{Done}
 use Rattle.job_graph.specs.declared.event.Event.{Event}
 use Rattle.job_graph.specs.declared.event.Event.TheVariants.{Claim, Finish, Halt}
-use Rattle.job_graph.specs.declared.event.End.{End}
-use Rattle.job_graph.specs.declared.event.End.TheVariants.{Running, Ended, Halted}
+use Rattle.job_graph.specs.declared.event.End.TheVariants.{Ended}
 use Rattle.job_graph.specs.Meaning.{Meaning}
 use Rattle.job_graph.specs.Rounds.{is_settled, is_unsettled_job, limit}
 use Rattle.job_graph.specs.Histories.{is_run, end_of}

@@ -1,14 +1,13 @@
 -- States that grow by one job at a time, each job being ready in an earlier one: rounds and histories alike.
-use Rattle.std.proofs.Common.{◌≡◌, ℕ, ◌≤◌, Bool, true, false, not, ◌&&◌, ◌||◌, nat_le, ◌⊎◌, inl, inr, List, [], ◌∷◌, ◌++◌, map, Option, Some, None, is_some, refl, sym, ap, ◌∙◌, subst, cond, unwrap_or}
-use Rattle.std.specs.Prelude.{IsTrue, ◌↔◌}
-use Rattle.std.specs.List.{list_all, list_any, flat_map, filter}
-use Rattle.std.proofs.lemmas.Bool.{and_parts, and_from, or_cases, or_left, or_right, false≢true, not-true}
+use Rattle.std.proofs.Common.{◌≡◌, Bool, true, false, ◌⊎◌, inl, inr, List, [], ◌∷◌, ◌++◌, Option, Some, None, is_some, refl, sym, ap, ◌∙◌, subst, cond, unwrap_or}
+use Rattle.std.specs.List.{list_all}
+use Rattle.std.proofs.lemmas.Bool.{and_parts, false≢true, not-true}
 use Rattle.access_context.specs.declared.access.Spec.{Spec}
-use Rattle.access_context.specs.Plain.{Plain, PlainOutcome, Blocked, is_done}
+use Rattle.access_context.specs.Plain.{Plain, Blocked}
 use Rattle.access_context.specs.Read.{read_of}
 use Rattle.job_graph.specs.Meaning.{Meaning}
-use Rattle.job_graph.specs.Rounds.{State, value_in, is_settled, item_in, reads_in, start, is_done_up_to, awaits_nothing, is_ready, outcome_of, outcome_in, with_outcomes}
-use Rattle.job_graph.proofs.Members.{In, In-append_left, In-append_right, In-append_cases, list_all-In, list_all-from, map_agree}
+use Rattle.job_graph.specs.Rounds.{State, value_in, is_settled, item_in, reads_in, start, awaits_nothing, is_ready, outcome_of, outcome_in, with_outcomes}
+use Rattle.job_graph.specs.Members.{In, In-append_left, list_all-In, list_all-from, map_agree}
 
 pub none≢some : {X : Type 0} (x : X) (o : Option X) → o ≡ None → o ≡ Some x → ⊥
 none≢some x o p q = cc

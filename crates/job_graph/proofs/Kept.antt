@@ -1,31 +1,24 @@
 -- What legal histories keep, and what they come to.
-use Rattle.std.proofs.Common.{◌≡◌, ℕ, zero, suc, ◌+◌, ◌<◌, ◌≤◌, Bool, true, false, not, ◌&&◌, ◌||◌, ◌⊎◌, inl, inr, List, [], ◌∷◌, ◌++◌, length, Option, Some, None, is_some, refl, sym, ap, ◌∙◌, subst, cond, arith, append_assoc, nat_eq}
-use Rattle.std.specs.Prelude.{IsTrue, ◌↔◌, Contains, slice_get, count_by}
-use Rattle.std.specs.List.{list_all, list_any, filter}
-use Rattle.std.proofs.lemmas.Bool.{and_parts, and_from, or_cases, false≢true, cases_Bool, eqb-true, false_from_ne_true, true_from_ne_false}
+use Rattle.std.proofs.Common.{◌≡◌, ℕ, ◌<◌, ◌≤◌, Bool, true, false, not, ◌&&◌, inl, inr, List, [], ◌∷◌, ◌++◌, length, Option, Some, is_some, refl, sym, ap, ◌∙◌, subst, cond, arith, nat_eq}
+use Rattle.std.specs.Prelude.{Contains, slice_get, count_by}
+use Rattle.std.specs.List.{list_any, filter}
+use Rattle.std.proofs.lemmas.Bool.{and_parts, and_from, false≢true, cases_Bool, eqb-true, false_from_ne_true}
 use Rattle.std.proofs.lemmas.List.Sums.{length-filter}
 use Rattle.access_context.specs.declared.access.Spec.{Spec}
-use Rattle.access_context.specs.Plain.{Plain}
 use Rattle.job_graph.specs.declared.event.Event.{Event}
 use Rattle.job_graph.specs.declared.event.Event.TheVariants as event
-use Rattle.job_graph.specs.declared.event.End.{End}
 use Rattle.job_graph.specs.declared.event.End.TheVariants.{Running, Ended, Halted}
 use Rattle.job_graph.specs.Meaning.{Meaning}
-use Rattle.job_graph.specs.Rounds.{State, value_in, is_settled, has_id, is_unsettled_job, is_ready, awaits_nothing, is_done_up_to, limit}
+use Rattle.job_graph.specs.Rounds.{State, value_in, is_settled, has_id, is_ready, awaits_nothing, is_done_up_to, limit}
 use Rattle.job_graph.specs.Laws.{IsLawful}
-use Rattle.job_graph.specs.Histories.{has_halted, out_of, running, is_claim_of, was_claimed, was_finished, state_of, is_allowed, goes_on, is_run, some_ready, end_of}
+use Rattle.job_graph.specs.Histories.{has_halted, out_of, running, was_claimed, state_of, is_allowed, goes_on, is_run, some_ready, end_of}
 use Rattle.job_graph.specs.Promises.{IsReadSettled, IsHistory, IsComplete, AddsNoneBelow, IsFirstOver}
-use Rattle.job_graph.proofs.Members.{In, list_all-In, list_any-In, list_any-found, In-from_Contains, Contains-from_In}
-use Rattle.job_graph.proofs.Growth.{none≢some, none_of, some_of, Within, within_itself, settled_within, ready_reads, ready_awaits}
-use Rattle.job_graph.proofs.Confluence.{IsOrderly, central, settled_up_to}
+use Rattle.job_graph.specs.Members.{In, slice_get-In, list_all-In, list_any-In, list_any-found, In-from_Contains, Contains-from_In}
+use Rattle.job_graph.proofs.Growth.{none_of, some_of, Within, settled_within, ready_reads, ready_awaits}
+use Rattle.job_graph.proofs.Confluence.{central, settled_up_to}
 use Rattle.job_graph.proofs.Limit.{filter-from, below_limit, limit_below, limit_orderly, limit_over, limit_first}
-use Rattle.job_graph.proofs.Run.{is_run-parts, may_claim, Grows, grows}
+use Rattle.job_graph.proofs.Run.{is_run-parts, may_claim, grows}
 use Rattle.job_graph.proofs.Owned.{Owned, owned}
-
-pub slice_get-In : {X : Type 0} (xs : List X) (i : ℕ) (x : X) → slice_get xs i ≡ Some x → In x xs
-slice_get-In [] i x e = absurd (none≢some x None refl e)
-slice_get-In (y ∷ xs) zero x e = let s : y ≡ x = cc in inl s
-slice_get-In (y ∷ xs) (suc i) x e = inr (slice_get-In xs i x e)
 
 In-length : {X : Type 0} (xs : List X) (x : X) → In x xs → 0 < length xs
 In-length [] x i = absurd i

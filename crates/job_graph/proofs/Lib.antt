@@ -1,4 +1,3 @@
-pub mod Members
 pub mod Growth
 pub mod Confluence
 pub mod Limit
@@ -8,3 +7,5 @@ pub mod Kept
 pub mod Due
 pub mod Boards
 pub mod Examples
+pub mod Hands
+pub mod Tables

@@ -1,17 +1,15 @@
 -- The rounds are a growth, and end in a state without a ready job.
-use Rattle.std.proofs.Common.{◌≡◌, ℕ, zero, suc, ◌+◌, ◌<◌, ◌≤◌, Bool, true, false, not, ◌&&◌, ◌||◌, nat_le, ◌⊎◌, inl, inr, List, [], ◌∷◌, ◌++◌, map, length, Option, Some, None, is_some, refl, sym, ap, ◌∙◌, subst, cond, unwrap_or, arith, append_assoc}
-use Rattle.std.specs.Prelude.{IsTrue, ◌↔◌, Contains}
-use Rattle.std.specs.List.{list_all, list_any, flat_map, filter}
-use Rattle.std.proofs.lemmas.Bool.{and_parts, and_from, or_cases, or_left, or_right, or_parts, false≢true, not-true, not_from_false, cases_Bool, false_from_ne_true}
+use Rattle.std.proofs.Common.{◌≡◌, ℕ, zero, suc, ◌+◌, ◌<◌, ◌≤◌, Bool, true, false, ◌⊎◌, inl, inr, List, [], ◌∷◌, ◌++◌, map, length, Some, is_some, refl, sym, ap, ◌∙◌, subst, cond, arith, append_assoc}
+use Rattle.std.specs.List.{list_any, flat_map, filter}
+use Rattle.std.proofs.lemmas.Bool.{or_parts, false≢true, cases_Bool, false_from_ne_true}
 use Rattle.access_context.specs.declared.access.Spec.{Spec}
-use Rattle.access_context.specs.Plain.{Plain}
 use Rattle.access_context.specs.Read.{read_of}
 use Rattle.job_graph.specs.Meaning.{Meaning}
-use Rattle.job_graph.specs.Rounds.{State, value_in, is_settled, start, is_ready, outcome_in, with_outcomes, round, rounds, limit}
+use Rattle.job_graph.specs.Rounds.{State, is_settled, is_ready, outcome_in, with_outcomes, round, rounds, limit}
 use Rattle.job_graph.specs.Laws.{IsLawful}
 use Rattle.job_graph.specs.Histories.{some_ready}
-use Rattle.job_graph.proofs.Members.{In, In-append_left, In-append_right, In-append_cases, In-filter, list_all-In, list_all-from, list_any-In, list_any-found, In-from_Contains, Contains-from_In}
-use Rattle.job_graph.proofs.Growth.{Within, within_itself, within_through, settled_within, ready_unsettled, settle, within_settle, Grown, begun, grown, none_of}
+use Rattle.job_graph.specs.Members.{In, In-filter, list_any-In, list_any-found, In-from_Contains, Contains-from_In}
+use Rattle.job_graph.proofs.Growth.{Within, within_itself, within_through, settled_within, ready_unsettled, settle, within_settle, Grown, begun, grown}
 use Rattle.job_graph.proofs.Confluence.{nil_append, IsOrderly, orderly_within, below}
 
 -- how many elements pass a test

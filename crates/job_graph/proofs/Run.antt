@@ -1,21 +1,19 @@
 -- Legal histories, one event after another.
-use Rattle.std.proofs.Common.{◌≡◌, ℕ, zero, suc, ◌+◌, ◌<◌, ◌≤◌, Bool, true, false, not, ◌&&◌, ◌||◌, nat_le, nat_lt, ◌⊎◌, inl, inr, List, [], ◌∷◌, ◌++◌, map, length, replicate, Option, Some, None, is_some, refl, sym, ap, ◌∙◌, subst, cond, unwrap_or, arith, append_assoc}
-use Rattle.std.specs.Prelude.{IsTrue, ◌↔◌, Contains, fold, slice_get, slice_set}
-use Rattle.std.specs.List.{list_all, list_any, flat_map, filter, find}
-use Rattle.std.proofs.lemmas.Bool.{and_parts, and_from, or_cases, or_left, or_right, or_parts, or_from, false≢true, not-true, not_from_false, cases_Bool}
+use Rattle.std.proofs.Common.{◌≡◌, ℕ, zero, suc, Bool, true, false, not, ◌&&◌, nat_lt, ◌⊎◌, inl, inr, List, [], ◌∷◌, ◌++◌, replicate, Option, Some, None, refl, sym, ap, ◌∙◌, subst, arith, append_assoc}
+use Rattle.std.specs.Prelude.{slice_get, slice_set}
+use Rattle.std.specs.List.{find}
+use Rattle.std.proofs.lemmas.Bool.{and_parts, and_from, false≢true, not-true, not_from_false}
 use Rattle.std.proofs.lemmas.List.Sums.{fold-append}
 use Rattle.access_context.specs.declared.access.Spec.{Spec}
-use Rattle.access_context.specs.Plain.{Plain}
-use Rattle.access_context.specs.Read.{read_of}
 use Rattle.job_graph.specs.declared.event.Event.{Event}
 use Rattle.job_graph.specs.declared.event.Event.TheVariants as event
 use Rattle.job_graph.specs.Meaning.{Meaning}
-use Rattle.job_graph.specs.Rounds.{State, value_in, is_settled, has_id, start, is_ready, outcome_in, with_outcomes, limit}
+use Rattle.job_graph.specs.Rounds.{State, has_id, start, is_ready, limit}
 use Rattle.job_graph.specs.Laws.{IsLawful}
-use Rattle.job_graph.specs.Histories.{out_after, out_of, is_free, has_halted, is_claim_of, was_claimed, has_out, finished, state_after, state_of, is_ready_id, is_allowed, goes_on, is_run}
-use Rattle.job_graph.proofs.Members.{In, find-some, find-In, list_any-found}
+use Rattle.job_graph.specs.Histories.{out_after, out_of, is_free, has_halted, was_claimed, has_out, finished, state_after, state_of, is_ready_id, is_allowed, goes_on, is_run}
+use Rattle.job_graph.specs.Members.{In, find-some, find-In, list_any-found}
 use Rattle.job_graph.proofs.Growth.{none≢some, Within, within_itself, within_through, settle, within_settle, outcome_within, ready_reads, Grown, begun, grown}
-use Rattle.job_graph.proofs.Confluence.{nil_append, IsOrderly, orderly_within}
+use Rattle.job_graph.proofs.Confluence.{nil_append, orderly_within}
 use Rattle.job_graph.proofs.Limit.{below_limit, limit_orderly}
 
 -- an element after a write

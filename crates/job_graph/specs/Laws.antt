@@ -3,7 +3,7 @@ use Rattle.std.specs.Prelude.{◌≡◌, ℕ, ◌<◌, ◌≤◌, Bool, false, I
 use Rattle.access_context.specs.declared.access.Spec.{Spec}
 use Rattle.access_context.specs.Plain.{Plain, is_done}
 use Rattle.job_graph.specs.Meaning.{Meaning}
-use Rattle.job_graph.specs.Rounds.{State, rounds, outcome_in}
+use Rattle.job_graph.specs.Rounds.{rounds, outcome_in}
 
 pub record IsLawful {Id V : Type 0} (same : Id → Id → Bool) (plan : Meaning Id V) : Type 0 where
   -- ids that compare equal are one id

@@ -5,3 +5,7 @@ pub mod Histories
 pub mod Promises
 pub mod BoardView
 pub mod Answers
+pub mod Members
+pub mod Tables
+pub mod TableLaws
+pub mod Hands

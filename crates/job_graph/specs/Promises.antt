@@ -1,11 +1,11 @@
 -- What holds of every legal history, and of one that has ended.
-use Rattle.std.specs.Prelude.{◌≡◌, ◌↔◌, ℕ, ◌≤◌, Bool, true, false, List, [], ◌∷◌, ◌++◌, count_by, Option, Some, Contains, if◌then◌else◌}
+use Rattle.std.specs.Prelude.{◌≡◌, ◌↔◌, ℕ, ◌≤◌, Bool, true, false, List, ◌∷◌, ◌++◌, count_by, Some, Contains, if◌then◌else◌}
 use Rattle.access_context.specs.declared.access.Spec.{Spec}
 use Rattle.access_context.specs.Plain.{Plain}
 use Rattle.job_graph.specs.declared.event.Event.{Event}
 use Rattle.job_graph.specs.declared.event.Event.TheVariants as event
 use Rattle.job_graph.specs.Meaning.{Meaning}
-use Rattle.job_graph.specs.Rounds.{State, value_in, is_settled, is_unsettled_job, is_ready, rounds, limit}
+use Rattle.job_graph.specs.Rounds.{value_in, is_settled, is_unsettled_job, is_ready, rounds, limit}
 use Rattle.job_graph.specs.Histories.{has_halted, is_claim_of, is_finish_of, was_finished, state_of, is_run, some_ready}
 
 module _ {Id V : Type 0} (same : Id → Id → Bool) (plan : Meaning Id V) where

@@ -1,9 +1,9 @@
-ghost use Rattle.std.specs.Prelude.{◌≡◌, ◌<◌, [], ◌∷◌, ◌++◌, option_map, IfOk, OnOk, IfErr, OnErr, Some, None, slice_get, if◌then◌else◌};
+ghost use Rattle.std.specs.Prelude.{◌≡◌, ◌<◌, [], ◌∷◌, ◌++◌, option_map, IfSome, IfOk, OnOk, IfErr, OnErr, Some, None, slice_get, if◌then◌else◌};
 ghost use Rattle.std.specs.List.{list_any};
 ghost use Rattle.access_context.specs.Plain.{plain, plain_outcome};
-ghost use Rattle.job_graph.specs.Rounds.{value_in, is_unsettled_job, IsOutcomeOf};
+ghost use Rattle.job_graph.specs.Rounds.{value_in, is_unsettled_job, limit, IsOutcomeOf};
 ghost use Rattle.job_graph.specs.Histories.{is_halt_of, out_of, state_of, end_of};
-ghost use Rattle.job_graph.specs.Promises.{IsHistory};
+ghost use Rattle.job_graph.specs.Promises.{IsHistory, IsComplete};
 
 use crate::claim::{Claim, Ticket, Unfinished};
 use crate::event::{End, Event};
@@ -16,6 +16,12 @@ use std::marker::Model;
 
 /// A board of jobs: what each worker did so far, and what came of it. A contract sees its plan, its workers and its
 /// events; all else follows from these.
+///
+/// This body keeps plain lists and finds a ready job by scanning them. To test a job it looks up the job and each of its
+/// reads in the list of values and, where the job awaits a stratum, every job. So a claim and `result` take up to as many
+/// comparisons as the square of the jobs and reads together, and as many again for each job that awaits a stratum. A run
+/// takes two calls for each job. `get` and `is_stuck` take one pass. No contract speaks of the lists, nor of which ready
+/// job comes first, so a body that keeps counts can stand in this one's place.
 #[derive(Drop)]
 pub struct Board<P: Plan> {
     plan: P,
@@ -173,6 +179,7 @@ impl<P: Plan> Board<P> {
     /// Where the board stands. It takes no memory.
     pub fn result(&self) -> End
         ensures end { result ≡ end_of P.Id.eq (P.meaning self.now.plan) self.now.workers self.now.events }
+        ensures complete { result ≡ End.Ended → IsComplete P.Id.eq (P.meaning self.now.plan) self.now.events }
         ensures history { IsHistory P.Id.eq (P.meaning self.now.plan) self.now.workers self.now.events }
     {
         if self.any_halted {
@@ -198,14 +205,17 @@ impl<P: Plan> Board<P> {
 
     /// What came of a job, where it is settled. It takes no memory.
     pub fn get(&self, id: &P::Id) -> Option<&Settled<P::Value>>
-        ensures { option_map (λ s. plain s.now) result ≡ value_in P.Id.eq (state_of P.Id.eq (P.meaning self.now.plan) self.now.events) id.now }
+        ensures value { option_map (λ s. plain s.now) result ≡ value_in P.Id.eq (state_of P.Id.eq (P.meaning self.now.plan) self.now.events) id.now }
+        ensures in_limit { IfSome result (λ s. value_in P.Id.eq (limit P.Id.eq (P.meaning self.now.plan)) id.now ≡ Some (plain s.now)) }
+        ensures ended { end_of P.Id.eq (P.meaning self.now.plan) self.now.workers self.now.events ≡ End.Ended → option_map (λ s. plain s.now) result ≡ value_in P.Id.eq (limit P.Id.eq (P.meaning self.now.plan)) id.now }
     {
         scan::value_of(self.values.as_slice(), id)
     }
 
     /// Whether this is a job that isn't settled; on a board that has ended it never will be. It takes no memory.
     pub fn is_stuck(&self, id: &P::Id) -> bool
-        ensures { result ≡ is_unsettled_job P.Id.eq (state_of P.Id.eq (P.meaning self.now.plan) self.now.events) id.now }
+        ensures unsettled { result ≡ is_unsettled_job P.Id.eq (state_of P.Id.eq (P.meaning self.now.plan) self.now.events) id.now }
+        ensures ended { end_of P.Id.eq (P.meaning self.now.plan) self.now.workers self.now.events ≡ End.Ended → result ≡ is_unsettled_job P.Id.eq (limit P.Id.eq (P.meaning self.now.plan)) id.now }
     {
         scan::has_job(self.jobs.as_slice(), id) && !scan::is_settled(self.values.as_slice(), id)
     }

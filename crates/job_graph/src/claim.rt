@@ -1,6 +1,6 @@
 ghost use Rattle.std.specs.Prelude.{◌≡◌, IfOk};
 ghost use Rattle.access_context.specs.Plain.{plain_outcome};
-ghost use Rattle.job_graph.specs.Rounds.{IsDue, IsOutcomeOf};
+ghost use Rattle.job_graph.specs.Rounds.{outcome_of, IsDue, IsOutcomeOf};
 
 use crate::plan::Plan;
 use access_context::{Outcome, Reads, Settled};
@@ -60,6 +60,7 @@ pub struct Unfinished<P: Plan> {
 }
 
 /// Runs a claimed job: where an item that it reads has no value it is blocked, and adds nothing.
+#[tactic(auto, using(crate::proofs::Due::outcome_blocked))]
 pub fn run_claimed<P: Plan>(
     alloc: Global,
     plan: &P,
@@ -67,7 +68,8 @@ pub fn run_claimed<P: Plan>(
     reads: &Reads<P::Id, P::Value>,
 ) -> Result<Outcome<P::Value, P::Id>, NoMemory>
     requires { IsDue P.Id.eq (P.meaning plan.now) ticket.now reads.now }
-    ensures { IfOk result (λ o. IsOutcomeOf P.Id.eq (P.meaning plan.now) ticket.now (plain_outcome o)) }
+    ensures outcome { IfOk result (λ o. plain_outcome o ≡ outcome_of P.Id.eq (P.meaning plan.now) ticket.now reads.now) }
+    ensures in_limit { IfOk result (λ o. IsOutcomeOf P.Id.eq (P.meaning plan.now) ticket.now (plain_outcome o)) }
 {
     if !reads.all_done() {
         return Ok(Outcome {

@@ -17,3 +17,6 @@ pub use laws::{
     ready_job_bars_lower_strata,
 };
 pub use plan::Plan;
+
+#[cfg(test)]
+mod tests;

@@ -1,6 +1,6 @@
--- What stands in a list.
-use Rattle.std.proofs.Common.{◌≡◌, ℕ, zero, suc, ◌<◌, Bool, true, false, cond, ◌&&◌, ◌||◌, ◌⊎◌, inl, inr, List, [], ◌∷◌, ◌++◌, map, length, get_or, drop, ◌+◌, Option, Some, None, refl, sym, ap, ◌∙◌, subst, arith}
-use Rattle.std.specs.List.{list_all, list_any, flat_map, filter, find, Contains}
+-- What stands in a list. These are lemmas; no contract cites them.
+use Rattle.std.proofs.Common.{◌≡◌, ℕ, zero, suc, ◌<◌, Bool, true, false, cond, ◌⊎◌, inl, inr, List, [], ◌∷◌, ◌++◌, map, length, get_or, drop, ◌+◌, Some, refl, sym, ap, ◌∙◌, subst, arith}
+use Rattle.std.specs.List.{list_all, list_any, flat_map, filter, find, Contains, slice_get}
 use Rattle.std.proofs.Math.Seq.{drop-cons}
 use Rattle.std.proofs.lemmas.Bool.{and_parts, and_from, or_cases, or_left, or_right, false≢true}
 
@@ -99,6 +99,11 @@ module _ {X : Type 0} where
         | inl e ↦ (0, omega arith, e)
         | inr i ↦ let c = Contains-from_In ys x i in (suc c.0, omega (arith, c.1), c.2)
       ]
+
+pub slice_get-In : {X : Type 0} (xs : List X) (i : ℕ) (x : X) → slice_get xs i ≡ Some x → In x xs
+slice_get-In [] i x e = cc
+slice_get-In (y ∷ xs) zero x e = let s : y ≡ x = cc in inl s
+slice_get-In (y ∷ xs) (suc i) x e = inr (slice_get-In xs i x e)
 
 pub map_agree : {X Y : Type 0} (f g : X → Y) (xs : List X) → ((x : X) → In x xs → f x ≡ g x) → map f xs ≡ map g xs
 map_agree f g [] agree = refl
