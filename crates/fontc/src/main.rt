@@ -1,0 +1,33 @@
+//! The font compiler fontc, over the real files and the real console.
+#![tactic(auto)]
+
+use fontc_cli::{Status, run};
+use outside_io::{OpenGate, RealConsole, RealFiles};
+use std::process::ExitCode;
+use std::{env, io};
+
+fn main(rt: HostRuntime) -> ExitCode {
+    let status = match words(&rt) {
+        Ok(words) => run_words(&rt, words.as_slice()),
+        // A word that isn't UTF-8 is of no command.
+        Err(error) if error.kind() != io::ErrorKind::OutOfMemory => Status::Usage,
+        Err(_) => Status::NoMemory,
+    };
+    ExitCode::from(status.code())
+}
+
+/// The words behind the program's name.
+fn words(rt: &HostRuntime) -> io::Result<Vec<String>> {
+    Ok(env::args(rt)?.skip(1).collect::<Vec<String>>(rt.alloc())?)
+}
+
+/// Runs the command that the words are.
+fn run_words(rt: &HostRuntime, words: &[String]) -> Status {
+    match RealFiles::new(rt, rt.alloc()) {
+        Ok(mut files) => {
+            let mut console = RealConsole::new(rt);
+            run(rt.alloc(), words, &mut files, &mut console, &OpenGate).status
+        }
+        Err(_) => Status::NoMemory,
+    }
+}
