@@ -135,7 +135,7 @@ step-word_begun nodes brackets KeyEnd place c h w = elim h [ ]
 step-word_begun nodes brackets PairEnd place c h w = elim h [ ]
 step-word_begun nodes brackets (End n) place c h w = elim h [ ]
 
-step-word : (nodes : List TreeNode) (brackets : List Open) (phase : Phase) (at place c : ℕ) (text : List ℕ) → is_word c ≡ true → step (in_token nodes brackets phase (Word at) text []) place c ≡ Ok (in_token nodes brackets phase (Word at) (text ++ c ∷ []) [])
+pub step-word : (nodes : List TreeNode) (brackets : List Open) (phase : Phase) (at place c : ℕ) (text : List ℕ) → is_word c ≡ true → step (in_token nodes brackets phase (Word at) text []) place c ≡ Ok (in_token nodes brackets phase (Word at) (text ++ c ∷ []) [])
 unfolding step in_word
 step-word nodes brackets phase at place c text w = rw (w, encode_ascii c (word-ascii c w)) refl
 

@@ -11,4 +11,9 @@ pub mod SpelledRests
 pub mod SpelledSteps
 pub mod SpelledRuns
 pub mod SpelledTexts
+pub mod Moves
+pub mod CanGoOnEscapes
+pub mod CanGoOn
+pub mod Fronts
+pub mod Reached
 pub mod RefusalLemmas

@@ -1,14 +1,12 @@
 -- Where reading stops, and that nothing longer can begin a text with a tree.
-use Rattle.std.proofs.Common.{inl, inr, ◌≡◌, ℕ, ◌+◌, ◌-◌, ◌<◌, ◌≤◌, Bool, true, false, cond, eqb, ltb, ◌&&◌, not, List, [], ◌∷◌, ◌++◌, length, Option, Some, None, Result, Ok, Err, refl, sym, ap, subst, ◌∙◌, arith, append_assoc, IfOk}
-use Rattle.std.specs.Prelude.{◌⊎◌, IfErr}
-use Rattle.std.proofs.lemmas.Bool.{eqb-true, cases_Bool}
-use Rattle.std.specs.Char.{len_utf8}
+use Rattle.std.proofs.Common.{inr, ◌≡◌, ℕ, ◌+◌, Bool, true, false, cond, eqb, ltb, ◌&&◌, not, List, [], ◌∷◌, length, Option, Some, None, Result, Ok, Err, refl, sym, subst, ◌∙◌, arith}
+use Rattle.std.specs.Prelude.{IfErr}
+use Rattle.std.proofs.lemmas.Bool.{eqb-true}
 use Rattle.std.specs.Str.{IsUtf8, chars}
 use Rattle.refusal_codes.specs.declared.refusal.Refusal.{Refusal}
 use Rattle.refusal_codes.specs.declared.rule.Rule.{Rule}
-use Rattle.refusal_codes.specs.declared.rule.Rule.TheVariants.{UnexpectedByte, UnexpectedEnd, BadEscape, DuplicateKey, TooDeep, TrailingText}
+use Rattle.refusal_codes.specs.declared.rule.Rule.TheVariants.{UnexpectedByte, UnexpectedEnd, DuplicateKey, TooDeep, TrailingText}
 use Rattle.plist_reader.specs.declared.tree.Tree.{Tree}
-use Rattle.plist_reader.specs.declared.tree.TreeValue.TheVariants as tree
 use Rattle.plist_reader.specs.declared.reader.Reader.{Reader}
 use Rattle.plist_reader.specs.declared.reader.Phase.{Phase}
 use Rattle.plist_reader.specs.declared.reader.Phase.TheVariants.{Value, Item, ItemEnd, Key, KeyEnd, PairEnd, End}
@@ -21,17 +19,15 @@ use Rattle.plist_reader.specs.declared.escape.Escaped.TheVariants.{More, Whole, 
 use Rattle.plist_reader.specs.Characters.{is_space, is_word, hex_value, byte_of}
 use Rattle.plist_reader.specs.Escapes.{escape_next}
 use Rattle.plist_reader.specs.Keys.{is_among}
-use Rattle.plist_reader.specs.Grammar.{width, tree_of}
+use Rattle.plist_reader.specs.Grammar.{width}
 use Rattle.plist_reader.specs.Refusals.{Blames, IsReason, StopsIn, IsErrorOf}
 use Rattle.refusal_codes.specs.declared.errors.ReadError.{ReadError}
 use Rattle.refusal_codes.specs.declared.errors.ReadError.TheVariants as read_errors
 use Rattle.refusal_codes.specs.Gives.{Gives}
-use Rattle.plist_reader.specs.Reading.{refusal, ◌>>=◌, start, is_key, is_bracket, is_end, max_depth, unexpected, unexpected_rule, key_ended_in, key_ended, text_ended, text_begun, list_opened, dictionary_opened, bracket_opened, value_begun, list_closed_in, list_closed, dictionary_closed_in, dictionary_closed, awaited, between, in_word, in_quoted, after_escape, after_half, after_hex, in_bytes, in_half, step_in, step, whole_in, whole, finish_in, finish, run, read_of}
-use Rattle.plist_reader.proofs.RunLemmas.{run_step, read_of-text}
-use Rattle.plist_reader.proofs.GivenTokens.{ready, run_same, CanBegin}
-use Rattle.plist_reader.proofs.GivenTexts.{run-text_of}
-use Rattle.plist_reader.proofs.SpelledSteps.{Agrees, GoodIn, Good, Back}
-use Rattle.plist_reader.proofs.SpelledTexts.{back-step}
+use Rattle.plist_reader.specs.Reading.{refusal, ◌>>=◌, start, is_key, is_bracket, is_end, max_depth, unexpected, unexpected_rule, key_ended_in, key_ended, text_ended, text_begun, bracket_opened, value_begun, list_closed_in, list_closed, dictionary_closed_in, dictionary_closed, awaited, between, in_word, in_quoted, after_escape, after_half, after_hex, in_bytes, in_half, step_in, step, whole_in, whole, finish_in, finish, run, read_of}
+use Rattle.plist_reader.proofs.RunLemmas.{read_of-text}
+use Rattle.plist_reader.proofs.SpelledSteps.{Agrees, GoodIn, Good}
+use Rattle.plist_reader.proofs.Reached.{Reached, reached-good, reached-goes_on, whole-finishes, refused-stops, err_not_ok, StopOf, stopped}
 
 -- ---- choices
 
@@ -205,78 +201,24 @@ finish-end : (r : Reader) (place : ℕ) → Good r → IfErr (finish r place) (I
 unfolding finish
 finish-end r place g = finish_in-end r place r.token (agrees_in r.token r g)
 
--- ---- where reading stops
+-- ---- why reading stops
 
-abbrev StopOf : Reader → ℕ → List ℕ → Refusal → Type 0
-StopOf s place [] e = finish s place ≡ Err e
-StopOf s place (c ∷ cs) e = step s place c ≡ Err e
-
-record Stopped (r : Reader) (place : ℕ) (cs : List ℕ) (e : Refusal) : Type 0 where
-  front : List ℕ
-  rest : List ℕ
-  state : Reader
-  good : Good state
-  parts : cs ≡ front ++ rest
-  leads : (more : List ℕ) → run r place (front ++ more) ≡ run state (place + width front) more
-  stop : StopOf state (place + width front) rest e
-
-same_error : {A : Type 0} (x e : Refusal) (d : Result A Refusal) → d ≡ Err x → d ≡ Err e → x ≡ e
-same_error x e d h k = cc
-
-stopped_step : (r : Reader) (place c : ℕ) (cs : List ℕ) (e : Refusal) (d : Result Reader Refusal) → step r place c ≡ d → Good r → IfOk d (Back r place c)
-    → ((s : Reader) → Good s → run s (place + len_utf8 c) cs ≡ Err e → Stopped s (place + len_utf8 c) cs e) → (d >>= (λ s. run s (place + len_utf8 c) cs)) ≡ Err e → Stopped r place (c ∷ cs) e
-stopped_step r place c cs e (Ok s) q g b next h =
-    let k = next s b.0 h in
-    let P : ℕ → Type 0 = λ x. StopOf k.state x k.rest e in
-    let moved : place + len_utf8 c + width k.front ≡ place + (len_utf8 c + width k.front) = omega arith in
-    record {
-      front = c ∷ k.front;
-      rest = k.rest;
-      state = k.state;
-      good = k.good;
-      parts = ap (λ x. c ∷ x) k.parts;
-      leads = λ more. run_step r s place c (k.front ++ more) q ∙ k.leads more ∙ run_same k.state k.state (place + len_utf8 c + width k.front) (place + (len_utf8 c + width k.front)) more refl moved;
-      stop = subst P moved k.stop;
-    }
-stopped_step r place c cs e (Err x) q g b next h =
-    let P : ℕ → Type 0 = λ y. StopOf r y (c ∷ cs) e in
-    let E : Refusal → Result Reader Refusal = λ y. Err y in
-    let none : place ≡ place + 0 = omega arith in
-    record { front = []; rest = c ∷ cs; state = r; good = g; parts = refl; leads = λ more. run_same r r place (place + 0) more refl none; stop = subst P none (q ∙ ap E (same_error x e ((Err x) >>= (λ s. run s (place + len_utf8 c) cs)) refl h)) }
-
-stopped : (cs : List ℕ) (r : Reader) (place : ℕ) (e : Refusal) → Good r → run r place cs ≡ Err e → Stopped r place cs e
-stopped [] r place e g h =
-    let P : ℕ → Type 0 = λ y. StopOf r y [] e in
-    let none : place ≡ place + 0 = omega arith in
-    record { front = []; rest = []; state = r; good = g; parts = refl; leads = λ more. run_same r r place (place + 0) more refl none; stop = subst P none h }
-stopped (c ∷ cs) r place e g h = stopped_step r place c cs e (step r place c) refl g (back-step r place c g) (λ s k q. stopped cs s (place + len_utf8 c) e k q) h
-
--- ---- nothing longer can begin a text
-
-no_tree : (e : Refusal) (t : Tree) (d : Result Tree Refusal) → d ≡ Err e → d ≡ Ok t → ⊥
-no_tree e t d h k = cc
-
-reason_of : (front rest : List ℕ) (s : Reader) (e : Refusal) → Good s → ((more : List ℕ) → run start 0 (front ++ more) ≡ run s (0 + width front) more) → StopOf s (0 + width front) rest e → IsReason front rest e
-reason_of front [] s e g leads stop = at_err (IsEnd (0 + width front)) (finish s (0 + width front)) e stop (finish-end s (0 + width front) g) ∙ ap (λ n. refusal UnexpectedEnd n) (omega arith)
-reason_of front (c ∷ cs) s e g leads stop = (
-  λ h. no_tree e (tree_of h.1) (run start 0 ((front ++ c ∷ []) ++ h.0))
-      (ap (λ x. run start 0 x) (append_assoc front (c ∷ []) h.0) ∙ leads (c ∷ h.0) ∙ ap (λ d. d >>= (λ r. run r (0 + width front + len_utf8 c) h.0)) stop)
-      (run-text_of h.1 ((front ++ c ∷ []) ++ h.0) h.2),
-  at_err (BlamesAt (width front)) (step s (0 + width front) c) e stop (blames-here s (width front) c g),
+reason_of : (front rest : List ℕ) (r : Reader) (e : Refusal) → Reached front r → StopOf r (width front) rest e → IsReason front rest e
+reason_of front [] r e h stop = (
+  reached-goes_on front r h,
+  λ w. (let t = whole-finishes front r h w in err_not_ok e t.0 (finish r (width front)) stop t.1),
+  at_err (IsEnd (width front)) (finish r (width front)) e stop (finish-end r (width front) (reached-good front r h)),
 )
-  where
-    blames-here : (s : Reader) (n c : ℕ) → Good s → IfErr (step s (0 + n) c) (BlamesAt n)
-    blames-here s n c g = let P : ℕ → Type 0 = λ m. IfErr (step s (0 + n) c) (BlamesAt m) in let e : 0 + n ≡ n = omega arith in subst P e (blames-step s (0 + n) c g)
-
-start-good : Good start
-unfolding start
-start-good = (tt, refl, refl)
+reason_of front (c ∷ cs) r e h stop = (
+  record { goes_on = reached-goes_on front r h; no_more = refused-stops front r c e h stop },
+  at_err (BlamesAt (width front)) (step r (width front) c) e stop (blames-step r (width front) c (reached-good front r h)),
+)
 
 -- a text that is refused stops so
 pub run-refused : (cs : List ℕ) (e : Refusal) → run start 0 cs ≡ Err e → StopsIn cs e
 run-refused cs e h =
-    let k = stopped cs start 0 e start-good h in
-    record { front = k.front; rest = k.rest; parts = k.parts; reason = reason_of k.front k.rest k.state e k.good k.leads k.stop }
+    let k = stopped cs e h in
+    record { front = k.front; rest = k.rest; parts = k.parts; reason = reason_of k.front k.rest k.state e k.reached k.stop }
 
 -- each refusal that is answered is one of the source
 pub error-from_Gives : (source : List ℕ) (result : Result Tree ReadError) → IsUtf8 source → Gives (λ t. t) result (read_of source) → IfErr result (IsErrorOf source)

@@ -15,6 +15,15 @@ use Rattle.plist_reader.specs.Reading.{refusal}
 abbrev pub CanGoOn : List ℕ → Type 0
 CanGoOn front = (rest : List ℕ) × (v : Value) × IsTextOf v (front ++ rest)
 
+-- a whole text
+abbrev pub IsWhole : List ℕ → Type 0
+IsWhole front = (v : Value) × IsTextOf v front
+
+-- the longest front of a text with which some text with a tree begins: with the next character none does
+pub record IsLongest (front : List ℕ) (c : ℕ) : Type 0 where
+  pub goes_on : CanGoOn front
+  pub no_more : ¬ (CanGoOn (front ++ c ∷ []))
+
 -- which rules name a character, and where: a bad escape is placed at its backslash and a key at its first character, and
 -- each other refusal at the character itself
 abbrev pub Blames : Rule → ℕ → ℕ → Type 0
@@ -25,10 +34,10 @@ Blames BadEscape place here = Unit {0}
 Blames DuplicateKey place here = Unit {0}
 Blames _ place here = ⊥
 
--- why reading stops behind a front: at the text's end, or at a character with which no text with a tree can go on
+-- why reading stops behind a front: the text ends there and could go on, or the front is the longest that can
 abbrev pub IsReason : List ℕ → List ℕ → Refusal → Type 0
-IsReason front [] r = r ≡ refusal UnexpectedEnd (width front)
-IsReason front (c ∷ cs) r = (¬ (CanGoOn (front ++ c ∷ []))) × Blames r.rule r.place (width front)
+IsReason front [] r = CanGoOn front × (¬ (IsWhole front)) × (r ≡ refusal UnexpectedEnd (width front))
+IsReason front (c ∷ cs) r = IsLongest front c × Blames r.rule r.place (width front)
 
 pub record StopsIn (cs : List ℕ) (r : Refusal) : Type 0 where
   pub front : List ℕ

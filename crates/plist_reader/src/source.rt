@@ -18,7 +18,7 @@ use std::str;
 /// The errors are those of memory, and one refusal for each text that is no property list, at the byte that explains it.
 pub fn read(alloc: Global, source: &[u8]) -> Result<Tree, ReadError>
     requires { length source.now ≤ source_limit }
-    // A refusal names the end of the text, or a character with which no text with a tree goes on.
+    // A refusal names the end of the longest front with which some text with a tree begins.
     ensures refused { IfErr result (IsErrorOf source.now) }
     // What it answers is what its definition computes.
     ensures exact { Gives (λ t. t) result (read_of source.now) }
