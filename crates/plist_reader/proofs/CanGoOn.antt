@@ -75,7 +75,7 @@ completes-value nodes brackets phase place a = completes-step _ _ place 60 (step
 completes-sign : (nodes : List TreeNode) (brackets : List Open) (place : ℕ) → Completes (ready nodes brackets KeyEnd) place
 completes-sign nodes brackets place = completes-step _ _ place 61 (step-equals nodes brackets place) (completes-value nodes brackets Value (place + 1) tt)
 
-finish_whole : (nodes : List TreeNode) (brackets : List Open) (n place : ℕ) → finish (ready nodes brackets (End n)) place ≡ Ok (record { nodes = nodes; top = n })
+pub finish_whole : (nodes : List TreeNode) (brackets : List Open) (n place : ℕ) → finish (ready nodes brackets (End n)) place ≡ Ok (record { nodes = nodes; top = n })
 unfolding finish whole
 finish_whole nodes brackets n place = refl
 

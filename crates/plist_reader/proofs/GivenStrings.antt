@@ -165,7 +165,7 @@ step-word_end r s at place c e w h k =
     let off : in_word r at place c ≡ between s place c = rw (w, h) refl in
     inside ∙ off ∙ sym (step-between s place c k)
 
-finish-word : (nodes : List TreeNode) (phase : Phase) (at place : ℕ) (text : List ℕ) → IsAwaiting phase
+pub finish-word : (nodes : List TreeNode) (phase : Phase) (at place : ℕ) (text : List ℕ) → IsAwaiting phase
     → finish (in_token nodes [] phase (Word at) text []) place ≡ finish (settled (nodes ++ node at place (tree.Text text) ∷ []) [] (length nodes)) place
 unfolding finish
 finish-word nodes phase at place text h = ap (λ d. d >>= (λ s. whole s place)) (text-ended nodes [] phase (Word at) at place text h)

@@ -16,4 +16,6 @@ pub mod CanGoOnEscapes
 pub mod CanGoOn
 pub mod Fronts
 pub mod Reached
+pub mod Depths
+pub mod Fails
 pub mod RefusalLemmas

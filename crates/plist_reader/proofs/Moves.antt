@@ -1,10 +1,11 @@
 -- What a step makes of a good reader, case by case.
-use Rattle.std.proofs.Common.{◌≡◌, ℕ, ◌+◌, ◌<◌, true, false, eqb, ltb, List, [], ◌∷◌, ◌++◌, length, Option, Some, None, Result, Ok, Err, refl, sym, subst, IfOk}
+use Rattle.std.proofs.Common.{◌≡◌, ℕ, ◌+◌, ◌<◌, true, false, eqb, ltb, List, [], ◌∷◌, ◌++◌, length, Option, Some, None, Result, Ok, Err, refl, sym, ap, subst, ◌∙◌, arith, IfOk}
 use Rattle.std.proofs.lemmas.Bool.{eqb-true, eqb-false, ltb-true}
 use Rattle.std.proofs.lemmas.Result.{IfOk-weaker}
 use Rattle.std.proofs.lemmas.Str.{encode_ascii}
 use lib.Utf8.{encode}
 use Rattle.refusal_codes.specs.declared.refusal.Refusal.{Refusal}
+use Rattle.plist_reader.specs.declared.tree.Tree.{Tree}
 use Rattle.plist_reader.specs.declared.tree.TreeNode.{TreeNode}
 use Rattle.plist_reader.specs.declared.tree.TreeValue.TheVariants as tree
 use Rattle.plist_reader.specs.declared.reader.Reader.{Reader}
@@ -23,7 +24,7 @@ use Rattle.plist_reader.specs.Characters.{is_space, is_word, hex_value, byte_of}
 use Rattle.plist_reader.specs.Escapes.{escape_next}
 use Rattle.plist_reader.specs.Keys.{is_among}
 use Rattle.plist_reader.specs.Grammar.{node}
-use Rattle.plist_reader.specs.Reading.{is_bracket, ◌>>=◌, value_ended, key_ended, text_ended, text_begun, bracket_opened, value_begun, list_closed, dictionary_closed, awaited, between, in_word, in_quoted, after_escape, after_hex, after_half, in_bytes, in_half, step_in, step}
+use Rattle.plist_reader.specs.Reading.{is_bracket, ◌>>=◌, value_ended, key_ended, text_ended, text_begun, bracket_opened, value_begun, list_closed, dictionary_closed, awaited, between, in_word, in_quoted, after_escape, after_hex, after_half, in_bytes, in_half, step_in, step, whole, finish_in, finish}
 use Rattle.plist_reader.proofs.GivenTokens.{ready, in_token, settled, settled_any, word-ascii, CanBegin, IsAwaiting, begin-from_awaiting}
 use Rattle.plist_reader.proofs.GivenStrings.{text-ended}
 use Rattle.plist_reader.proofs.GivenTexts.{opened, key_end, list_end, dictionary_end}
@@ -215,3 +216,53 @@ moves-step_in nodes brackets phase (Half at high) text bytes place c g = subst (
 pub moves : (r : Reader) (place c : ℕ) → Good r → IfOk (step r place c) (Moves place c r)
 unfolding step
 moves r place c g = moves-step_in r.nodes r.brackets r.phase r.token r.text r.bytes place c g
+
+-- ---- the end of a text
+
+-- what the end of the text makes of the reader
+pub data Closes (place : ℕ) : Reader → Tree → Type 0 where
+  closes_between : (nodes : List TreeNode) (brackets : List Open) (number : ℕ) → Closes place (ready nodes brackets (End number)) (record { nodes = nodes; top = number })
+  closes_word : (nodes : List TreeNode) (phase : Phase) (at : ℕ) (text : List ℕ) → IsAwaiting phase → Closes place (in_token nodes [] phase (Word at) text []) (record { nodes = nodes ++ node at place (tree.Text text) ∷ []; top = length nodes })
+
+closes-ready : (nodes : List TreeNode) (brackets : List Open) (phase : Phase) (place : ℕ) → IfOk (whole (ready nodes brackets phase) place) (Closes place (ready nodes brackets phase))
+unfolding whole
+closes-ready nodes brackets Value place = tt
+closes-ready nodes brackets Item place = tt
+closes-ready nodes brackets ItemEnd place = tt
+closes-ready nodes brackets Key place = tt
+closes-ready nodes brackets KeyEnd place = tt
+closes-ready nodes brackets PairEnd place = tt
+closes-ready nodes brackets (End n) place = closes_between nodes brackets n
+
+closes-whole : (nodes : List TreeNode) (number place : ℕ) → whole (settled nodes [] number) place ≡ Ok (record { nodes = nodes; top = number })
+unfolding whole
+closes-whole nodes number place = refl
+
+closes-word : (nodes : List TreeNode) (brackets : List Open) (phase : Phase) (at place : ℕ) (text : List ℕ) → CanBegin phase → Agrees phase brackets
+    → IfOk (finish_in (in_token nodes brackets phase (Word at) text []) place (Word at)) (Closes place (in_token nodes brackets phase (Word at) text []))
+closes-word nodes (b ∷ brackets) phase at place text c g = if_ok-known (Closes place (in_token nodes (b ∷ brackets) phase (Word at) text [])) (eqb (length (b ∷ brackets)) 0) _ _ (λ e. absurd (omega (arith, eqb-true (length (b ∷ brackets)) 0 e))) (λ _. tt)
+closes-word nodes [] Value at place text c g =
+    let P : Result Tree Refusal → Type 0 = λ d. IfOk d (Closes place (in_token nodes [] Value (Word at) text [])) in
+    subst P (sym (ap (λ d. d >>= (λ s. whole s place)) (text-ended nodes [] Value (Word at) at place text tt) ∙ closes-whole (nodes ++ node at place (tree.Text text) ∷ []) (length nodes) place)) (closes_word nodes Value at text tt)
+closes-word nodes [] Item at place text c g = absurd g
+closes-word nodes [] Key at place text c g = absurd g
+closes-word nodes [] ItemEnd at place text c g = absurd c
+closes-word nodes [] KeyEnd at place text c g = absurd c
+closes-word nodes [] PairEnd at place text c g = absurd c
+closes-word nodes [] (End n) at place text c g = absurd c
+
+abbrev ClosesOn : List TreeNode → List Open → Phase → Token → ℕ → List ℕ → List ℕ → Type 0
+ClosesOn nodes brackets phase token place text bytes = IfOk (finish_in (in_token nodes brackets phase token text bytes) place token) (Closes place (in_token nodes brackets phase token text bytes))
+
+closes-finish_in : (nodes : List TreeNode) (brackets : List Open) (phase : Phase) (token : Token) (text bytes : List ℕ) (place : ℕ) → GoodIn token (in_token nodes brackets phase token text bytes) → ClosesOn nodes brackets phase token place text bytes
+closes-finish_in nodes brackets phase Between text bytes place g =
+    subst (λ (x : List ℕ). ClosesOn nodes brackets phase Between place x bytes) (sym g.1) (subst (λ (y : List ℕ). ClosesOn nodes brackets phase Between place [] y) (sym g.2) (closes-ready nodes brackets phase place))
+closes-finish_in nodes brackets phase (Word at) text bytes place g = subst (λ (y : List ℕ). ClosesOn nodes brackets phase (Word at) place text y) (sym g.2) (closes-word nodes brackets phase at place text g.1 g.0)
+closes-finish_in nodes brackets phase (Quoted at) text bytes place g = tt
+closes-finish_in nodes brackets phase (Escape at backslash escape) text bytes place g = tt
+closes-finish_in nodes brackets phase (Bytes at) text bytes place g = tt
+closes-finish_in nodes brackets phase (Half at high) text bytes place g = tt
+
+pub closes : (r : Reader) (place : ℕ) → Good r → IfOk (finish r place) (Closes place r)
+unfolding finish
+closes r place g = closes-finish_in r.nodes r.brackets r.phase r.token r.text r.bytes place g

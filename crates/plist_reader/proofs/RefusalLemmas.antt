@@ -1,12 +1,13 @@
--- Where reading stops, and that nothing longer can begin a text with a tree.
-use Rattle.std.proofs.Common.{inr, ◌≡◌, ℕ, ◌+◌, Bool, true, false, cond, eqb, ltb, ◌&&◌, not, List, [], ◌∷◌, length, Option, Some, None, Result, Ok, Err, refl, sym, subst, ◌∙◌, arith}
+-- Why reading stops where it does: each refusal is the one that the texts with trees explain.
+use Rattle.std.proofs.Common.{inl, inr, ◌≡◌, ℕ, ◌<◌, Bool, true, false, cond, eqb, List, [], ◌∷◌, ◌++◌, length, Result, Ok, Err, refl, sym, ap, subst, ◌∙◌, arith}
 use Rattle.std.specs.Prelude.{IfErr}
-use Rattle.std.proofs.lemmas.Bool.{eqb-true}
+use Rattle.std.proofs.lemmas.Bool.{eqb-true, false≢true, or_cases, both_ways}
 use Rattle.std.specs.Str.{IsUtf8, chars}
 use Rattle.refusal_codes.specs.declared.refusal.Refusal.{Refusal}
-use Rattle.refusal_codes.specs.declared.rule.Rule.{Rule}
-use Rattle.refusal_codes.specs.declared.rule.Rule.TheVariants.{UnexpectedByte, UnexpectedEnd, DuplicateKey, TooDeep, TrailingText}
+use Rattle.refusal_codes.specs.declared.rule.Rule.TheVariants.{UnexpectedEnd}
 use Rattle.plist_reader.specs.declared.tree.Tree.{Tree}
+use Rattle.plist_reader.specs.declared.tree.TreeNode.{TreeNode}
+use Rattle.plist_reader.specs.declared.tree.TreeValue.TheVariants as tree
 use Rattle.plist_reader.specs.declared.reader.Reader.{Reader}
 use Rattle.plist_reader.specs.declared.reader.Phase.{Phase}
 use Rattle.plist_reader.specs.declared.reader.Phase.TheVariants.{Value, Item, ItemEnd, Key, KeyEnd, PairEnd, End}
@@ -14,26 +15,27 @@ use Rattle.plist_reader.specs.declared.reader.Token.{Token}
 use Rattle.plist_reader.specs.declared.reader.Token.TheVariants.{Between, Word, Quoted, Escape, Bytes, Half}
 use Rattle.plist_reader.specs.declared.reader.Open.{Open}
 use Rattle.plist_reader.specs.declared.reader.Open.TheVariants.{Items, Pairs}
-use Rattle.plist_reader.specs.declared.escape.Escaped.{Escaped}
-use Rattle.plist_reader.specs.declared.escape.Escaped.TheVariants.{More, Whole, Wrong}
-use Rattle.plist_reader.specs.Characters.{is_space, is_word, hex_value, byte_of}
-use Rattle.plist_reader.specs.Escapes.{escape_next}
-use Rattle.plist_reader.specs.Keys.{is_among}
-use Rattle.plist_reader.specs.Grammar.{width}
-use Rattle.plist_reader.specs.Refusals.{Blames, IsReason, StopsIn, IsErrorOf}
+use Rattle.plist_reader.specs.declared.escape.Escape.{Escape as EscapeState}
+use Rattle.plist_reader.specs.Grammar.{node, width}
+use Rattle.plist_reader.specs.Refusals.{IsWhole, IsDeep, IsBracket, IsTooDeep, IsInEscape, IsExplained, bad_escape, twice, too_deep, trailing, unexpected, IsReason, StopsIn, IsErrorOf}
 use Rattle.refusal_codes.specs.declared.errors.ReadError.{ReadError}
 use Rattle.refusal_codes.specs.declared.errors.ReadError.TheVariants as read_errors
 use Rattle.refusal_codes.specs.Gives.{Gives}
-use Rattle.plist_reader.specs.Reading.{refusal, ◌>>=◌, start, is_key, is_bracket, is_end, max_depth, unexpected, unexpected_rule, key_ended_in, key_ended, text_ended, text_begun, bracket_opened, value_begun, list_closed_in, list_closed, dictionary_closed_in, dictionary_closed, awaited, between, in_word, in_quoted, after_escape, after_half, after_hex, in_bytes, in_half, step_in, step, whole_in, whole, finish_in, finish, run, read_of}
+use Rattle.plist_reader.specs.Reading.{refusal, ◌>>=◌, start, is_bracket, is_end, text_ended, step, whole_in, whole, finish_in, finish, run, read_of}
 use Rattle.plist_reader.proofs.RunLemmas.{read_of-text}
+use Rattle.plist_reader.proofs.GivenTokens.{ready, in_token, IsAwaiting}
+use Rattle.plist_reader.proofs.GivenEscapes.{Reads}
+use Rattle.plist_reader.proofs.GivenStrings.{finish-word}
 use Rattle.plist_reader.proofs.SpelledSteps.{Agrees, GoodIn, Good}
-use Rattle.plist_reader.proofs.Reached.{Reached, reached-good, reached-goes_on, whole-finishes, refused-stops, err_not_ok, StopOf, stopped}
+use Rattle.plist_reader.proofs.Moves.{TextEnds, as_value, as_key, Closes, closes_between, closes_word, closes}
+use Rattle.plist_reader.proofs.CanGoOnEscapes.{finishes, finished-escape}
+use Rattle.plist_reader.proofs.CanGoOn.{finish_whole}
+use Rattle.plist_reader.proofs.Fronts.{WordIn, StringIn, EscapeIn}
+use Rattle.plist_reader.proofs.Reached.{Reached, at_ok, reached-good, reached-token, reached-goes_on, whole-finishes, finishes-whole, refused-stops, err_not_ok, StopOf, stopped}
+use Rattle.plist_reader.proofs.Depths.{reached-placed, reached-deep}
+use Rattle.plist_reader.proofs.Fails.{IsOver, StopsAt, over, behind, other, Fails, between_fails, word_fails, word_twice, string_twice, escape_fails, bytes_fail, half_fails, fails}
 
 -- ---- choices
-
-if_err-cond : {A : Type 0} (P : Refusal → Type 0) (b : Bool) (x y : Result A Refusal) → IfErr x P → IfErr y P → IfErr (cond b x y) P
-if_err-cond P true x y h k = h
-if_err-cond P false x y h k = k
 
 if_err-bind : {A B : Type 0} (P : Refusal → Type 0) (d : Result A Refusal) (f : A → Result B Refusal) → IfErr d P → ((x : A) → IfErr (f x) P) → IfErr (d >>= f) P
 if_err-bind P (Ok x) f h k = k x
@@ -41,105 +43,6 @@ if_err-bind P (Err e) f h k = h
 
 at_err : {A : Type 0} (P : Refusal → Type 0) (d : Result A Refusal) (e : Refusal) → d ≡ Err e → IfErr d P → P e
 at_err {A} P d e h k = let Q : Result A Refusal → Type 0 = λ x. IfErr x P in subst Q h k
-
--- ---- what a step blames
-
-abbrev BlamesAt : ℕ → Refusal → Type 0
-BlamesAt here e = Blames e.rule e.place here
-
-blames-unexpected : (r : Reader) (place c : ℕ) → IfErr (unexpected r place c) (BlamesAt place)
-unfolding unexpected_rule
-blames-unexpected r place c = blames_rule (is_bracket c && not (ltb (length r.brackets) max_depth)) (is_end r.phase)
-  where
-    blames_rule : (a b : Bool) → Blames (cond a TooDeep (cond b TrailingText UnexpectedByte)) place place
-    blames_rule true b = refl
-    blames_rule false true = refl
-    blames_rule false false = refl
-
-blames-text_begun : (r : Reader) (place c : ℕ) → IfErr (text_begun r place c) (BlamesAt place)
-unfolding text_begun
-blames-text_begun r place c = if_err-cond (BlamesAt place) (eqb c 34) _ _ tt (if_err-cond (BlamesAt place) (is_word c) _ _ tt (blames-unexpected r place c))
-
-blames-value_begun : (r : Reader) (place c : ℕ) → IfErr (value_begun r place c) (BlamesAt place)
-unfolding value_begun bracket_opened
-blames-value_begun r place c = if_err-cond (BlamesAt place) (is_bracket c) _ _
-    (if_err-cond (BlamesAt place) (ltb (length r.brackets) max_depth) _ _ tt (blames-unexpected r place c))
-    (if_err-cond (BlamesAt place) (eqb c 60) _ _ tt (blames-text_begun r place c))
-
-blames-list_closed : (r : Reader) (place : ℕ) (brackets : List Open) → IfErr (list_closed_in r place brackets) (BlamesAt place)
-blames-list_closed r place [] = refl
-blames-list_closed r place (Pairs d ∷ outer) = refl
-blames-list_closed r place (Items at items ∷ outer) = tt
-
-blames-dictionary_closed : (r : Reader) (place : ℕ) (brackets : List Open) → IfErr (dictionary_closed_in r place brackets) (BlamesAt place)
-blames-dictionary_closed r place [] = refl
-blames-dictionary_closed r place (Items at items ∷ outer) = refl
-blames-dictionary_closed r place (Pairs d ∷ outer) = tt
-
-blames-awaited : (r : Reader) (place c : ℕ) (phase : Phase) → IfErr (awaited r place c phase) (BlamesAt place)
-unfolding list_closed dictionary_closed
-blames-awaited r place c Value = blames-value_begun r place c
-blames-awaited r place c Item = if_err-cond (BlamesAt place) (eqb c 41) _ _ (blames-list_closed r place r.brackets) (blames-value_begun r place c)
-blames-awaited r place c ItemEnd = if_err-cond (BlamesAt place) (eqb c 41) _ _ (blames-list_closed r place r.brackets) (if_err-cond (BlamesAt place) (eqb c 44) _ _ tt (blames-unexpected r place c))
-blames-awaited r place c Key = if_err-cond (BlamesAt place) (eqb c 125) _ _ (blames-dictionary_closed r place r.brackets) (blames-text_begun r place c)
-blames-awaited r place c KeyEnd = if_err-cond (BlamesAt place) (eqb c 61) _ _ tt (blames-unexpected r place c)
-blames-awaited r place c PairEnd = if_err-cond (BlamesAt place) (eqb c 59) _ _ tt (blames-unexpected r place c)
-blames-awaited r place c (End n) = blames-unexpected r place c
-
-blames-between : (r : Reader) (place c : ℕ) → IfErr (between r place c) (BlamesAt place)
-unfolding between
-blames-between r place c = if_err-cond (BlamesAt place) (is_space c) _ _ tt (blames-awaited r place c r.phase)
-
--- only a key that stands twice is blamed where a text ends
-abbrev IsTwice : Refusal → Type 0
-IsTwice e = e.rule ≡ DuplicateKey
-
-twice-blames : (here : ℕ) (e : Refusal) → IsTwice e → BlamesAt here e
-twice-blames here e h = let P : Rule → Type 0 = λ x. Blames x e.place here in subst P (sym h) tt
-
-twice-key_ended : (r : Reader) (at end : ℕ) (text : List ℕ) (brackets : List Open) → Agrees Key brackets → IfErr (key_ended_in r at end text brackets) IsTwice
-twice-key_ended r at end text [] g = elim g [ ]
-twice-key_ended r at end text (Items p items ∷ outer) g = elim g [ ]
-twice-key_ended r at end text (Pairs d ∷ outer) g = if_err-cond IsTwice (is_among text d.keys) _ _ refl tt
-
-twice-text_ended : (r : Reader) (at end : ℕ) (phase : Phase) → r.phase ≡ phase → Agrees phase r.brackets → IfErr (text_ended r at end) IsTwice
-unfolding text_ended key_ended
-twice-text_ended r at end Key e g = if_err-cond IsTwice (is_key r.phase) _ _ (twice-key_ended (record r { token = Between; text = [] }) at end r.text r.brackets g) tt
-twice-text_ended r at end Value e g = rw e tt
-twice-text_ended r at end Item e g = rw e tt
-twice-text_ended r at end ItemEnd e g = rw e tt
-twice-text_ended r at end KeyEnd e g = rw e tt
-twice-text_ended r at end PairEnd e g = rw e tt
-twice-text_ended r at end (End n) e g = rw e tt
-
-blames-text_ended : (r : Reader) (at end here : ℕ) → Agrees r.phase r.brackets → IfErr (text_ended r at end) (BlamesAt here)
-blames-text_ended r at end here g = weaker (text_ended r at end) (twice-text_ended r at end r.phase refl g)
-  where
-    weaker : (d : Result Reader Refusal) → IfErr d IsTwice → IfErr d (BlamesAt here)
-    weaker (Ok x) h = tt
-    weaker (Err e) h = twice-blames here e h
-
-blames-after_escape : (r : Reader) (at backslash place : ℕ) (escaped : Escaped) → IfErr (after_escape r at backslash escaped) (BlamesAt place)
-blames-after_escape r at backslash place (More escape) = tt
-blames-after_escape r at backslash place (Whole character) = tt
-blames-after_escape r at backslash place Wrong = tt
-
-blames-after_hex : (r : Reader) (at place c : ℕ) (o : Option ℕ) → IfErr (after_hex r at place c o) (BlamesAt place)
-blames-after_hex r at place c None = blames-unexpected r place c
-blames-after_hex r at place c (Some x) = tt
-
-blames-after_half : (r : Reader) (at place c : ℕ) (o : Option ℕ) → IfErr (after_half r at place c o) (BlamesAt place)
-blames-after_half r at place c None = blames-unexpected r place c
-blames-after_half r at place c (Some x) = tt
-
-blames-step_in : (r : Reader) (place c : ℕ) (token : Token) → Agrees r.phase r.brackets → IfErr (step_in r place c token) (BlamesAt place)
-unfolding in_word in_quoted in_bytes in_half
-blames-step_in r place c Between g = blames-between r place c
-blames-step_in r place c (Word at) g = if_err-cond (BlamesAt place) (is_word c) _ _ tt (if_err-bind (BlamesAt place) (text_ended r at place) (λ s. between s place c) (blames-text_ended r at place place g) (λ s. blames-between s place c))
-blames-step_in r place c (Quoted at) g = if_err-cond (BlamesAt place) (eqb c 34) _ _ (blames-text_ended r at (place + 1) place g) (if_err-cond (BlamesAt place) (eqb c 92) _ _ tt tt)
-blames-step_in r place c (Escape at backslash escape) g = blames-after_escape r at backslash place (escape_next escape c)
-blames-step_in r place c (Bytes at) g = if_err-cond (BlamesAt place) (is_space c) _ _ tt (if_err-cond (BlamesAt place) (eqb c 62) _ _ tt (blames-after_hex r at place c (hex_value c)))
-blames-step_in r place c (Half at high) g = if_err-cond (BlamesAt place) (is_space c) _ _ tt (blames-after_half r at place c (byte_of high c))
 
 -- a good reader agrees with what is open
 agrees_in : (token : Token) (r : Reader) → GoodIn token r → Agrees r.phase r.brackets
@@ -150,9 +53,124 @@ agrees_in (Escape at backslash escape) r g = g.0
 agrees_in (Bytes at) r g = g.0
 agrees_in (Half at high) r g = g.0
 
-blames-step : (r : Reader) (place c : ℕ) → Good r → IfErr (step r place c) (BlamesAt place)
-unfolding step
-blames-step r place c g = blames-step_in r place c r.token (agrees_in r.token r g)
+-- ---- brackets
+
+bracket-of : (c : ℕ) → is_bracket c ≡ true → IsBracket c
+bracket-of c e = elim (or_cases (eqb c 40) (eqb c 123) e) [ inl h ↦ inl (eqb-true c 40 h) | inr h ↦ inr (eqb-true c 123 h) ]
+
+is_bracket-of : (c : ℕ) → IsBracket c → is_bracket c ≡ true
+is_bracket-of c h = elim h [ inl e ↦ rw e refl | inr e ↦ rw e refl ]
+
+too_deep-of : (front : List ℕ) (r u : Reader) (c : ℕ) → Reached front r → length u.brackets ≡ length r.brackets → IsOver c u → IsTooDeep front c
+too_deep-of front r u c h e o =
+    let D : ℕ → Type 0 = λ n. IsDeep front n in
+    let full : length r.brackets ≡ 64 = omega (arith, e, o.1, (reached-placed front r h).shallow) in
+    (bracket-of c o.0, subst D full (reached-deep front r h))
+
+over-of : (front : List ℕ) (r u : Reader) (c : ℕ) → Reached front r → length u.brackets ≡ length r.brackets → IsTooDeep front c → IsOver c u
+over-of front r u c h e d =
+    let g = reached-goes_on front r h in
+    let full : 64 ≡ length r.brackets = sym (d.1 g.0 g.1 g.2) ∙ reached-deep front r h g.0 g.1 g.2 in
+    (is_bracket-of c d.0, omega (arith, full, e))
+
+-- ---- whole values
+
+-- where a text may end
+abbrev SaysEnd : Token → Reader → Type 0
+SaysEnd Between r = is_end r.phase ≡ true
+SaysEnd (Word at) r = r.brackets ≡ []
+SaysEnd (Quoted at) r = ⊥
+SaysEnd (Escape at backslash escape) r = ⊥
+SaysEnd (Bytes at) r = ⊥
+SaysEnd (Half at high) r = ⊥
+
+closes-says : (place : ℕ) (r : Reader) (t : Tree) → Closes place r t → SaysEnd r.token r
+closes-says place _ _ (closes_between nodes brackets number) = refl
+closes-says place _ _ (closes_word nodes phase at text a) = refl
+
+whole-says : (front : List ℕ) (r : Reader) → Reached front r → IsWhole front → SaysEnd r.token r
+whole-says front r h w =
+    let t = whole-finishes front r h w in
+    closes-says (width front) r t.0 (at_ok (Closes (width front) r) (finish r (width front)) t.0 t.1 (closes r (width front) (reached-good front r h)))
+
+ended-length : (nodes : List TreeNode) (brackets : List Open) (phase : Phase) (at end : ℕ) (text : List ℕ) (u : Reader) → TextEnds nodes brackets phase at end text u → length u.brackets ≡ length brackets
+ended-length nodes _ _ _ _ _ _ (as_value [] phase at end text a) = refl
+ended-length nodes _ _ _ _ _ _ (as_value (Items p done ∷ outer) phase at end text a) = refl
+ended-length nodes _ _ _ _ _ _ (as_value (Pairs d ∷ outer) phase at end text a) = refl
+ended-length nodes _ _ _ _ _ _ (as_key d outer at end text e) = refl
+
+-- outside all brackets the end of a text is the end of the whole value
+ended-outside : (nodes : List TreeNode) (brackets : List Open) (phase : Phase) (at end : ℕ) (text : List ℕ) (u : Reader) → TextEnds nodes brackets phase at end text u → length brackets ≡ 0 → is_end u.phase ≡ true
+ended-outside nodes _ _ _ _ _ _ (as_value [] phase at end text a) l = refl
+ended-outside nodes _ _ _ _ _ _ (as_value (Items p done ∷ outer) phase at end text a) l = absurd (omega (arith, l))
+ended-outside nodes _ _ _ _ _ _ (as_value (Pairs d ∷ outer) phase at end text a) l = absurd (omega (arith, l))
+ended-outside nodes _ _ _ _ _ _ (as_key d outer at end text e) l = absurd (omega (arith, l))
+
+ended-finishes : (nodes : List TreeNode) (brackets : List Open) (phase : Phase) (at end : ℕ) (text : List ℕ) (u : Reader) → TextEnds nodes brackets phase at end text u → is_end u.phase ≡ true → (t : Tree) × (finish (in_token nodes brackets phase (Word at) text []) end ≡ Ok t)
+ended-finishes nodes _ _ _ _ _ _ (as_value [] phase at end text a) e =
+    let made = nodes ++ node at end (tree.Text text) ∷ [] in
+    (record { nodes = made; top = length nodes }, finish-word nodes phase at end text a ∙ finish_whole made [] (length nodes) end)
+ended-finishes nodes _ _ _ _ _ _ (as_value (Items p done ∷ outer) phase at end text a) e = absurd (false≢true e)
+ended-finishes nodes _ _ _ _ _ _ (as_value (Pairs d ∷ outer) phase at end text a) e = absurd (false≢true e)
+ended-finishes nodes _ _ _ _ _ _ (as_key d outer at end text k) e = absurd (false≢true e)
+
+ready-finishes : (nodes : List TreeNode) (brackets : List Open) (phase : Phase) (place : ℕ) → is_end phase ≡ true → (t : Tree) × (finish (ready nodes brackets phase) place ≡ Ok t)
+ready-finishes nodes brackets (End n) place e = (record { nodes = nodes; top = n }, finish_whole nodes brackets n place)
+ready-finishes nodes brackets Value place e = absurd (false≢true e)
+ready-finishes nodes brackets Item place e = absurd (false≢true e)
+ready-finishes nodes brackets ItemEnd place e = absurd (false≢true e)
+ready-finishes nodes brackets Key place e = absurd (false≢true e)
+ready-finishes nodes brackets KeyEnd place e = absurd (false≢true e)
+ready-finishes nodes brackets PairEnd place e = absurd (false≢true e)
+
+awaiting-no_end : (phase : Phase) → IsAwaiting phase → is_end phase ≡ true → ⊥
+awaiting-no_end Value a e = false≢true e
+awaiting-no_end Item a e = false≢true e
+awaiting-no_end Key a e = a
+awaiting-no_end ItemEnd a e = a
+awaiting-no_end KeyEnd a e = a
+awaiting-no_end PairEnd a e = a
+awaiting-no_end (End n) a e = a
+
+-- ---- which rule
+
+-- a character that nothing takes
+explain-stop : (front : List ℕ) (r u : Reader) (c : ℕ) (e : Refusal) → Reached front r → length u.brackets ≡ length r.brackets → (is_end u.phase ≡ true → IsWhole front) → (IsWhole front → is_end u.phase ≡ true) → StopsAt (width front) c u e → IsExplained front c e
+explain-stop front r u c _ h l w n (over o) = too_deep (too_deep-of front r u c h l o)
+explain-stop front r u c _ h l w n (behind o e) = trailing (λ d. o (over-of front r u c h l d)) (w e)
+explain-stop front r u c _ h l w n (other o e) = unexpected (λ d. o (over-of front r u c h l d)) (λ k. both_ways (is_end u.phase) e (n k))
+
+explain-escape : (front text : List ℕ) (at backslash : ℕ) (escape : EscapeState) → EscapeIn front at backslash escape text → IsInEscape front backslash
+explain-escape front text at backslash escape h =
+    let f = finishes escape h.first h.fits in
+    record { before = h.before; inner = h.inner; bytes = text; escape = h.first; more = f.0; character = f.1; parts = h.parts; place_is = h.back; quoted = h.quoted; unfinished = some f.0 f.2; known = finished-escape escape h.first f.0 f.1 h.fits f.2 }
+  where
+    some : (cs : List ℕ) → Reads escape cs (finishes escape h.first h.fits).1 → 0 < length cs
+    some [] r = absurd r
+    some (c ∷ cs) r = omega arith
+
+explain : (front : List ℕ) (r : Reader) (c : ℕ) (e : Refusal) → Reached front r → Fails (width front) c r e → IsExplained front c e
+explain front _ c e h (between_fails nodes brackets phase _ s) =
+    let r = ready nodes brackets phase in
+    explain-stop front r r c e h refl (λ k. (let t = ready-finishes nodes brackets phase (width front) k in finishes-whole front r t.0 h t.1)) (λ w. whole-says front r h w) s
+explain front _ c e h (word_fails nodes brackets phase at text u _ k s) =
+    let r = in_token nodes brackets phase (Word at) text [] in
+    explain-stop front r u c e h (ended-length nodes brackets phase at (width front) text u k) (λ q. (let t = ended-finishes nodes brackets phase at (width front) text u k q in finishes-whole front r t.0 h t.1))
+    (λ w. ended-outside nodes brackets phase at (width front) text u k (ap length (whole-says front r h w))) s
+explain front _ c e h (word_twice nodes d outer at text w k) =
+    let i : WordIn front at text = reached-token front (in_token nodes (Pairs d ∷ outer) Key (Word at) text []) h in
+    twice at (record { before = i.before; text = i.word; key = text; parts = i.parts; place_is = i.place; ended = inl (i.own, w) })
+explain front _ c e h (string_twice nodes d outer at text q k) =
+    let i : StringIn front at text = reached-token front (in_token nodes (Pairs d ∷ outer) Key (Quoted at) text []) h in
+    twice at (record { before = i.before; text = 34 ∷ i.inner; key = text; parts = i.parts; place_is = i.place; ended = inr (q, i.inner, refl, i.quoted) })
+explain front _ c e h (escape_fails nodes brackets phase at backslash text escape) =
+    bad_escape backslash (explain-escape front text at backslash escape (reached-token front (in_token nodes brackets phase (Escape at backslash escape) text []) h))
+explain front _ c e h (bytes_fail nodes brackets phase at bytes _ a s) =
+    let r = in_token nodes brackets phase (Bytes at) [] bytes in
+    explain-stop front r r c e h refl (λ q. absurd (awaiting-no_end phase a q)) (λ w. absurd (whole-says front r h w)) s
+explain front _ c e h (half_fails nodes brackets phase at high bytes _ a s) =
+    let r = in_token nodes brackets phase (Half at high) [] bytes in
+    explain-stop front r r c e h refl (λ q. absurd (awaiting-no_end phase a q)) (λ w. absurd (whole-says front r h w)) s
 
 -- ---- the end
 
@@ -211,7 +229,7 @@ reason_of front [] r e h stop = (
 )
 reason_of front (c ∷ cs) r e h stop = (
   record { goes_on = reached-goes_on front r h; no_more = refused-stops front r c e h stop },
-  at_err (BlamesAt (width front)) (step r (width front) c) e stop (blames-step r (width front) c (reached-good front r h)),
+  explain front r c e h (at_err (Fails (width front) c r) (step r (width front) c) e stop (fails r (width front) c (reached-good front r h))),
 )
 
 -- a text that is refused stops so
