@@ -38,7 +38,7 @@ pub step-plain : (nodes : List TreeNode) (brackets : List Open) (phase : Phase) 
 unfolding step in_quoted
 step-plain nodes brackets phase at place c text h g = rw (ne_eqb c 34 h, ne_eqb c 92 g) refl
 
-step-backslash : (nodes : List TreeNode) (brackets : List Open) (phase : Phase) (at place : ℕ) (text : List ℕ)
+pub step-backslash : (nodes : List TreeNode) (brackets : List Open) (phase : Phase) (at place : ℕ) (text : List ℕ)
     → step (in_token nodes brackets phase (Quoted at) text []) place 92 ≡ Ok (in_token nodes brackets phase (Escape at place Begun) text [])
 unfolding step in_quoted
 step-backslash nodes brackets phase at place text = refl

@@ -18,4 +18,6 @@ pub mod Fronts
 pub mod Reached
 pub mod Depths
 pub mod Fails
+pub mod Texts
+pub mod InEscapes
 pub mod RefusalLemmas

@@ -1,10 +1,10 @@
 -- Why reading stops where it does: each refusal is the one that the texts with trees explain.
 use Rattle.std.proofs.Common.{inl, inr, ◌≡◌, ℕ, ◌<◌, Bool, true, false, cond, eqb, List, [], ◌∷◌, ◌++◌, length, Result, Ok, Err, refl, sym, ap, subst, ◌∙◌, arith}
 use Rattle.std.specs.Prelude.{IfErr}
-use Rattle.std.proofs.lemmas.Bool.{eqb-true, false≢true, or_cases, both_ways}
+use Rattle.std.proofs.lemmas.Bool.{eqb-true, eq-eqb, false≢true, or_cases, both_ways}
 use Rattle.std.specs.Str.{IsUtf8, chars}
 use Rattle.refusal_codes.specs.declared.refusal.Refusal.{Refusal}
-use Rattle.refusal_codes.specs.declared.rule.Rule.TheVariants.{UnexpectedEnd}
+use Rattle.refusal_codes.specs.declared.rule.Rule.TheVariants.{UnexpectedByte, UnexpectedEnd, BadEscape, DuplicateKey, TooDeep, TrailingText}
 use Rattle.plist_reader.specs.declared.tree.Tree.{Tree}
 use Rattle.plist_reader.specs.declared.tree.TreeNode.{TreeNode}
 use Rattle.plist_reader.specs.declared.tree.TreeValue.TheVariants as tree
@@ -17,13 +17,13 @@ use Rattle.plist_reader.specs.declared.reader.Open.{Open}
 use Rattle.plist_reader.specs.declared.reader.Open.TheVariants.{Items, Pairs}
 use Rattle.plist_reader.specs.declared.escape.Escape.{Escape as EscapeState}
 use Rattle.plist_reader.specs.Grammar.{node, width}
-use Rattle.plist_reader.specs.Refusals.{IsWhole, IsDeep, IsBracket, IsTooDeep, IsInEscape, IsExplained, bad_escape, twice, too_deep, trailing, unexpected, IsReason, StopsIn, IsErrorOf}
+use Rattle.plist_reader.specs.Refusals.{HasText, IsWhole, IsDeep, IsBracket, IsTooDeep, IsInEscape, IsExplained, bad_escape, twice, too_deep, trailing, unexpected, IsReason, StopsIn, IsErrorOf}
 use Rattle.refusal_codes.specs.declared.errors.ReadError.{ReadError}
 use Rattle.refusal_codes.specs.declared.errors.ReadError.TheVariants as read_errors
 use Rattle.refusal_codes.specs.Gives.{Gives}
 use Rattle.plist_reader.specs.Reading.{refusal, ◌>>=◌, start, is_bracket, is_end, text_ended, step, whole_in, whole, finish_in, finish, run, read_of}
 use Rattle.plist_reader.proofs.RunLemmas.{read_of-text}
-use Rattle.plist_reader.proofs.GivenTokens.{ready, in_token, IsAwaiting}
+use Rattle.plist_reader.proofs.GivenTokens.{width-append, ready, in_token, IsAwaiting}
 use Rattle.plist_reader.proofs.GivenEscapes.{Reads}
 use Rattle.plist_reader.proofs.GivenStrings.{finish-word}
 use Rattle.plist_reader.proofs.SpelledSteps.{Agrees, GoodIn, Good}
@@ -33,6 +33,8 @@ use Rattle.plist_reader.proofs.CanGoOn.{finish_whole}
 use Rattle.plist_reader.proofs.Fronts.{WordIn, StringIn, EscapeIn}
 use Rattle.plist_reader.proofs.Reached.{Reached, at_ok, reached-good, reached-token, reached-goes_on, whole-finishes, finishes-whole, refused-stops, err_not_ok, StopOf, stopped}
 use Rattle.plist_reader.proofs.Depths.{reached-placed, reached-deep}
+use Rattle.plist_reader.proofs.Texts.{open-text}
+use Rattle.plist_reader.proofs.InEscapes.{not_in_escape}
 use Rattle.plist_reader.proofs.Fails.{IsOver, StopsAt, over, behind, other, Fails, between_fails, word_fails, word_twice, string_twice, escape_fails, bytes_fail, half_fails, fails}
 
 -- ---- choices
@@ -134,43 +136,76 @@ awaiting-no_end (End n) a e = a
 
 -- ---- which rule
 
--- a character that nothing takes
-explain-stop : (front : List ℕ) (r u : Reader) (c : ℕ) (e : Refusal) → Reached front r → length u.brackets ≡ length r.brackets → (is_end u.phase ≡ true → IsWhole front) → (IsWhole front → is_end u.phase ≡ true) → StopsAt (width front) c u e → IsExplained front c e
-explain-stop front r u c _ h l w n (over o) = too_deep (too_deep-of front r u c h l o)
-explain-stop front r u c _ h l w n (behind o e) = trailing (λ d. o (over-of front r u c h l d)) (w e)
-explain-stop front r u c _ h l w n (other o e) = unexpected (λ d. o (over-of front r u c h l d)) (λ k. both_ways (is_end u.phase) e (n k))
+deep_no_end : TooDeep ≡ UnexpectedEnd → ⊥
+deep_no_end e = cc
 
-explain-escape : (front text : List ℕ) (at backslash : ℕ) (escape : EscapeState) → EscapeIn front at backslash escape text → IsInEscape front backslash
-explain-escape front text at backslash escape h =
+deep_no_escape : TooDeep ≡ BadEscape → ⊥
+deep_no_escape e = cc
+
+trail_no_end : TrailingText ≡ UnexpectedEnd → ⊥
+trail_no_end e = cc
+
+trail_no_escape : TrailingText ≡ BadEscape → ⊥
+trail_no_escape e = cc
+
+byte_no_end : UnexpectedByte ≡ UnexpectedEnd → ⊥
+byte_no_end e = cc
+
+byte_no_escape : UnexpectedByte ≡ BadEscape → ⊥
+byte_no_escape e = cc
+
+key_no_end : DuplicateKey ≡ UnexpectedEnd → ⊥
+key_no_end e = cc
+
+key_no_escape : DuplicateKey ≡ BadEscape → ⊥
+key_no_escape e = cc
+
+-- a character that nothing takes
+explain-stop : (front : List ℕ) (r u : Reader) (c : ℕ) (e : Refusal) → Reached front r → step r (width front) c ≡ Err e → length u.brackets ≡ length r.brackets → (is_end u.phase ≡ true → IsWhole front) → (IsWhole front → is_end u.phase ≡ true) → StopsAt (width front) c u e → IsExplained front c e
+explain-stop front r u c _ h s l w n (over o) = too_deep (not_in_escape front r c (refusal TooDeep (width front)) h s deep_no_end deep_no_escape) (too_deep-of front r u c h l o)
+explain-stop front r u c _ h s l w n (behind o e) = trailing (not_in_escape front r c (refusal TrailingText (width front)) h s trail_no_end trail_no_escape) (λ d. o (over-of front r u c h l d)) (w e)
+explain-stop front r u c _ h s l w n (other o e) = unexpected (not_in_escape front r c (refusal UnexpectedByte (width front)) h s byte_no_end byte_no_escape) (λ d. o (over-of front r u c h l d)) (λ k. both_ways (is_end u.phase) e (n k))
+
+same_bit : (m n : ℕ) → m ≡ n → ◌≡◌ {A = ℕ} (cond (eqb m n) 1 0) 1
+same_bit m n e = rw (eq-eqb m n e) refl
+
+explain-escape : (front text : List ℕ) (nodes : List TreeNode) (brackets : List Open) (phase : Phase) (at backslash : ℕ) (escape : EscapeState) → Reached front (in_token nodes brackets phase (Escape at backslash escape) text []) → EscapeIn front at backslash escape text → IsInEscape front backslash
+explain-escape front text nodes brackets phase at backslash escape r h =
     let f = finishes escape h.first h.fits in
-    record { before = h.before; inner = h.inner; bytes = text; escape = h.first; more = f.0; character = f.1; parts = h.parts; place_is = h.back; quoted = h.quoted; unfinished = some f.0 f.2; known = finished-escape escape h.first f.0 f.1 h.fits f.2 }
+    record { before = h.before; inner = h.inner; bytes = text; escape = h.first; more = f.0; character = f.1; parts = h.parts; place_is = h.back; string = begins; quoted = h.quoted; unfinished = some f.0 f.2; known = finished-escape escape h.first f.0 f.1 h.fits f.2 }
   where
+    inside : width h.before < width front
+    inside = omega (arith, ap width h.parts, width-append (h.before ++ 34 ∷ h.inner) (92 ∷ h.first), width-append h.before (34 ∷ h.inner))
+
+    begins : HasText front h.before
+    begins = open-text front h.before (in_token nodes brackets phase (Escape at backslash escape) text []) r inside (same_bit at (width h.before) h.place)
+
     some : (cs : List ℕ) → Reads escape cs (finishes escape h.first h.fits).1 → 0 < length cs
     some [] r = absurd r
     some (c ∷ cs) r = omega arith
 
-explain : (front : List ℕ) (r : Reader) (c : ℕ) (e : Refusal) → Reached front r → Fails (width front) c r e → IsExplained front c e
-explain front _ c e h (between_fails nodes brackets phase _ s) =
+explain : (front : List ℕ) (r : Reader) (c : ℕ) (e : Refusal) → Reached front r → step r (width front) c ≡ Err e → Fails (width front) c r e → IsExplained front c e
+explain front _ c e h x (between_fails nodes brackets phase _ s) =
     let r = ready nodes brackets phase in
-    explain-stop front r r c e h refl (λ k. (let t = ready-finishes nodes brackets phase (width front) k in finishes-whole front r t.0 h t.1)) (λ w. whole-says front r h w) s
-explain front _ c e h (word_fails nodes brackets phase at text u _ k s) =
+    explain-stop front r r c e h x refl (λ k. (let t = ready-finishes nodes brackets phase (width front) k in finishes-whole front r t.0 h t.1)) (λ w. whole-says front r h w) s
+explain front _ c e h x (word_fails nodes brackets phase at text u _ k s) =
     let r = in_token nodes brackets phase (Word at) text [] in
-    explain-stop front r u c e h (ended-length nodes brackets phase at (width front) text u k) (λ q. (let t = ended-finishes nodes brackets phase at (width front) text u k q in finishes-whole front r t.0 h t.1))
+    explain-stop front r u c e h x (ended-length nodes brackets phase at (width front) text u k) (λ q. (let t = ended-finishes nodes brackets phase at (width front) text u k q in finishes-whole front r t.0 h t.1))
     (λ w. ended-outside nodes brackets phase at (width front) text u k (ap length (whole-says front r h w))) s
-explain front _ c e h (word_twice nodes d outer at text w k) =
+explain front _ c e h x (word_twice nodes d outer at text w k) =
     let i : WordIn front at text = reached-token front (in_token nodes (Pairs d ∷ outer) Key (Word at) text []) h in
-    twice at (record { before = i.before; text = i.word; key = text; parts = i.parts; place_is = i.place; ended = inl (i.own, w) })
-explain front _ c e h (string_twice nodes d outer at text q k) =
+    twice at (not_in_escape front _ c (refusal DuplicateKey at) h x key_no_end key_no_escape) (record { before = i.before; text = i.word; key = text; parts = i.parts; place_is = i.place; ended = inl (i.own, w) })
+explain front _ c e h x (string_twice nodes d outer at text q k) =
     let i : StringIn front at text = reached-token front (in_token nodes (Pairs d ∷ outer) Key (Quoted at) text []) h in
-    twice at (record { before = i.before; text = 34 ∷ i.inner; key = text; parts = i.parts; place_is = i.place; ended = inr (q, i.inner, refl, i.quoted) })
-explain front _ c e h (escape_fails nodes brackets phase at backslash text escape) =
-    bad_escape backslash (explain-escape front text at backslash escape (reached-token front (in_token nodes brackets phase (Escape at backslash escape) text []) h))
-explain front _ c e h (bytes_fail nodes brackets phase at bytes _ a s) =
+    twice at (not_in_escape front _ c (refusal DuplicateKey at) h x key_no_end key_no_escape) (record { before = i.before; text = 34 ∷ i.inner; key = text; parts = i.parts; place_is = i.place; ended = inr (q, i.inner, refl, i.quoted) })
+explain front _ c e h x (escape_fails nodes brackets phase at backslash text escape) =
+    bad_escape backslash (explain-escape front text nodes brackets phase at backslash escape h (reached-token front (in_token nodes brackets phase (Escape at backslash escape) text []) h))
+explain front _ c e h x (bytes_fail nodes brackets phase at bytes _ a s) =
     let r = in_token nodes brackets phase (Bytes at) [] bytes in
-    explain-stop front r r c e h refl (λ q. absurd (awaiting-no_end phase a q)) (λ w. absurd (whole-says front r h w)) s
-explain front _ c e h (half_fails nodes brackets phase at high bytes _ a s) =
+    explain-stop front r r c e h x refl (λ q. absurd (awaiting-no_end phase a q)) (λ w. absurd (whole-says front r h w)) s
+explain front _ c e h x (half_fails nodes brackets phase at high bytes _ a s) =
     let r = in_token nodes brackets phase (Half at high) [] bytes in
-    explain-stop front r r c e h refl (λ q. absurd (awaiting-no_end phase a q)) (λ w. absurd (whole-says front r h w)) s
+    explain-stop front r r c e h x refl (λ q. absurd (awaiting-no_end phase a q)) (λ w. absurd (whole-says front r h w)) s
 
 -- ---- the end
 
@@ -229,7 +264,7 @@ reason_of front [] r e h stop = (
 )
 reason_of front (c ∷ cs) r e h stop = (
   record { goes_on = reached-goes_on front r h; no_more = refused-stops front r c e h stop },
-  explain front r c e h (at_err (Fails (width front) c r) (step r (width front) c) e stop (fails r (width front) c (reached-good front r h))),
+  explain front r c e h stop (at_err (Fails (width front) c r) (step r (width front) c) e stop (fails r (width front) c (reached-good front r h))),
 )
 
 -- a text that is refused stops so

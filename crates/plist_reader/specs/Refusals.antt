@@ -1,6 +1,6 @@
 -- Why a source without a tree is refused, over whole texts: reading stops behind the first characters with which some
 -- text with a tree can still begin, or at the end. Fontc's own.
-use Rattle.std.specs.Prelude.{◌≡◌, ℕ, ◌+◌, ◌<◌, Bool, true, false, ◌&&◌, nat_lt, if◌then◌else◌, List, [], ◌∷◌, ◌++◌, length, ◌⊎◌}
+use Rattle.std.specs.Prelude.{◌≡◌, ℕ, ◌+◌, ◌<◌, Bool, true, false, ◌&&◌, ◌==◌, nat_lt, if◌then◌else◌, List, [], ◌∷◌, ◌++◌, length, ◌⊎◌}
 use Rattle.std.specs.Str.{IsUtf8, chars}
 use Rattle.std.specs.Str.Lossy.{utf8_valid_len}
 use Rattle.refusal_codes.specs.declared.refusal.Refusal.{Refusal}
@@ -47,6 +47,21 @@ open_at place (node ∷ nodes) = (if is_open_at place node then 1 else 0) + open
 abbrev pub IsDeep : List ℕ → ℕ → Type 0
 IsDeep front depth = (rest : List ℕ) (v : Value) → IsTextOf v (front ++ rest) → open_at (width front) (tree_of v).nodes ≡ depth
 
+abbrev pub is_text : TreeValue → Bool
+is_text (tree.Text text) = true
+is_text (tree.Bytes bytes) = false
+is_text (tree.Items items) = false
+is_text (tree.Pairs pairs) = false
+
+-- how many words and strings of a tree begin at a place
+abbrev pub texts_at : ℕ → List TreeNode → ℕ
+texts_at place [] = 0
+texts_at place (node ∷ nodes) = (if is_text node.value && node.place == place then 1 else 0) + texts_at place nodes
+
+-- a word or a string begins behind some first characters of a front, in each text with a tree that begins so
+abbrev pub HasText : List ℕ → List ℕ → Type 0
+HasText front before = (rest : List ℕ) (v : Value) → IsTextOf v (front ++ rest) → 0 < texts_at (width before) (tree_of v).nodes
+
 abbrev pub IsBracket : ℕ → Type 0
 IsBracket c = (c ≡ 40) ⊎ (c ≡ 123)
 
@@ -55,7 +70,7 @@ abbrev pub IsTooDeep : List ℕ → ℕ → Type 0
 IsTooDeep front c = IsBracket c × IsDeep front 64
 
 -- A front that ends in an escape, which has begun at a place and isn't whole: in front of it stand a quote and, to the
--- backslash, whole characters and escapes.
+-- backslash, whole characters and escapes, and the quote begins a string.
 pub record IsInEscape (front : List ℕ) (place : ℕ) : Type 0 where
   pub before : List ℕ
   pub inner : List ℕ
@@ -65,9 +80,13 @@ pub record IsInEscape (front : List ℕ) (place : ℕ) : Type 0 where
   pub character : ℕ
   pub parts : front ≡ (before ++ 34 ∷ inner) ++ 92 ∷ escape
   pub place_is : place ≡ width (before ++ 34 ∷ inner)
+  pub string : HasText front before
   pub quoted : IsQuoted inner bytes
   pub unfinished : 0 < length more
   pub known : IsEscape (escape ++ more) character
+
+abbrev pub NotInEscape : List ℕ → Type 0
+NotInEscape front = (place : ℕ) → ¬ (IsInEscape front place)
 
 -- a word that a character ends, or a quoted string that it closes, and its bytes
 abbrev pub EndsText : List ℕ → ℕ → List ℕ → Type 0
@@ -85,10 +104,10 @@ pub record IsTwice (front : List ℕ) (c place : ℕ) : Type 0 where
 -- Why no text with a tree begins with a front and this character: the first of these cases that holds.
 pub data IsExplained (front : List ℕ) (c : ℕ) : Refusal → Type 0 where
   bad_escape : (place : ℕ) → IsInEscape front place → IsExplained front c (refusal BadEscape place)
-  twice : (place : ℕ) → IsTwice front c place → IsExplained front c (refusal DuplicateKey place)
-  too_deep : IsTooDeep front c → IsExplained front c (refusal TooDeep (width front))
-  trailing : ¬ (IsTooDeep front c) → IsWhole front → IsExplained front c (refusal TrailingText (width front))
-  unexpected : ¬ (IsTooDeep front c) → ¬ (IsWhole front) → IsExplained front c (refusal UnexpectedByte (width front))
+  twice : (place : ℕ) → NotInEscape front → IsTwice front c place → IsExplained front c (refusal DuplicateKey place)
+  too_deep : NotInEscape front → IsTooDeep front c → IsExplained front c (refusal TooDeep (width front))
+  trailing : NotInEscape front → ¬ (IsTooDeep front c) → IsWhole front → IsExplained front c (refusal TrailingText (width front))
+  unexpected : NotInEscape front → ¬ (IsTooDeep front c) → ¬ (IsWhole front) → IsExplained front c (refusal UnexpectedByte (width front))
 
 -- why reading stops behind a front: the text ends there and could go on, or the front is the longest that can
 abbrev pub IsReason : List ℕ → List ℕ → Refusal → Type 0
