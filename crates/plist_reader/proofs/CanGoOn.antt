@@ -1,8 +1,8 @@
 -- From each state that reading reaches some characters lead to a tree: what is open is finished, and no bracket opens.
-use Rattle.std.proofs.Common.{◌≡◌, ℕ, zero, suc, ◌+◌, ◌<◌, Bool, true, false, ◌&&◌, ◌||◌, List, [], ◌∷◌, ◌++◌, length, Some, Ok, refl, sym, subst, ◌∙◌, arith}
+use Rattle.std.proofs.Common.{append_assoc, ◌≡◌, ℕ, zero, suc, ◌+◌, ◌<◌, Bool, true, false, ◌&&◌, ◌||◌, List, [], ◌∷◌, ◌++◌, length, Some, Ok, refl, sym, subst, ◌∙◌, arith}
 use Rattle.std.specs.Prelude.{nat_eq}
 use Rattle.std.specs.Cmp.Lexicographic.{pointwise}
-use Rattle.std.proofs.lemmas.List.{length-append, length_push}
+use Rattle.std.proofs.lemmas.List.{append-nil, length-append, length_push}
 use Rattle.std.proofs.lemmas.Bool.{eqb-false}
 use Rattle.std.proofs.lemmas.Str.{length-encode}
 use Rattle.std.specs.Char.{len_utf8}
@@ -43,15 +43,34 @@ completes-step r s place c e h = record { rest = c ∷ h.rest; tree = h.tree; ru
 
 -- ---- brackets are closed
 
-pub completes-settled : (brackets : List Open) (nodes : List TreeNode) (number place : ℕ) → Completes (settled nodes brackets number) place
-completes-settled [] nodes number place = record { rest = []; tree = record { nodes = nodes; top = number }; runs = finish-end nodes number place }
-completes-settled (Items at done ∷ outer) nodes number place =
+-- characters with which the brackets around a value close; the tree has more values behind these
+pub record Extends (r : Reader) (place : ℕ) (nodes : List TreeNode) : Type 0 where
+  pub whole : Completes r place
+  pub more : List TreeNode
+  pub grows : whole.tree.nodes ≡ nodes ++ more
+
+extends-step : (r s : Reader) (place c : ℕ) (nodes : List TreeNode) (n : TreeNode) → step r place c ≡ Ok s → Extends s (place + len_utf8 c) (nodes ++ n ∷ []) → Extends r place nodes
+unfolding completes-step
+extends-step r s place c nodes n e h = record { whole = completes-step r s place c e h.whole; more = n ∷ h.more; grows = h.grows ∙ append_assoc nodes (n ∷ []) h.more }
+
+extends-same : (r s : Reader) (place c : ℕ) (nodes : List TreeNode) → step r place c ≡ Ok s → Extends s (place + len_utf8 c) nodes → Extends r place nodes
+unfolding completes-step
+extends-same r s place c nodes e h = record { whole = completes-step r s place c e h.whole; more = h.more; grows = h.grows }
+
+pub extends-settled : (brackets : List Open) (nodes : List TreeNode) (number place : ℕ) → Extends (settled nodes brackets number) place nodes
+extends-settled [] nodes number place = record { whole = record { rest = []; tree = record { nodes = nodes; top = number }; runs = finish-end nodes number place }; more = []; grows = sym (append-nil nodes) }
+extends-settled (Items at done ∷ outer) nodes number place =
     let all = done ++ number ∷ [] in
-    completes-step _ _ place 41 (step-list_end nodes at place all outer) (completes-settled outer (nodes ++ node at (place + 1) (tree.Items all) ∷ []) (length nodes) (place + 1))
-completes-settled (Pairs d ∷ outer) nodes number place =
+    let n = node at (place + 1) (tree.Items all) in
+    extends-step _ _ place 41 nodes n (step-list_end nodes at place all outer) (extends-settled outer (nodes ++ n ∷ []) (length nodes) (place + 1))
+extends-settled (Pairs d ∷ outer) nodes number place =
     let all : Dictionary = record d { pairs = d.pairs ++ (d.key, number) ∷ [] } in
-    completes-step _ _ place 59 (step-semicolon nodes (Pairs all ∷ outer) place)
-    (completes-step _ _ (place + 1) 125 (step-dictionary_end nodes (place + 1) all outer) (completes-settled outer (nodes ++ node d.place (place + 1 + 1) (tree.Pairs all.pairs) ∷ []) (length nodes) (place + 1 + 1)))
+    let n = node d.place (place + 1 + 1) (tree.Pairs all.pairs) in
+    extends-same _ _ place 59 nodes (step-semicolon nodes (Pairs all ∷ outer) place)
+    (extends-step _ _ (place + 1) 125 nodes n (step-dictionary_end nodes (place + 1) all outer) (extends-settled outer (nodes ++ n ∷ []) (length nodes) (place + 1 + 1)))
+
+completes-settled : (brackets : List Open) (nodes : List TreeNode) (number place : ℕ) → Completes (settled nodes brackets number) place
+completes-settled brackets nodes number place = (extends-settled brackets nodes number place).whole
 
 -- ---- byte strings
 
@@ -141,14 +160,33 @@ completes-word nodes brackets phase at place text a =
     (step-word_space (in_token nodes brackets phase (Word at) text []) (settled made brackets (length nodes)) at place refl (text-ended nodes brackets phase (Word at) at place text a) (settled-between made brackets (length nodes)))
     (completes-settled brackets made (length nodes) (place + 1))
 
-completes-key_word : (n : ℕ) (nodes : List TreeNode) (d : Dictionary) (outer : List Open) (at place : ℕ) (text : List ℕ) → reach d.keys < length text + n → Completes (in_token nodes (Pairs d ∷ outer) Key (Word at) text []) place
-completes-key_word zero nodes d outer at place text h =
-    completes-step _ _ place 32
+-- characters that finish a key so that its dictionary has no such key yet
+pub record KeyWay (nodes : List TreeNode) (d : Dictionary) (outer : List Open) (at : ℕ) (r : Reader) (place : ℕ) : Type 0 where
+  pub characters : List ℕ
+  pub end : ℕ
+  pub key : List ℕ
+  pub next : ℕ
+  pub leads : (more : List ℕ) → run r place (characters ++ more) ≡ run (key_end nodes d outer at end key) next more
+
+way-step : (nodes : List TreeNode) (d : Dictionary) (outer : List Open) (at : ℕ) (r s : Reader) (place c : ℕ) → step r place c ≡ Ok s → KeyWay nodes d outer at s (place + len_utf8 c) → KeyWay nodes d outer at r place
+way-step nodes d outer at r s place c e w = record { characters = c ∷ w.characters; end = w.end; key = w.key; next = w.next; leads = λ more. run_step r s place c (w.characters ++ more) e ∙ w.leads more }
+
+way-end : (nodes : List TreeNode) (d : Dictionary) (outer : List Open) (at end : ℕ) (key : List ℕ) (r : Reader) (place c : ℕ) → step r place c ≡ Ok (key_end nodes d outer at end key) → KeyWay nodes d outer at r place
+way-end nodes d outer at end key r place c e = record { characters = c ∷ []; end = end; key = key; next = place + len_utf8 c; leads = λ more. run_step r (key_end nodes d outer at end key) place c more e }
+
+way-word : (n : ℕ) (nodes : List TreeNode) (d : Dictionary) (outer : List Open) (at place : ℕ) (text : List ℕ) → reach d.keys < length text + n → KeyWay nodes d outer at (in_token nodes (Pairs d ∷ outer) Key (Word at) text []) place
+way-word zero nodes d outer at place text h = way-end nodes d outer at place text _ place 32
     (step-word_space (in_token nodes (Pairs d ∷ outer) Key (Word at) text []) (key_end nodes d outer at place text) at place refl (key-ended nodes d outer (Word at) at place text (longer-new text d.keys (omega (arith, h)))) refl)
-    (completes-key_end nodes d outer at place (place + 1) text)
-completes-key_word (suc n) nodes d outer at place text h =
-    completes-step _ _ place 97 (step-word nodes (Pairs d ∷ outer) Key at place 97 text plain_letter.0)
-    (completes-key_word n nodes d outer at (place + 1) (text ++ 97 ∷ []) (omega (arith, h, length_push text 97)))
+way-word (suc n) nodes d outer at place text h = way-step nodes d outer at _ _ place 97 (step-word nodes (Pairs d ∷ outer) Key at place 97 text plain_letter.0)
+    (way-word n nodes d outer at (place + 1) (text ++ 97 ∷ []) (omega (arith, h, length_push text 97)))
+
+pub way-any_word : (nodes : List TreeNode) (d : Dictionary) (outer : List Open) (at place : ℕ) (text : List ℕ) → KeyWay nodes d outer at (in_token nodes (Pairs d ∷ outer) Key (Word at) text []) place
+way-any_word nodes d outer at place text = way-word (suc (reach d.keys)) nodes d outer at place text (omega arith)
+
+completes-way : (nodes : List TreeNode) (d : Dictionary) (outer : List Open) (at : ℕ) (r : Reader) (place : ℕ) → KeyWay nodes d outer at r place → Completes r place
+completes-way nodes d outer at r place w =
+    let h = completes-key_end nodes d outer at w.end w.next w.key in
+    record { rest = w.characters ++ h.rest; tree = h.tree; runs = w.leads h.rest ∙ h.runs }
 
 -- ---- quoted strings
 
@@ -160,16 +198,17 @@ completes-string nodes brackets phase at place text a =
 letter_no_mark : (¬ (◌≡◌ {A = ℕ} 97 34)) × (¬ (◌≡◌ {A = ℕ} 97 92))
 letter_no_mark = (eqb-false 97 34 refl, eqb-false 97 92 refl)
 
-completes-key_string : (n : ℕ) (nodes : List TreeNode) (d : Dictionary) (outer : List Open) (at place : ℕ) (text : List ℕ) → reach d.keys < length text + n → Completes (in_token nodes (Pairs d ∷ outer) Key (Quoted at) text []) place
-completes-key_string zero nodes d outer at place text h =
-    completes-step _ _ place 34 (step-quote_end nodes (Pairs d ∷ outer) Key at place text ∙ key-ended nodes d outer (Quoted at) at (place + 1) text (longer-new text d.keys (omega (arith, h))))
-    (completes-key_end nodes d outer at (place + 1) (place + 1) text)
-completes-key_string (suc n) nodes d outer at place text h =
-    completes-step _ _ place 97 (step-plain nodes (Pairs d ∷ outer) Key at place 97 text letter_no_mark.0 letter_no_mark.1)
-    (completes-key_string n nodes d outer at (place + 1) (text ++ encode 97) (omega (arith, h, length-append text (encode 97), one_byte)))
+way-string : (n : ℕ) (nodes : List TreeNode) (d : Dictionary) (outer : List Open) (at place : ℕ) (text : List ℕ) → reach d.keys < length text + n → KeyWay nodes d outer at (in_token nodes (Pairs d ∷ outer) Key (Quoted at) text []) place
+way-string zero nodes d outer at place text h = way-end nodes d outer at (place + 1) text _ place 34
+    (step-quote_end nodes (Pairs d ∷ outer) Key at place text ∙ key-ended nodes d outer (Quoted at) at (place + 1) text (longer-new text d.keys (omega (arith, h))))
+way-string (suc n) nodes d outer at place text h = way-step nodes d outer at _ _ place 97 (step-plain nodes (Pairs d ∷ outer) Key at place 97 text letter_no_mark.0 letter_no_mark.1)
+    (way-string n nodes d outer at (place + 1) (text ++ encode 97) (omega (arith, h, length-append text (encode 97), one_byte)))
   where
     one_byte : length (encode 97) ≡ 1
     one_byte = length-encode 97
+
+pub way-any_string : (nodes : List TreeNode) (d : Dictionary) (outer : List Open) (at place : ℕ) (text : List ℕ) → KeyWay nodes d outer at (in_token nodes (Pairs d ∷ outer) Key (Quoted at) text []) place
+way-any_string nodes d outer at place text = way-string (suc (reach d.keys)) nodes d outer at place text (omega arith)
 
 -- ---- texts
 
@@ -178,7 +217,7 @@ completes-any_word nodes brackets Value at place text b g = completes-word nodes
 completes-any_word nodes brackets Item at place text b g = completes-word nodes brackets Item at place text tt
 completes-any_word nodes [] Key at place text b g = absurd g
 completes-any_word nodes (Items p done ∷ outer) Key at place text b g = absurd g
-completes-any_word nodes (Pairs d ∷ outer) Key at place text b g = completes-key_word (suc (reach d.keys)) nodes d outer at place text (omega arith)
+completes-any_word nodes (Pairs d ∷ outer) Key at place text b g = completes-way nodes d outer at _ place (way-any_word nodes d outer at place text)
 completes-any_word nodes brackets ItemEnd at place text b g = absurd b
 completes-any_word nodes brackets KeyEnd at place text b g = absurd b
 completes-any_word nodes brackets PairEnd at place text b g = absurd b
@@ -189,7 +228,7 @@ completes-any_string nodes brackets Value at place text b g = completes-string n
 completes-any_string nodes brackets Item at place text b g = completes-string nodes brackets Item at place text tt
 completes-any_string nodes [] Key at place text b g = absurd g
 completes-any_string nodes (Items p done ∷ outer) Key at place text b g = absurd g
-completes-any_string nodes (Pairs d ∷ outer) Key at place text b g = completes-key_string (suc (reach d.keys)) nodes d outer at place text (omega arith)
+completes-any_string nodes (Pairs d ∷ outer) Key at place text b g = completes-way nodes d outer at _ place (way-any_string nodes d outer at place text)
 completes-any_string nodes brackets ItemEnd at place text b g = absurd b
 completes-any_string nodes brackets KeyEnd at place text b g = absurd b
 completes-any_string nodes brackets PairEnd at place text b g = absurd b

@@ -101,7 +101,17 @@ triangle_fronts : map (λ n. refusal_in (read_of (take n triangle))) (range_with
 unfolding read_of is_utf8 chars utf8_valid_len encode is_space is_word octal_value hex_value byte_of character_of escape_begun escape_unit escape_digit escape_next start value_ended key_ended text_ended unexpected_rule text_begun bracket_opened value_begun list_closed dictionary_closed between in_word in_quoted in_bytes in_half step whole finish
 triangle_fronts = refl
 
+-- without its last line feed it is the same tree
+triangle_trimmed : read_of (take 258 triangle) ≡ read_of triangle
+unfolding read_of is_utf8 chars utf8_valid_len encode is_space is_word octal_value hex_value byte_of character_of escape_begun escape_unit escape_digit escape_next start value_ended key_ended text_ended unexpected_rule text_begun bracket_opened value_begun list_closed dictionary_closed between in_word in_quoted in_bytes in_half step whole finish
+triangle_trimmed = refl
+
 -- ---- trees
+
+-- a string may have line feeds as they are, and characters beyond ASCII of two, three and four bytes
+raw_string : read_of (34 ∷ 97 ∷ 10 ∷ 195 ∷ 169 ∷ 226 ∷ 130 ∷ 172 ∷ 240 ∷ 159 ∷ 152 ∷ 128 ∷ 34 ∷ []) ≡ Ok (record { nodes = record { place = 0; end = 13; value = tree.Text (97 ∷ 10 ∷ 195 ∷ 169 ∷ 226 ∷ 130 ∷ 172 ∷ 240 ∷ 159 ∷ 152 ∷ 128 ∷ []) } ∷ []; top = 0 })
+unfolding read_of is_utf8 chars utf8_valid_len encode is_space is_word octal_value hex_value byte_of character_of escape_begun escape_unit escape_digit escape_next start value_ended key_ended text_ended unexpected_rule text_begun bracket_opened value_begun list_closed dictionary_closed between in_word in_quoted in_bytes in_half step whole finish
+raw_string = refl
 
 -- escapes are undone, and each value has its place and end
 quoted_tree : read_of (codes " " ++ (34 ∷ (codes "a" ++ (92 ∷ (codes "n" ++ (92 ∷ (codes "Ud83d" ++ (92 ∷ (codes "Ude00" ++ (34 ∷ [])))))))))) ≡ Ok (record { nodes = record { place = 1; end = 18; value = tree.Text (97 ∷ 10 ∷ 240 ∷ 159 ∷ 152 ∷ 128 ∷ []) } ∷ []; top = 0 })

@@ -20,4 +20,6 @@ pub mod Depths
 pub mod Fails
 pub mod Texts
 pub mod InEscapes
+pub mod Keyed
+pub mod Twices
 pub mod RefusalLemmas

@@ -56,7 +56,7 @@ reached-run _ _ (onward front r s c h e) more =
 
 -- ---- some text goes on
 
-spelled-ok : (cs : List ℕ) (t : Tree) → run start 0 cs ≡ Ok t → Spelled cs t
+pub spelled-ok : (cs : List ℕ) (t : Tree) → run start 0 cs ≡ Ok t → Spelled cs t
 spelled-ok cs t e = at_ok (Spelled cs) (run start 0 cs) t e (run-spelled cs)
 
 pub reached-goes_on : (front : List ℕ) (r : Reader) → Reached front r → CanGoOn front

@@ -29,7 +29,8 @@ use Rattle.plist_reader.proofs.GivenStrings.{finish-word}
 use Rattle.plist_reader.proofs.SpelledSteps.{Agrees, GoodIn, Good}
 use Rattle.plist_reader.proofs.Moves.{TextEnds, as_value, as_key, Closes, closes_between, closes_word, closes}
 use Rattle.plist_reader.proofs.CanGoOnEscapes.{finishes, finished-escape}
-use Rattle.plist_reader.proofs.CanGoOn.{finish_whole}
+use Rattle.plist_reader.proofs.CanGoOn.{finish_whole, way-any_word, way-any_string}
+use Rattle.plist_reader.proofs.Twices.{twice-goes_on}
 use Rattle.plist_reader.proofs.Fronts.{WordIn, StringIn, EscapeIn}
 use Rattle.plist_reader.proofs.Reached.{Reached, at_ok, reached-good, reached-token, reached-goes_on, whole-finishes, finishes-whole, refused-stops, err_not_ok, StopOf, stopped}
 use Rattle.plist_reader.proofs.Depths.{reached-placed, reached-deep}
@@ -194,10 +195,12 @@ explain front _ c e h x (word_fails nodes brackets phase at text u _ k s) =
     (λ w. ended-outside nodes brackets phase at (width front) text u k (ap length (whole-says front r h w))) s
 explain front _ c e h x (word_twice nodes d outer at text w k) =
     let i : WordIn front at text = reached-token front (in_token nodes (Pairs d ∷ outer) Key (Word at) text []) h in
-    twice at (not_in_escape front _ c (refusal DuplicateKey at) h x key_no_end key_no_escape) (record { before = i.before; text = i.word; key = text; parts = i.parts; place_is = i.place; ended = inl (i.own, w) })
+    let g = twice-goes_on front nodes d outer (Word at) at text h (way-any_word nodes d outer at (width front) text) k in
+    twice at (not_in_escape front _ c (refusal DuplicateKey at) h x key_no_end key_no_escape) (record { before = i.before; text = i.word; key = text; rest = g.rest; other = g.other; parts = i.parts; place_is = i.place; ended = inl (i.own, w); goes_on = g.spelled; behind = g.behind })
 explain front _ c e h x (string_twice nodes d outer at text q k) =
     let i : StringIn front at text = reached-token front (in_token nodes (Pairs d ∷ outer) Key (Quoted at) text []) h in
-    twice at (not_in_escape front _ c (refusal DuplicateKey at) h x key_no_end key_no_escape) (record { before = i.before; text = 34 ∷ i.inner; key = text; parts = i.parts; place_is = i.place; ended = inr (q, i.inner, refl, i.quoted) })
+    let g = twice-goes_on front nodes d outer (Quoted at) at text h (way-any_string nodes d outer at (width front) text) k in
+    twice at (not_in_escape front _ c (refusal DuplicateKey at) h x key_no_end key_no_escape) (record { before = i.before; text = 34 ∷ i.inner; key = text; rest = g.rest; other = g.other; parts = i.parts; place_is = i.place; ended = inr (q, i.inner, refl, i.quoted); goes_on = g.spelled; behind = g.behind })
 explain front _ c e h x (escape_fails nodes brackets phase at backslash text escape) =
     bad_escape backslash (explain-escape front text nodes brackets phase at backslash escape h (reached-token front (in_token nodes brackets phase (Escape at backslash escape) text []) h))
 explain front _ c e h x (bytes_fail nodes brackets phase at bytes _ a s) =

@@ -1,17 +1,20 @@
 -- Why a source without a tree is refused, over whole texts: reading stops behind the first characters with which some
 -- text with a tree can still begin, or at the end. Fontc's own.
-use Rattle.std.specs.Prelude.{◌≡◌, ℕ, ◌+◌, ◌<◌, Bool, true, false, ◌&&◌, ◌==◌, nat_lt, if◌then◌else◌, List, [], ◌∷◌, ◌++◌, length, ◌⊎◌}
+use Rattle.std.specs.Prelude.{◌≡◌, ℕ, ◌+◌, ◌<◌, Bool, true, false, ◌&&◌, ◌==◌, nat_lt, if◌then◌else◌, List, [], ◌∷◌, ◌++◌, length, Some, ◌⊎◌}
+use Rattle.std.specs.List.{list_any}
 use Rattle.std.specs.Str.{IsUtf8, chars}
 use Rattle.std.specs.Str.Lossy.{utf8_valid_len}
 use Rattle.refusal_codes.specs.declared.refusal.Refusal.{Refusal}
 use Rattle.refusal_codes.specs.declared.errors.ReadError.{ReadError}
 use Rattle.refusal_codes.specs.declared.errors.ReadError.TheVariants as read_errors
 use Rattle.refusal_codes.specs.declared.rule.Rule.TheVariants.{NotUtf8, UnexpectedByte, UnexpectedEnd, BadEscape, DuplicateKey, TooDeep, TrailingText}
+use Rattle.plist_reader.specs.declared.tree.Tree.{Tree}
 use Rattle.plist_reader.specs.declared.tree.TreeNode.{TreeNode}
 use Rattle.plist_reader.specs.declared.tree.TreeValue.{TreeValue}
 use Rattle.plist_reader.specs.declared.tree.TreeValue.TheVariants as tree
-use Rattle.plist_reader.specs.Grammar.{Value, width, IsWord, IsEscape, IsQuoted, IsTextOf, tree_of}
+use Rattle.plist_reader.specs.Grammar.{Value, node, width, IsWord, IsEscape, IsQuoted, IsTextOf, tree_of}
 use Rattle.plist_reader.specs.Characters.{is_word}
+use Rattle.plist_reader.specs.Tree.{node_at, is_key}
 use Rattle.plist_reader.specs.Reading.{refusal}
 
 -- some text with a tree begins with these characters
@@ -92,14 +95,34 @@ NotInEscape front = (place : ℕ) → ¬ (IsInEscape front place)
 abbrev pub EndsText : List ℕ → ℕ → List ℕ → Type 0
 EndsText cs c bytes = (IsWord cs bytes × (is_word c ≡ false)) ⊎ ((c ≡ 34) × (inner : List ℕ) × (cs ≡ 34 ∷ inner) × IsQuoted inner bytes)
 
--- a front that ends in a key which begins at a place, and which the next character ends
+-- A dictionary of a tree has a key with these bytes, and behind it one that begins at a place.
+pub record IsKeyBehind (key : List ℕ) (place : ℕ) (t : Tree) : Type 0 where
+  pub dictionary : ℕ
+  pub begin : ℕ
+  pub end : ℕ
+  pub earlier : List (ℕ × ℕ)
+  pub number : ℕ
+  pub value : ℕ
+  pub later : List (ℕ × ℕ)
+  pub own : TreeNode
+  pub dictionary_is : node_at t dictionary ≡ Some (node begin end (tree.Pairs (earlier ++ (number, value) ∷ later)))
+  pub known : list_any (λ pair. is_key t key pair.0) earlier ≡ true
+  pub own_is : node_at t number ≡ Some own
+  pub place_is : own.place ≡ place
+
+-- A front that ends in a key which begins at a place, and which the next character ends, where its dictionary has that
+-- key already: so it does in a text with a tree that begins with the front, where the key goes on to be another.
 pub record IsTwice (front : List ℕ) (c place : ℕ) : Type 0 where
   pub before : List ℕ
   pub text : List ℕ
   pub key : List ℕ
+  pub rest : List ℕ
+  pub other : Value
   pub parts : front ≡ before ++ text
   pub place_is : place ≡ width before
   pub ended : EndsText text c key
+  pub goes_on : IsTextOf other (front ++ rest)
+  pub behind : IsKeyBehind key place (tree_of other)
 
 -- Why no text with a tree begins with a front and this character: the first of these cases that holds.
 pub data IsExplained (front : List ℕ) (c : ℕ) : Refusal → Type 0 where
