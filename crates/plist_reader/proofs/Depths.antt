@@ -114,7 +114,7 @@ text-placed nodes _ _ token _ _ p q _ _ (as_key d outer at end text a) l e h = r
 }
 
 -- the reader behind a word that has ended is one at the same place
-moves-placed : (place c q : ℕ) (r s : Reader) → place < q → Moves place c r s → Placed r place → Placed s q
+pub moves-placed : (place c q : ℕ) (r s : Reader) → place < q → Moves place c r s → Placed r place → Placed s q
 moves-placed place c q _ _ l (space_between nodes brackets phase e) h = token-placed nodes brackets phase _ _ [] [] [] [] place q (omega arith) h
 moves-placed place c q _ _ l (string_begins nodes brackets phase b e) h = token-placed nodes brackets phase _ _ [] [] [] [] place q (omega arith) h
 moves-placed place c q _ _ l (word_begins nodes brackets phase b w) h = token-placed nodes brackets phase _ _ [] _ [] [] place q (omega arith) h
@@ -152,7 +152,7 @@ reached-placed _ _ (onward front r s c h e) = moves-placed (width front) c (widt
 
 -- ---- the count stays the same
 
-abbrev Count : ℕ → Reader → ℕ
+abbrev pub Count : ℕ → Reader → ℕ
 Count p r = open_at p r.nodes + before p r.brackets
 
 before-settled : (p number : ℕ) (nodes : List TreeNode) (brackets : List Open) → Count p (settled nodes brackets number) ≡ open_at p nodes + before p brackets
@@ -182,7 +182,7 @@ text-count p nodes _ _ _ _ _ _ (as_key d outer at end text a) = omega (arith, op
 opened-count : (p place : ℕ) (nodes : List TreeNode) (b : Open) (brackets : List Open) → p ≤ place → at_of b ≡ place → open_at p nodes + (bit (ltb (at_of b) p) + before p brackets) ≡ open_at p nodes + before p brackets
 opened-count p place nodes b brackets l e = let behind : bit (ltb (at_of b) p) ≡ 0 = rw (e, le-ltb place p l) refl in omega (arith, behind)
 
-moves-count : (p place c : ℕ) (r s : Reader) → p ≤ place → Moves place c r s → Count p s ≡ Count p r
+pub moves-count : (p place c : ℕ) (r s : Reader) → p ≤ place → Moves place c r s → Count p s ≡ Count p r
 moves-count p place c _ _ l (space_between nodes brackets phase e) = refl
 moves-count p place c _ _ l (string_begins nodes brackets phase b e) = refl
 moves-count p place c _ _ l (word_begins nodes brackets phase b w) = refl
@@ -207,7 +207,7 @@ moves-count p place c _ _ l (space_in_half nodes brackets phase at high bytes) =
 moves-count p place c _ _ l (second_digit nodes brackets phase at high byte bytes) = refl
 moves-count p place c _ _ l (bytes_end nodes brackets phase at bytes) = token-count p nodes (node at (place + 1) (tree.Bytes bytes)) brackets refl
 
-closes-count : (p place : ℕ) (r : Reader) (t : Tree) → Closes place r t → (is_end r.phase ≡ true → r.brackets ≡ []) → open_at p t.nodes ≡ Count p r
+pub closes-count : (p place : ℕ) (r : Reader) (t : Tree) → Closes place r t → (is_end r.phase ≡ true → r.brackets ≡ []) → open_at p t.nodes ≡ Count p r
 closes-count p place _ _ (closes_between nodes brackets number) o = let none : before p brackets ≡ 0 = ap (λ b. before p b) (o refl) in omega (arith, none)
 closes-count p place _ _ (closes_word nodes phase at text a) o = omega (arith, open_at-push p nodes (node at place (tree.Text text)))
 

@@ -23,3 +23,4 @@ pub mod InEscapes
 pub mod Keyed
 pub mod Twices
 pub mod RefusalLemmas
+pub mod SourceLaws

@@ -3,6 +3,7 @@ ghost use Rattle.refusal_codes.specs.Gives.{Gives};
 ghost use Rattle.plist_reader.specs.Tree.{IsTree, source_limit};
 ghost use Rattle.plist_reader.specs.Grammar.{HasTree};
 ghost use Rattle.plist_reader.specs.Refusals.{IsErrorOf};
+ghost use Rattle.plist_reader.specs.Sources.{StandsInSource};
 ghost use Rattle.plist_reader.specs.declared.tree.Tree.{Tree};
 ghost use Rattle.plist_reader.specs.Reading.{refusal, read_of, run, start};
 ghost use Rattle.std.specs.Str.{chars};
@@ -51,4 +52,10 @@ fn read_text(alloc: Global, text: &str) -> Result<Tree, ReadError>
 /// A text has at most one tree.
 pub fn trees_are_unique()
     ensures { (source : List ℕ) (s t : Tree) → HasTree source s → HasTree source t → s ≡ t }
+{}
+
+/// The values of a tree stand in its source, its texts are the bytes between their places after escapes are undone, at
+/// most 64 brackets are open at a place, and the keys of a dictionary differ.
+pub fn trees_stand_in_their_sources()
+    ensures { (source : List ℕ) (t : Tree) (h : HasTree source t) → StandsInSource source t h }
 {}
