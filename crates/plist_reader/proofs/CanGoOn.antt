@@ -88,7 +88,7 @@ completes-half nodes brackets phase at high x place bytes h =
 
 -- ---- values and signs
 
-completes-value : (nodes : List TreeNode) (brackets : List Open) (phase : Phase) (place : ℕ) → IsAwaiting phase → Completes (ready nodes brackets phase) place
+pub completes-value : (nodes : List TreeNode) (brackets : List Open) (phase : Phase) (place : ℕ) → IsAwaiting phase → Completes (ready nodes brackets phase) place
 completes-value nodes brackets phase place a = completes-step _ _ place 60 (step-angle_begun nodes brackets phase place a) (completes-bytes nodes brackets phase place (place + 1) [])
 
 completes-sign : (nodes : List TreeNode) (brackets : List Open) (place : ℕ) → Completes (ready nodes brackets KeyEnd) place
@@ -120,7 +120,7 @@ completes-ready nodes brackets (End n) place g = record { rest = []; tree = reco
 -- ---- a key that is longer than all others
 
 -- how long the keys are together
-abbrev reach : List (List ℕ) → ℕ
+abbrev pub reach : List (List ℕ) → ℕ
 reach [] = 0
 reach (k ∷ ks) = length k + reach ks
 
@@ -133,7 +133,7 @@ longer-apart (x ∷ text) (y ∷ key) h = at_head (nat_eq x y) (longer-apart tex
     at_head true e = e
     at_head false e = refl
 
-longer-new : (text : List ℕ) (keys : List (List ℕ)) → reach keys < length text → is_among text keys ≡ false
+pub longer-new : (text : List ℕ) (keys : List (List ℕ)) → reach keys < length text → is_among text keys ≡ false
 longer-new text [] h = refl
 longer-new text (k ∷ ks) h = neither (pointwise nat_eq text k) (is_among text ks) (longer-apart text k (omega (arith, h))) (longer-new text ks (omega (arith, h)))
   where

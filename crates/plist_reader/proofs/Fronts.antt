@@ -73,7 +73,7 @@ settled-in nodes brackets number front = between-in (settled nodes brackets numb
 
 -- ---- one more character
 
-all-append : (P : ℕ → Type 0) (xs ys : List ℕ) → AllByRecursion P xs → AllByRecursion P ys → AllByRecursion P (xs ++ ys)
+pub all-append : (P : ℕ → Type 0) (xs ys : List ℕ) → AllByRecursion P xs → AllByRecursion P ys → AllByRecursion P (xs ++ ys)
 all-append P [] ys h k = k
 all-append P (x ∷ xs) ys h k = (h.0, all-append P xs ys h.1 k)
 

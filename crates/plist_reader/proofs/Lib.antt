@@ -22,5 +22,7 @@ pub mod Texts
 pub mod InEscapes
 pub mod Keyed
 pub mod Twices
+pub mod Starts
+pub mod TwiceRefused
 pub mod RefusalLemmas
 pub mod SourceLaws

@@ -22,7 +22,7 @@ use Rattle.plist_reader.specs.Refusals.{open_at}
 use Rattle.plist_reader.specs.Sources.{SaysText, StandsIn, KeysDiffer, KeysDifferIn, KeysDifferFrom, StandsInSource}
 use Rattle.plist_reader.specs.Reading.{start, run}
 use Rattle.plist_reader.proofs.RunLemmas.{read_of-text}
-use Rattle.plist_reader.proofs.GivenTokens.{settled, width-append}
+use Rattle.plist_reader.proofs.GivenTokens.{settled, width-append, width-long}
 use Rattle.plist_reader.proofs.GivenTexts.{given}
 use Rattle.plist_reader.proofs.Moves.{TextEnds, as_value, as_key, Moves, space_between, string_begins, word_begins, bytes_begin, list_begins, dictionary_begins, comma, equals, semicolon, list_ends, dictionary_ends, word_more, word_ends, string_more, string_ends, escape_begins, escape_more, escape_ends, space_in_bytes, first_digit, space_in_half, second_digit, bytes_end, Closes, closes_between, closes_word, closes}
 use Rattle.plist_reader.proofs.Fronts.{WordIn, StringIn, TokenIn, ends-between}
@@ -114,10 +114,6 @@ stand-value front nodes n brackets h k = subst (λ (x : List TreeNode). Stand fr
 stand-ended : (front : List ℕ) (nodes : List TreeNode) (brackets : List Open) (phase : Phase) (at end : ℕ) (text : List ℕ) (u : Reader) → TextEnds nodes brackets phase at end text u → Stand front nodes → StandsIn front (node at end (tree.Text text)) → Stand front u.nodes
 stand-ended front nodes _ _ _ _ _ _ (as_value brackets phase at end text a) h k = stand-value front nodes (node at end (tree.Text text)) brackets h k
 stand-ended front nodes _ _ _ _ _ _ (as_key d outer at end text e) h k = All-push (StandsIn front) nodes (node at end (tree.Text text)) h k
-
-width-long : (cs : List ℕ) → length cs ≤ width cs
-width-long [] = omega arith
-width-long (c ∷ cs) = omega (arith, width-long cs, len_utf8_bounds c)
 
 stands-word : (front text : List ℕ) (at : ℕ) → WordIn front at text → StandsIn front (node at (width front) (tree.Text text))
 stands-word front text at i =
