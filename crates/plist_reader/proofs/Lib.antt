@@ -26,3 +26,4 @@ pub mod Starts
 pub mod TwiceRefused
 pub mod RefusalLemmas
 pub mod SourceLaws
+pub mod OneAnswer

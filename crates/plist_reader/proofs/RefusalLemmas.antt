@@ -48,7 +48,7 @@ if_err-bind : {A B : Type 0} (P : Refusal → Type 0) (d : Result A Refusal) (f 
 if_err-bind P (Ok x) f h k = k x
 if_err-bind P (Err e) f h k = h
 
-at_err : {A : Type 0} (P : Refusal → Type 0) (d : Result A Refusal) (e : Refusal) → d ≡ Err e → IfErr d P → P e
+pub at_err : {A : Type 0} (P : Refusal → Type 0) (d : Result A Refusal) (e : Refusal) → d ≡ Err e → IfErr d P → P e
 at_err {A} P d e h k = let Q : Result A Refusal → Type 0 = λ x. IfErr x P in subst Q h k
 
 -- a good reader agrees with what is open
@@ -227,7 +227,7 @@ explain-twice front nodes d outer token at c text before part whole h x t y z pa
       behind = g.behind;
     })
 
-explain : (front : List ℕ) (r : Reader) (c : ℕ) (e : Refusal) → Reached front r → step r (width front) c ≡ Err e → Fails (width front) c r e → IsExplained front c e
+pub explain : (front : List ℕ) (r : Reader) (c : ℕ) (e : Refusal) → Reached front r → step r (width front) c ≡ Err e → Fails (width front) c r e → IsExplained front c e
 explain front _ c e h x (between_fails nodes brackets phase _ s) =
     let r = ready nodes brackets phase in
     explain-stop front r r c e h x refl (λ k. (let t = ready-finishes nodes brackets phase (width front) k in finishes-whole front r t.0 h t.1)) (λ w. whole-says front r h w) s
@@ -295,7 +295,7 @@ finish_in-end r place (Escape at backslash escape) g = refl
 finish_in-end r place (Bytes at) g = refl
 finish_in-end r place (Half at high) g = refl
 
-finish-end : (r : Reader) (place : ℕ) → Good r → IfErr (finish r place) (IsEnd place)
+pub finish-end : (r : Reader) (place : ℕ) → Good r → IfErr (finish r place) (IsEnd place)
 unfolding finish
 finish-end r place g = finish_in-end r place r.token (agrees_in r.token r g)
 

@@ -91,7 +91,7 @@ step-known_string : (nodes : List TreeNode) (d : Dictionary) (outer : List Open)
 unfolding step in_quoted text_ended key_ended
 step-known_string nodes d outer at place text k = rw k refl
 
-err-run : (r : Reader) (place c : ℕ) (cs : List ℕ) (e : Refusal) → step r place c ≡ Err e → run r place (c ∷ cs) ≡ Err e
+pub err-run : (r : Reader) (place c : ℕ) (cs : List ℕ) (e : Refusal) → step r place c ≡ Err e → run r place (c ∷ cs) ≡ Err e
 err-run r place c cs e s = ap (λ d. d >>= (λ u. run u (place + len_utf8 c) cs)) s
 
 -- a known key that ends

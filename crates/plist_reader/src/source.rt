@@ -1,8 +1,9 @@
-ghost use Rattle.std.specs.Prelude.{◌≡◌, ◌≤◌, length, IfOk, IfErr, Ok, List, ℕ};
+ghost use Rattle.std.specs.Prelude.{◌≡◌, ◌≤◌, length, ◌⊎◌, IfOk, IfErr, Ok, Err, List, ℕ};
 ghost use Rattle.refusal_codes.specs.Gives.{Gives};
 ghost use Rattle.plist_reader.specs.Tree.{IsTree, source_limit};
 ghost use Rattle.plist_reader.specs.Grammar.{HasTree};
-ghost use Rattle.plist_reader.specs.Refusals.{IsErrorOf};
+ghost use Rattle.plist_reader.specs.Refusals.{IsErrorOf, IsRefusal};
+ghost use Rattle.refusal_codes.specs.declared.refusal.Refusal.{Refusal};
 ghost use Rattle.plist_reader.specs.Sources.{StandsInSource};
 ghost use Rattle.plist_reader.specs.declared.tree.Tree.{Tree};
 ghost use Rattle.plist_reader.specs.Reading.{refusal, read_of, run, start};
@@ -21,6 +22,8 @@ pub fn read(alloc: Global, source: &[u8]) -> Result<Tree, ReadError>
     requires { length source.now ≤ source_limit }
     // A refusal names the end of the longest front with which some text with a tree begins.
     ensures refused { IfErr result (IsErrorOf source.now) }
+    // What is a refusal of the source is the refusal, unless memory runs out.
+    ensures refusals { (r : Refusal) → IsRefusal source.now r → Gives (λ t. t) result (Err r) }
     // What it answers is what its definition computes.
     ensures exact { Gives (λ t. t) result (read_of source.now) }
     // What is read is spelled so by the grammar.
@@ -52,6 +55,14 @@ fn read_text(alloc: Global, text: &str) -> Result<Tree, ReadError>
 /// A text has at most one tree.
 pub fn trees_are_unique()
     ensures { (source : List ℕ) (s t : Tree) → HasTree source s → HasTree source t → s ≡ t }
+{}
+
+/// A source has a tree or a refusal, not both, and no two refusals; and the definition that `read` computes by gives it.
+pub fn sources_have_one_answer()
+    ensures either { (source : List ℕ) → ((t : Tree) × HasTree source t) ⊎ ((r : Refusal) × IsRefusal source r) }
+    ensures not_both { (source : List ℕ) (t : Tree) (r : Refusal) → HasTree source t → ¬ (IsRefusal source r) }
+    ensures one { (source : List ℕ) (r s : Refusal) → IsRefusal source r → IsRefusal source s → r ≡ s }
+    ensures computed { (source : List ℕ) (r : Refusal) → IsRefusal source r → read_of source ≡ Err r }
 {}
 
 /// The values of a tree stand in its source, its texts are the bytes between their places after escapes are undone, at
