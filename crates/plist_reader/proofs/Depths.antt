@@ -139,7 +139,7 @@ moves-placed place c q _ _ l (space_in_bytes nodes brackets phase at bytes) h = 
 moves-placed place c q _ _ l (first_digit nodes brackets phase at x bytes e) h = token-placed nodes brackets phase _ _ [] [] bytes bytes place q (omega arith) h
 moves-placed place c q _ _ l (space_in_half nodes brackets phase at high bytes) h = token-placed nodes brackets phase _ _ [] [] bytes bytes place q (omega arith) h
 moves-placed place c q _ _ l (second_digit nodes brackets phase at high byte bytes) h = token-placed nodes brackets phase _ _ [] [] bytes _ place q (omega arith) h
-moves-placed place c q _ _ l (bytes_end nodes brackets phase at bytes) h =
+moves-placed place c q _ _ l (bytes_end nodes brackets phase at bytes a) h =
     settled-placed (nodes ++ node at (place + 1) (tree.Bytes bytes) ∷ []) brackets (length nodes) q (ended-push place q nodes (node at (place + 1) (tree.Bytes bytes)) (omega arith) (omega arith) h.nodes) (In-later place q brackets (omega arith) h.brackets) h.shallow
 
 start-placed : Placed start 0
@@ -205,7 +205,7 @@ moves-count p place c _ _ l (space_in_bytes nodes brackets phase at bytes) = ref
 moves-count p place c _ _ l (first_digit nodes brackets phase at x bytes e) = refl
 moves-count p place c _ _ l (space_in_half nodes brackets phase at high bytes) = refl
 moves-count p place c _ _ l (second_digit nodes brackets phase at high byte bytes) = refl
-moves-count p place c _ _ l (bytes_end nodes brackets phase at bytes) = token-count p nodes (node at (place + 1) (tree.Bytes bytes)) brackets refl
+moves-count p place c _ _ l (bytes_end nodes brackets phase at bytes a) = token-count p nodes (node at (place + 1) (tree.Bytes bytes)) brackets refl
 
 pub closes-count : (p place : ℕ) (r : Reader) (t : Tree) → Closes place r t → (is_end r.phase ≡ true → r.brackets ≡ []) → open_at p t.nodes ≡ Count p r
 closes-count p place _ _ (closes_between nodes brackets number) o = let none : before p brackets ≡ 0 = ap (λ b. before p b) (o refl) in omega (arith, none)

@@ -190,4 +190,4 @@ moves-token front place c _ _ e (space_in_bytes nodes brackets phase at bytes) k
 moves-token front place c _ _ e (first_digit nodes brackets phase at x bytes h) k = (still_wider front c at k, x, h)
 moves-token front place c _ _ e (space_in_half nodes brackets phase at high bytes) k = (still_wider front c at k.0, k.1, k.2)
 moves-token front place c _ _ e (second_digit nodes brackets phase at high byte bytes) k = still_wider front c at k.0
-moves-token front place c _ _ e (bytes_end nodes brackets phase at bytes) k = settled-in (nodes ++ node at (place + 1) (tree.Bytes bytes) ∷ []) brackets (length nodes) (front ++ c ∷ [])
+moves-token front place c _ _ e (bytes_end nodes brackets phase at bytes a) k = settled-in (nodes ++ node at (place + 1) (tree.Bytes bytes) ∷ []) brackets (length nodes) (front ++ c ∷ [])

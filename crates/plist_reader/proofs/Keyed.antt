@@ -33,7 +33,7 @@ is_text_of nodes key n = spells key (option_and_then (λ node. text_of node.valu
 abbrev pub has_key : List TreeNode → List ℕ → List (ℕ × ℕ) → Bool
 has_key nodes key pairs = list_any (λ pair. is_text_of nodes key pair.0) pairs
 
-slice_get-more : (nodes more : List TreeNode) (n : ℕ) (x : TreeNode) → slice_get nodes n ≡ Some x → slice_get (nodes ++ more) n ≡ Some x
+pub slice_get-more : (nodes more : List TreeNode) (n : ℕ) (x : TreeNode) → slice_get nodes n ≡ Some x → slice_get (nodes ++ more) n ≡ Some x
 slice_get-more [] more n x e = cc
 slice_get-more (y ∷ nodes) more zero x e = e
 slice_get-more (y ∷ nodes) more (suc n) x e = slice_get-more nodes more n x e
@@ -64,7 +64,7 @@ has_key-left nodes key xs ys h = list_any-append (λ pair. is_text_of nodes key 
 has_key-right : (nodes : List TreeNode) (key : List ℕ) (xs ys : List (ℕ × ℕ)) → has_key nodes key ys ≡ true → has_key nodes key (xs ++ ys) ≡ true
 has_key-right nodes key xs ys h = list_any-append (λ pair. is_text_of nodes key pair.0) xs ys ∙ either_true (has_key nodes key xs) (has_key nodes key ys) (inr h)
 
-same_bytes : (text : List ℕ) → pointwise nat_eq text text ≡ true
+pub same_bytes : (text : List ℕ) → pointwise nat_eq text text ≡ true
 same_bytes [] = refl
 same_bytes (x ∷ text) = rw (eq-eqb x x refl) (same_bytes text)
 
@@ -179,7 +179,7 @@ moves-keyed place c _ _ (space_in_bytes nodes brackets phase at bytes) h = h
 moves-keyed place c _ _ (first_digit nodes brackets phase at x bytes e) h = token-keyed nodes brackets phase _ _ [] [] bytes bytes h
 moves-keyed place c _ _ (space_in_half nodes brackets phase at high bytes) h = h
 moves-keyed place c _ _ (second_digit nodes brackets phase at high byte bytes) h = token-keyed nodes brackets phase _ _ [] [] bytes _ h
-moves-keyed place c _ _ (bytes_end nodes brackets phase at bytes) h = value-keyed nodes (node at (place + 1) (tree.Bytes bytes)) brackets h.open_keys
+moves-keyed place c _ _ (bytes_end nodes brackets phase at bytes a) h = value-keyed nodes (node at (place + 1) (tree.Bytes bytes)) brackets h.open_keys
 
 start-keyed : Keyed start
 unfolding start

@@ -25,5 +25,6 @@ pub mod Twices
 pub mod Starts
 pub mod TwiceRefused
 pub mod RefusalLemmas
+pub mod Dictionaries
 pub mod SourceLaws
 pub mod OneAnswer

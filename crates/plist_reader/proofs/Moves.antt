@@ -60,7 +60,7 @@ pub data Moves (place c : ℕ) : Reader → Reader → Type 0 where
   first_digit : (nodes : List TreeNode) (brackets : List Open) (phase : Phase) (at x : ℕ) (bytes : List ℕ) → hex_value c ≡ Some x → Moves place c (in_token nodes brackets phase (Bytes at) [] bytes) (in_token nodes brackets phase (Half at c) [] bytes)
   space_in_half : (nodes : List TreeNode) (brackets : List Open) (phase : Phase) (at high : ℕ) (bytes : List ℕ) → Moves place c (in_token nodes brackets phase (Half at high) [] bytes) (in_token nodes brackets phase (Half at high) [] bytes)
   second_digit : (nodes : List TreeNode) (brackets : List Open) (phase : Phase) (at high byte : ℕ) (bytes : List ℕ) → Moves place c (in_token nodes brackets phase (Half at high) [] bytes) (in_token nodes brackets phase (Bytes at) [] (bytes ++ byte ∷ []))
-  bytes_end : (nodes : List TreeNode) (brackets : List Open) (phase : Phase) (at : ℕ) (bytes : List ℕ) → Moves place c (in_token nodes brackets phase (Bytes at) [] bytes) (settled (nodes ++ node at (place + 1) (tree.Bytes bytes) ∷ []) brackets (length nodes))
+  bytes_end : (nodes : List TreeNode) (brackets : List Open) (phase : Phase) (at : ℕ) (bytes : List ℕ) → IsAwaiting phase → Moves place c (in_token nodes brackets phase (Bytes at) [] bytes) (settled (nodes ++ node at (place + 1) (tree.Bytes bytes) ∷ []) brackets (length nodes))
 
 -- ---- texts that end
 
@@ -175,13 +175,13 @@ moves-after_escape nodes brackets phase at backslash place c text escape (More n
 moves-after_escape nodes brackets phase at backslash place c text escape (Whole character) e b = escape_ends nodes brackets phase at backslash text escape character b e
 moves-after_escape nodes brackets phase at backslash place c text escape Wrong e b = tt
 
-moves-in_bytes : (nodes : List TreeNode) (brackets : List Open) (phase : Phase) (at place c : ℕ) (bytes : List ℕ) → IfOk (in_bytes (in_token nodes brackets phase (Bytes at) [] bytes) at place c) (Moves place c (in_token nodes brackets phase (Bytes at) [] bytes))
+moves-in_bytes : (nodes : List TreeNode) (brackets : List Open) (phase : Phase) (at place c : ℕ) (bytes : List ℕ) → IsAwaiting phase → IfOk (in_bytes (in_token nodes brackets phase (Bytes at) [] bytes) at place c) (Moves place c (in_token nodes brackets phase (Bytes at) [] bytes))
 unfolding in_bytes value_ended
-moves-in_bytes nodes brackets phase at place c bytes =
+moves-in_bytes nodes brackets phase at place c bytes a =
     let M : Reader → Type 0 = λ s. Moves place c (in_token nodes brackets phase (Bytes at) [] bytes) s in
     if_ok-known M (is_space c) _ _ (λ _. space_in_bytes nodes brackets phase at bytes)
     (λ _. if_ok-known M (eqb c 62) _ _
-    (λ _. subst M (sym (settled_any (nodes ++ node at (place + 1) (tree.Bytes bytes) ∷ []) brackets brackets phase (length nodes))) (bytes_end nodes brackets phase at bytes))
+    (λ _. subst M (sym (settled_any (nodes ++ node at (place + 1) (tree.Bytes bytes) ∷ []) brackets brackets phase (length nodes))) (bytes_end nodes brackets phase at bytes a))
     (λ _. digit (hex_value c) refl))
   where
     digit : (o : Option ℕ) → hex_value c ≡ o → IfOk (after_hex (in_token nodes brackets phase (Bytes at) [] bytes) at place c o) (Moves place c (in_token nodes brackets phase (Bytes at) [] bytes))
@@ -210,7 +210,7 @@ moves-step_in nodes brackets phase (Word at) text bytes place c g = subst (λ (y
 moves-step_in nodes brackets phase (Quoted at) text bytes place c g = subst (λ (y : List ℕ). MovesOn nodes brackets phase (Quoted at) place c text y) (sym g.2) (moves-in_quoted nodes brackets phase at place c text g.1 g.0)
 moves-step_in nodes brackets phase (Escape at backslash escape) text bytes place c g =
     subst (λ (y : List ℕ). MovesOn nodes brackets phase (Escape at backslash escape) place c text y) (sym g.2) (moves-after_escape nodes brackets phase at backslash place c text escape (escape_next escape c) refl g.1)
-moves-step_in nodes brackets phase (Bytes at) text bytes place c g = subst (λ (x : List ℕ). MovesOn nodes brackets phase (Bytes at) place c x bytes) (sym g.2) (moves-in_bytes nodes brackets phase at place c bytes)
+moves-step_in nodes brackets phase (Bytes at) text bytes place c g = subst (λ (x : List ℕ). MovesOn nodes brackets phase (Bytes at) place c x bytes) (sym g.2) (moves-in_bytes nodes brackets phase at place c bytes g.1)
 moves-step_in nodes brackets phase (Half at high) text bytes place c g = subst (λ (x : List ℕ). MovesOn nodes brackets phase (Half at high) place c x bytes) (sym g.2) (moves-in_half nodes brackets phase at high place c bytes)
 
 pub moves : (r : Reader) (place c : ℕ) → Good r → IfOk (step r place c) (Moves place c r)

@@ -16,10 +16,9 @@ use Rattle.plist_reader.specs.declared.reader.Phase.{Phase}
 use Rattle.plist_reader.specs.declared.reader.Token.{Token}
 use Rattle.plist_reader.specs.declared.reader.Open.{Open}
 use Rattle.plist_reader.specs.declared.reader.Open.TheVariants.{Items, Pairs}
-use Rattle.plist_reader.specs.Grammar as grammar
-use Rattle.plist_reader.specs.Grammar.{node, width, IsText, IsTail, AreNone, Spells, SpellItems, SpellEntries, HasTree}
+use Rattle.plist_reader.specs.Grammar.{node, width, HasTree}
 use Rattle.plist_reader.specs.Refusals.{open_at}
-use Rattle.plist_reader.specs.Sources.{SaysText, StandsIn, KeysDiffer, KeysDifferIn, KeysDifferFrom, StandsInSource}
+use Rattle.plist_reader.specs.Sources.{SaysText, StandsIn, StandsInSource}
 use Rattle.plist_reader.specs.Reading.{start, run}
 use Rattle.plist_reader.proofs.RunLemmas.{read_of-text}
 use Rattle.plist_reader.proofs.GivenTokens.{settled, width-append, width-long}
@@ -29,6 +28,7 @@ use Rattle.plist_reader.proofs.Fronts.{WordIn, StringIn, TokenIn, ends-between}
 use Rattle.plist_reader.proofs.Reached.{Reached, at_start, onward, at_ok, reached-good, reached-moves, reached-token, reached-run, width-push}
 use Rattle.plist_reader.proofs.Depths.{at_of, In, before, Placed, Count, moves-placed, moves-count, closes-count, reached-placed, runs-keep}
 use Rattle.plist_reader.proofs.InEscapes.{reached-part}
+use Rattle.plist_reader.proofs.Dictionaries.{tree-dictionaries}
 
 -- ---- the depth
 
@@ -55,35 +55,6 @@ tree-few cs t p e = runs-keep (λ u. Count p u ≤ 64) (λ x. open_at p x.nodes 
     (λ f r s c l h m j. few-kept p (width f) c r s m (reached-placed f r h) j)
     (λ f r x h k j. omega (arith, closes-count p (width f) r x k (reached-placed f r h).outside, j))
     cs [] start t (omega arith) at_start e (start-few p)
-
--- ---- keys
-
-mutual
-  keys-value : (v : grammar.Value) (depth place : ℕ) (cs : List ℕ) → Spells v depth place cs → KeysDiffer v
-  keys-value (grammar.Text at end bytes) depth place cs s = tt
-  keys-value (grammar.Bytes at end bytes) depth place cs s = tt
-  keys-value (grammar.Items at end items) depth place cs s = keys-items items (depth + 1) (place + 1) s.3 s.5
-  keys-value (grammar.Pairs at end entries) depth place cs s = keys-entries entries (depth + 1) [] (place + 1) s.3 s.5
-
-  keys-items : (vs : grammar.Values) (depth place : ℕ) (cs : List ℕ) → SpellItems vs depth place cs → KeysDifferIn vs
-  keys-items grammar.NoValues depth place cs s = tt
-  keys-items (grammar.AndValue v vs) depth place cs s = (
-    keys-value v depth (place + width s.gap) s.text s.spelled,
-    elim s.followed [
-      | inl e ↦ keys-none vs e.0
-      | inr e ↦ keys-items vs depth (place + width s.gap + width s.text + width s.after + 1) e.0 e.2
-    ],
-  )
-
-  keys-entries : (es : grammar.Entries) (depth : ℕ) (keys : List (List ℕ)) (place : ℕ) (cs : List ℕ) → SpellEntries es depth keys place cs → KeysDifferFrom keys es
-  keys-entries grammar.NoEntries depth keys place cs s = tt
-  keys-entries (grammar.AndEntry at end key v es) depth keys place cs s =
-      let e = s.1 in
-      (s.0, keys-value v depth (end + width e.before_sign + 1 + width e.behind_sign) e.text e.spelled, keys-entries es depth (keys ++ key ∷ []) (end + width e.before_sign + 1 + width e.behind_sign + width e.text + width e.after + 1) e.rest e.followed)
-
-  keys-none : (vs : grammar.Values) → AreNone vs → KeysDifferIn vs
-  keys-none grammar.NoValues h = tt
-  keys-none (grammar.AndValue v vs) h = absurd h
 
 -- ---- values stand in the text
 
@@ -175,7 +146,7 @@ moves-stand front place c _ _ e (space_in_bytes nodes brackets phase at bytes) k
 moves-stand front place c _ _ e (first_digit nodes brackets phase at x bytes y) k b h = stand-later front (c ∷ []) nodes h
 moves-stand front place c _ _ e (space_in_half nodes brackets phase at high bytes) k b h = stand-later front (c ∷ []) nodes h
 moves-stand front place c _ _ e (second_digit nodes brackets phase at high byte bytes) k b h = stand-later front (c ∷ []) nodes h
-moves-stand front place c _ _ e (bytes_end nodes brackets phase at bytes) k b h =
+moves-stand front place c _ _ e (bytes_end nodes brackets phase at bytes a) k b h =
     stand-value (front ++ c ∷ []) nodes (node at (place + 1) (tree.Bytes bytes)) brackets (stand-later front (c ∷ []) nodes h) (at_place front c at (place + 1) (tree.Bytes bytes) (omega (arith, k)) (omega (arith, e)) (λ cs p q. tt))
 
 start-stand : Stand [] start.nodes
@@ -204,7 +175,7 @@ width-bytes : (cs : List ℕ) → width cs ≡ length (encode_utf8_all cs)
 width-bytes [] = refl
 width-bytes (c ∷ cs) = omega (arith, width-bytes cs, length-append (encode c) (encode_utf8_all cs), length-encode c)
 
-pub stands_in_source : (source : List ℕ) (t : Tree) (h : HasTree source t) → StandsInSource source t h
+pub stands_in_source : (source : List ℕ) (t : Tree) (h : HasTree source t) → StandsInSource source t
 stands_in_source source t h =
     let cs = chars source in
     let reads : run start 0 cs ≡ Ok t = sym (read_of-text source h.utf8) ∙ given source t h in
@@ -212,5 +183,5 @@ stands_in_source source t h =
       bytes = width-bytes cs ∙ ap length (encodes-chars source h.utf8);
       values = tree-stand cs t reads;
       depth = λ p. tree-few cs t p reads;
-      keys = keys-value h.value 0 (width h.spelled.gap) h.spelled.text h.spelled.spelled;
+      dictionaries = tree-dictionaries cs t reads;
     }

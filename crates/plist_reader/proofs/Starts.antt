@@ -78,7 +78,7 @@ moves-started front place c _ _ e (space_in_bytes nodes brackets phase at bytes)
 moves-started front place c _ _ e (first_digit nodes brackets phase at x bytes y) f h = tt
 moves-started front place c _ _ e (space_in_half nodes brackets phase at high bytes) f h = tt
 moves-started front place c _ _ e (second_digit nodes brackets phase at high byte bytes) f h = tt
-moves-started front place c _ _ e (bytes_end nodes brackets phase at bytes) f h = settled-started (nodes ++ node at (place + 1) (tree.Bytes bytes) ∷ []) brackets (length nodes) (front ++ c ∷ [])
+moves-started front place c _ _ e (bytes_end nodes brackets phase at bytes a) f h = settled-started (nodes ++ node at (place + 1) (tree.Bytes bytes) ∷ []) brackets (length nodes) (front ++ c ∷ [])
 
 start-started : StartOf start []
 unfolding start

@@ -111,7 +111,7 @@ moves-texts q place c _ _ (space_in_bytes nodes brackets phase at bytes) = inl r
 moves-texts q place c _ _ (first_digit nodes brackets phase at x bytes e) = inl refl
 moves-texts q place c _ _ (space_in_half nodes brackets phase at high bytes) = inl refl
 moves-texts q place c _ _ (second_digit nodes brackets phase at high byte bytes) = inl refl
-moves-texts q place c _ _ (bytes_end nodes brackets phase at bytes) = inl (other-texts q nodes (node at (place + 1) (tree.Bytes bytes)) brackets refl)
+moves-texts q place c _ _ (bytes_end nodes brackets phase at bytes a) = inl (other-texts q nodes (node at (place + 1) (tree.Bytes bytes)) brackets refl)
 
 -- at another place there are as many as before
 elsewhere-texts : (q place c : ℕ) (r s : Reader) → (place ≡ q → ⊥) → Moves place c r s → Texts q s ≡ Texts q r

@@ -1,13 +1,14 @@
 -- What holds of each tree of a source: where its values stand, which bytes its texts are, how many brackets are open at a
 -- place, and that the keys of a dictionary differ.
-use Rattle.std.specs.Prelude.{◌≡◌, ℕ, ◌+◌, ◌<◌, ◌≤◌, false, List, [], ◌∷◌, ◌++◌, length, All}
+use Rattle.std.specs.Prelude.{◌≡◌, ℕ, ◌+◌, ◌<◌, ◌≤◌, false, List, [], ◌∷◌, ◌++◌, length, map, Option, Some, option_and_then, slice_get, All}
 use Rattle.std.specs.Str.{chars}
 use Rattle.plist_reader.specs.declared.tree.Tree.{Tree}
 use Rattle.plist_reader.specs.declared.tree.TreeNode.{TreeNode}
 use Rattle.plist_reader.specs.declared.tree.TreeValue.{TreeValue}
 use Rattle.plist_reader.specs.declared.tree.TreeValue.TheVariants as tree
+use Rattle.plist_reader.specs.Tree.{text_of}
 use Rattle.plist_reader.specs.Keys.{is_among}
-use Rattle.plist_reader.specs.Grammar.{Value, Text, Bytes, Items, Pairs, Values, NoValues, AndValue, Entries, NoEntries, AndEntry, width, IsText, HasTree}
+use Rattle.plist_reader.specs.Grammar.{width, IsText}
 use Rattle.plist_reader.specs.Refusals.{open_at}
 
 -- between two places stands a word or a quoted string, which is these bytes after its escapes are undone
@@ -32,25 +33,30 @@ pub record StandsIn (cs : List ℕ) (node : TreeNode) : Type 0 where
   pub inside : node.end ≤ width cs
   pub says : SaysText cs node.place node.end node.value
 
--- the keys of each dictionary differ, and differ from these in the one that is open
-abbrev mutual
-  pub KeysDiffer : Value → Type 0
-  KeysDiffer (Text place end bytes) = Unit {0}
-  KeysDiffer (Bytes place end bytes) = Unit {0}
-  KeysDiffer (Items place end items) = KeysDifferIn items
-  KeysDiffer (Pairs place end entries) = KeysDifferFrom [] entries
+-- the bytes of the text with this number
+abbrev pub text_at : List TreeNode → ℕ → Option (List ℕ)
+text_at nodes n = option_and_then (λ node. text_of node.value) (slice_get nodes n)
 
-  pub KeysDifferIn : Values → Type 0
-  KeysDifferIn NoValues = Unit {0}
-  KeysDifferIn (AndValue v vs) = KeysDiffer v × KeysDifferIn vs
+-- each of these is none of those before it
+abbrev pub AreNew : List (List ℕ) → List (List ℕ) → Type 0
+AreNew before [] = Unit {0}
+AreNew before (key ∷ keys) = (is_among key before ≡ false) × AreNew (before ++ key ∷ []) keys
 
-  pub KeysDifferFrom : List (List ℕ) → Entries → Type 0
-  KeysDifferFrom keys NoEntries = Unit {0}
-  KeysDifferFrom keys (AndEntry place end key v entries) = (is_among key keys ≡ false) × KeysDiffer v × KeysDifferFrom (keys ++ key ∷ []) entries
+-- the keys of these pairs are texts, and differ
+pub record IsDictionary (nodes : List TreeNode) (pairs : List (ℕ × ℕ)) : Type 0 where
+  pub keys : List (List ℕ)
+  pub texts : map (λ pair. text_at nodes pair.0) pairs ≡ map (λ key. Some key) keys
+  pub differ : AreNew [] keys
+
+abbrev pub IsDictionaryIn : List TreeNode → TreeValue → Type 0
+IsDictionaryIn nodes (tree.Text bytes) = Unit {0}
+IsDictionaryIn nodes (tree.Bytes bytes) = Unit {0}
+IsDictionaryIn nodes (tree.Items items) = Unit {0}
+IsDictionaryIn nodes (tree.Pairs pairs) = IsDictionary nodes pairs
 
 -- what holds of each tree of a source
-pub record StandsInSource (source : List ℕ) (t : Tree) (h : HasTree source t) : Type 0 where
+pub record StandsInSource (source : List ℕ) (t : Tree) : Type 0 where
   pub bytes : width (chars source) ≡ length source
   pub values : All (StandsIn (chars source)) t.nodes
   pub depth : (place : ℕ) → open_at place t.nodes ≤ 64
-  pub keys : KeysDiffer h.value
+  pub dictionaries : All (λ node. IsDictionaryIn t.nodes node.value) t.nodes

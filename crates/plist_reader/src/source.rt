@@ -68,5 +68,5 @@ pub fn sources_have_one_answer()
 /// The values of a tree stand in its source, its texts are the bytes between their places after escapes are undone, at
 /// most 64 brackets are open at a place, and the keys of a dictionary differ.
 pub fn trees_stand_in_their_sources()
-    ensures { (source : List ℕ) (t : Tree) (h : HasTree source t) → StandsInSource source t h }
+    ensures { (source : List ℕ) (t : Tree) → HasTree source t → StandsInSource source t }
 {}
