@@ -9,7 +9,10 @@ mod source;
 mod stack;
 mod tree;
 
-pub use source::{read, sources_have_one_answer, trees_are_unique, trees_stand_in_their_sources};
+pub use source::{
+    read, shorter_fronts_go_on, sources_have_one_answer, trees_are_unique,
+    trees_stand_in_their_sources,
+};
 pub use tree::{Tree, TreeNode, TreeValue};
 
 #[cfg(test)]

@@ -1,8 +1,8 @@
-ghost use Rattle.std.specs.Prelude.{◌≡◌, ◌≤◌, length, ◌⊎◌, IfOk, IfErr, Ok, Err, List, ℕ};
+ghost use Rattle.std.specs.Prelude.{◌++◌, ◌≡◌, ◌≤◌, length, ◌⊎◌, IfOk, IfErr, Ok, Err, List, ℕ};
 ghost use Rattle.refusal_codes.specs.Gives.{Gives};
 ghost use Rattle.plist_reader.specs.Tree.{IsTree, source_limit};
 ghost use Rattle.plist_reader.specs.Grammar.{HasTree};
-ghost use Rattle.plist_reader.specs.Refusals.{IsErrorOf, IsRefusal};
+ghost use Rattle.plist_reader.specs.Refusals.{CanGoOn, IsErrorOf, IsRefusal};
 ghost use Rattle.refusal_codes.specs.declared.refusal.Refusal.{Refusal};
 ghost use Rattle.plist_reader.specs.Sources.{StandsInSource};
 ghost use Rattle.plist_reader.specs.declared.tree.Tree.{Tree};
@@ -63,6 +63,12 @@ pub fn sources_have_one_answer()
     ensures not_both { (source : List ℕ) (t : Tree) (r : Refusal) → HasTree source t → ¬ (IsRefusal source r) }
     ensures one { (source : List ℕ) (r s : Refusal) → IsRefusal source r → IsRefusal source s → r ≡ s }
     ensures computed { (source : List ℕ) (r : Refusal) → IsRefusal source r → read_of source ≡ Err r }
+{}
+
+/// Some text with a tree begins as a front does if one begins as a longer front does: so the longest such front of a text
+/// ends where none begins with one character more.
+pub fn shorter_fronts_go_on()
+    ensures { (front more : List ℕ) → CanGoOn (front ++ more) → CanGoOn front }
 {}
 
 /// The values of a tree stand in its source, its texts are the bytes between their places after escapes are undone, at
