@@ -84,14 +84,17 @@ refused source e (inl (n, q)) = let E : Refusal → Result Tree Refusal = λ y. 
 refused source e (inr (u, k)) = read_of-text source u ∙ ap (λ x. run start 0 x) k.parts ∙ reason-so k.front k.rest e k.reason
 
 -- what is read is a tree or a refusal of the source
-refusal-of : (source : List ℕ) (e : Refusal) → read_of source ≡ Err e → IsRefusal source e
+pub refusal-of : (source : List ℕ) (e : Refusal) → read_of source ≡ Err e → IsRefusal source e
 refusal-of source e q = elim (cases_Bool (is_utf8 source)) [
   | inl b ↦ (let u = IsUtf8-from_is_utf8 source b in inr (u, run-refused (chars source) e (sym (read_of-text source u) ∙ q)))
   | inr b ↦ (let n : ¬ (IsUtf8 source) = λ u. both_ways (is_utf8 source) b (is_utf8-from_IsUtf8 source u) in inl (n, same_error e _ (read_of source) q (read_of-bad source n)))
 ]
 
+pub tree-of : (source : List ℕ) (t : Tree) → read_of source ≡ Ok t → HasTree source t
+tree-of source t q = at_ok (HasTree source) (read_of source) t q (read_of-spelled source)
+
 pub answer-of : (source : List ℕ) (d : Result Tree Refusal) → read_of source ≡ d → ((t : Tree) × HasTree source t) ⊎ ((e : Refusal) × IsRefusal source e)
-answer-of source (Ok t) q = inl (t, at_ok (HasTree source) (read_of source) t q (read_of-spelled source))
+answer-of source (Ok t) q = inl (t, tree-of source t q)
 answer-of source (Err e) q = inr (e, refusal-of source e q)
 
 pub refusals-same : (source : List ℕ) (e f : Refusal) → IsRefusal source e → IsRefusal source f → e ≡ f

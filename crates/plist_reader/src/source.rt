@@ -57,12 +57,15 @@ pub fn trees_are_unique()
     ensures { (source : List ℕ) (s t : Tree) → HasTree source s → HasTree source t → s ≡ t }
 {}
 
-/// A source has a tree or a refusal, not both, and no two refusals; and the definition that `read` computes by gives it.
+/// A source has a tree or a refusal, not both, and no two refusals. Both are what the definition computes.
 pub fn sources_have_one_answer()
     ensures either { (source : List ℕ) → ((t : Tree) × HasTree source t) ⊎ ((r : Refusal) × IsRefusal source r) }
     ensures not_both { (source : List ℕ) (t : Tree) (r : Refusal) → HasTree source t → ¬ (IsRefusal source r) }
     ensures one { (source : List ℕ) (r s : Refusal) → IsRefusal source r → IsRefusal source s → r ≡ s }
-    ensures computed { (source : List ℕ) (r : Refusal) → IsRefusal source r → read_of source ≡ Err r }
+    ensures tree_computed { (source : List ℕ) (t : Tree) → HasTree source t → read_of source ≡ Ok t }
+    ensures tree_of_computed { (source : List ℕ) (t : Tree) → read_of source ≡ Ok t → HasTree source t }
+    ensures refusal_computed { (source : List ℕ) (r : Refusal) → IsRefusal source r → read_of source ≡ Err r }
+    ensures refusal_of_computed { (source : List ℕ) (r : Refusal) → read_of source ≡ Err r → IsRefusal source r }
 {}
 
 /// Some text with a tree begins as a front does if one begins as a longer front does: so the longest such front of a text
