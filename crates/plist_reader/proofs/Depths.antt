@@ -10,14 +10,14 @@ use Rattle.plist_reader.specs.declared.tree.TreeNode.{TreeNode}
 use Rattle.plist_reader.specs.declared.tree.TreeValue.TheVariants as tree
 use Rattle.plist_reader.specs.declared.reader.Reader.{Reader}
 use Rattle.plist_reader.specs.declared.reader.Phase.{Phase}
-use Rattle.plist_reader.specs.declared.reader.Phase.TheVariants.{Value, Item, ItemEnd, Key, KeyEnd, PairEnd, End}
+use Rattle.plist_reader.specs.declared.reader.Phase.TheVariants.{Value, Item, ItemEnd, Key, KeyEnd, PairEnd}
 use Rattle.plist_reader.specs.declared.reader.Token.{Token}
 use Rattle.plist_reader.specs.declared.reader.Open.{Open}
 use Rattle.plist_reader.specs.declared.reader.Open.TheVariants.{Items, Pairs}
 use Rattle.plist_reader.specs.Grammar.{node, width, tree_of}
 use Rattle.plist_reader.specs.Refusals.{is_container, is_open_at, open_at, IsDeep}
 use Rattle.plist_reader.specs.Reading.{◌>>=◌, is_end, start, step, finish, run}
-use Rattle.plist_reader.proofs.GivenTokens.{ready, in_token, settled, run_same, CanBegin}
+use Rattle.plist_reader.proofs.GivenTokens.{ready, in_token, settled, run_same}
 use Rattle.plist_reader.proofs.Moves.{TextEnds, as_value, as_key, Moves, space_between, string_begins, word_begins, bytes_begin, list_begins, dictionary_begins, comma, equals, semicolon, list_ends, dictionary_ends, word_more, word_ends, string_more, string_ends, escape_begins, escape_more, escape_ends, space_in_bytes, first_digit, space_in_half, second_digit, bytes_end, Closes, closes_between, closes_word, closes}
 use Rattle.plist_reader.proofs.Reached.{Reached, at_start, onward, at_ok, reached-good, reached-moves, reached-tree, width-push}
 use Rattle.plist_reader.proofs.GivenTexts.{opened}
@@ -78,15 +78,6 @@ ended-later p q nodes l h k m = h k (omega arith)
 
 no_way : (brackets : List Open) → false ≡ true → brackets ≡ []
 no_way brackets e = absurd (false≢true e)
-
-begin-no_end : (phase : Phase) → CanBegin phase → is_end phase ≡ true → ⊥
-begin-no_end Value b e = false≢true e
-begin-no_end Item b e = false≢true e
-begin-no_end Key b e = false≢true e
-begin-no_end ItemEnd b e = b
-begin-no_end KeyEnd b e = b
-begin-no_end PairEnd b e = b
-begin-no_end (End n) b e = b
 
 -- another token, with the same values and brackets
 token-placed : (nodes : List TreeNode) (brackets : List Open) (phase : Phase) (t u : Token) (text more bytes made : List ℕ) (p q : ℕ) → p ≤ q → Placed (in_token nodes brackets phase t text bytes) p → Placed (in_token nodes brackets phase u more made) q

@@ -26,5 +26,6 @@ pub mod Starts
 pub mod TwiceRefused
 pub mod RefusalLemmas
 pub mod Dictionaries
+pub mod Beyond
 pub mod SourceLaws
 pub mod OneAnswer

@@ -22,7 +22,7 @@ use Rattle.plist_reader.specs.Reading.{refusal, ◌>>=◌, start, key_ended, tex
 use Rattle.plist_reader.proofs.RunLemmas.{run_step}
 use Rattle.plist_reader.proofs.GivenTokens.{ready, in_token, settled, run-word, CanBegin, IsAwaiting}
 use Rattle.plist_reader.proofs.GivenStrings.{step-quote_begun, run-quoted, run-text}
-use Rattle.plist_reader.proofs.GivenTexts.{Marked, stops-marked, run-key, run-text_of, step-equals}
+use Rattle.plist_reader.proofs.GivenTexts.{stops-marked, run-key, run-text_of, step-equals}
 use Rattle.plist_reader.proofs.SpelledSteps.{Agrees}
 use Rattle.plist_reader.proofs.CanGoOn.{reach, longer-new, completes-value}
 use Rattle.plist_reader.proofs.Reached.{Reached, at_start, reached-good, reached-goes_on, reached-run, reached-tree, spelled-ok, err_not_ok}
@@ -126,9 +126,6 @@ unfolding step between is_space
 settled-no_sign nodes [] number place = (_, refl)
 settled-no_sign nodes (Items at done ∷ outer) number place = (_, refl)
 settled-no_sign nodes (Pairs d ∷ outer) number place = (_, refl)
-
-marked_stops : (brackets : List Open) (more : List ℕ) → Marked (61 ∷ more)
-marked_stops brackets more = sign_no_word
 
 -- where a value is awaited, no text is followed by the equals sign
 value-no_sign : (before : List ℕ) (nodes : List TreeNode) (brackets : List Open) (phase : Phase) → IsAwaiting phase → Reached before (ready nodes brackets phase) → TakesKey before → ⊥

@@ -10,7 +10,7 @@ mod stack;
 mod tree;
 
 pub use source::{
-    read, shorter_fronts_go_on, sources_have_one_answer, trees_are_unique,
+    fronts_end_where_nothing_goes_on, read, sources_have_one_answer, trees_are_unique,
     trees_stand_in_their_sources,
 };
 pub use tree::{Tree, TreeNode, TreeValue};

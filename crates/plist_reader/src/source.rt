@@ -1,4 +1,4 @@
-ghost use Rattle.std.specs.Prelude.{◌++◌, ◌≡◌, ◌≤◌, length, ◌⊎◌, IfOk, IfErr, Ok, Err, List, ℕ};
+ghost use Rattle.std.specs.Prelude.{[], ◌∷◌, ◌++◌, ◌≡◌, ◌≤◌, length, ◌⊎◌, IfOk, IfErr, Ok, Err, List, ℕ};
 ghost use Rattle.refusal_codes.specs.Gives.{Gives};
 ghost use Rattle.plist_reader.specs.Tree.{IsTree, source_limit};
 ghost use Rattle.plist_reader.specs.Grammar.{HasTree};
@@ -68,10 +68,12 @@ pub fn sources_have_one_answer()
     ensures refusal_of_computed { (source : List ℕ) (r : Refusal) → read_of source ≡ Err r → IsRefusal source r }
 {}
 
-/// Some text with a tree begins as a front does if one begins as a longer front does: so the longest such front of a text
-/// ends where none begins with one character more.
-pub fn shorter_fronts_go_on()
-    ensures { (front more : List ℕ) → CanGoOn (front ++ more) → CanGoOn front }
+/// Where the longest front of a text ends with which some text with a tree begins: each shorter front begins one too, so
+/// it ends where none begins with one character more. It may be measured in characters or in bytes, since of the
+/// characters of several bytes either each can follow a front or none.
+pub fn fronts_end_where_nothing_goes_on()
+    ensures shorter { (front more : List ℕ) → CanGoOn (front ++ more) → CanGoOn front }
+    ensures alike { (front : List ℕ) (c d : ℕ) → 128 ≤ c → 128 ≤ d → CanGoOn (front ++ c ∷ []) → CanGoOn (front ++ d ∷ []) }
 {}
 
 /// The values of a tree stand in its source, its texts are the bytes between their places after escapes are undone, at
