@@ -13,6 +13,8 @@ use Rattle.plist_reader.specs.declared.tree.TreeValue.{TreeValue}
 use Rattle.plist_reader.specs.declared.tree.TreeValue.TheVariants as tree
 use Rattle.plist_reader.specs.Characters.{is_space, is_word, octal_value, hex_value, byte_of}
 use Rattle.plist_reader.specs.Escapes.{character_of, escape_begun, escape_unit, escape_digit, escape_next}
+use Rattle.plist_reader.specs.Refusals.{IsRefusal}
+use Rattle.plist_reader.proofs.OneAnswer.{refusal-of}
 use Rattle.plist_reader.specs.Reading.{refusal, start, value_ended, key_ended, text_ended, unexpected_rule, text_begun, bracket_opened, value_begun, list_closed, dictionary_closed, between, in_word, in_quoted, in_bytes, in_half, step, whole, finish, read_of}
 
 abbrev refusal_in : Result Tree Refusal → Option Refusal
@@ -27,6 +29,14 @@ outcomes texts = map (λ text. refusal_in (read_of text)) texts
 first_refusals : outcomes (([]) ∷ (codes "{a = 1;} x") ∷ (codes "{a=1;a=2;}") ∷ (codes "{a=" ++ (34 ∷ 92 ∷ (codes "q" ++ (34 ∷ (codes ";}"))))) ∷ (codes "{a=(1,2") ∷ (codes "{a=;}") ∷ (255 ∷ []) ∷ (codes "(((((((((((((((((((((((((((((((((((((((((((((((((((((((((((((((((") ∷ []) ≡ Some (refusal UnexpectedEnd 0) ∷ Some (refusal TrailingText 9) ∷ Some (refusal DuplicateKey 5) ∷ Some (refusal BadEscape 4) ∷ Some (refusal UnexpectedEnd 7) ∷ Some (refusal UnexpectedByte 3) ∷ Some (refusal NotUtf8 0) ∷ Some (refusal TooDeep 64) ∷ []
 unfolding read_of is_utf8 chars utf8_valid_len encode is_space is_word octal_value hex_value byte_of character_of escape_begun escape_unit escape_digit escape_next start value_ended key_ended text_ended unexpected_rule text_begun bracket_opened value_begun list_closed dictionary_closed between in_word in_quoted in_bytes in_half step whole finish
 first_refusals = refl
+
+-- so each computed outcome is one of the texts, as here of a key that stands twice
+twice_computed : read_of (codes "{a=1;a=2;}") ≡ Err (refusal DuplicateKey 5)
+unfolding read_of is_utf8 chars utf8_valid_len encode is_space is_word octal_value hex_value byte_of character_of escape_begun escape_unit escape_digit escape_next start value_ended key_ended text_ended unexpected_rule text_begun bracket_opened value_begun list_closed dictionary_closed between in_word in_quoted in_bytes in_half step whole finish
+twice_computed = refl
+
+twice_refused : IsRefusal (codes "{a=1;a=2;}") (refusal DuplicateKey 5)
+twice_refused = refusal-of (codes "{a=1;a=2;}") (refusal DuplicateKey 5) twice_computed
 
 -- a key stands twice whether it is bare or quoted; a word is known as a key only where it has ended
 keys_twice : outcomes ((codes "{a=1;" ++ (34 ∷ (codes "a" ++ (34 ∷ (codes "=2;}"))))) ∷ (codes "{a=1;a") ∷ (codes "{a=1;a ") ∷ (codes "{a=1;a" ++ (34 ∷ [])) ∷ (codes "{a=1;" ++ (34 ∷ (codes "a"))) ∷ (codes "{a=1;" ++ (34 ∷ (codes "a" ++ (34 ∷ [])))) ∷ (codes "{a=1;aa=2;}") ∷ (codes "{a=1;b={a=2;};}") ∷ (codes "{a=1;b=2;a=3;}") ∷ (codes "{a=1;" ++ (34 ∷ 92 ∷ (codes "141" ++ (34 ∷ (codes "=2;}"))))) ∷ []) ≡ Some (refusal DuplicateKey 5) ∷ Some (refusal UnexpectedEnd 6) ∷ Some (refusal DuplicateKey 5) ∷ Some (refusal DuplicateKey 5) ∷ Some (refusal UnexpectedEnd 7) ∷ Some (refusal DuplicateKey 5) ∷ None ∷ None ∷ Some (refusal DuplicateKey 9) ∷ Some (refusal DuplicateKey 5) ∷ []
@@ -101,7 +111,17 @@ triangle_fronts : map (λ n. refusal_in (read_of (take n triangle))) (range_with
 unfolding read_of is_utf8 chars utf8_valid_len encode is_space is_word octal_value hex_value byte_of character_of escape_begun escape_unit escape_digit escape_next start value_ended key_ended text_ended unexpected_rule text_begun bracket_opened value_begun list_closed dictionary_closed between in_word in_quoted in_bytes in_half step whole finish
 triangle_fronts = refl
 
+-- without its last line feed it is the same tree
+triangle_trimmed : read_of (take 258 triangle) ≡ read_of triangle
+unfolding read_of is_utf8 chars utf8_valid_len encode is_space is_word octal_value hex_value byte_of character_of escape_begun escape_unit escape_digit escape_next start value_ended key_ended text_ended unexpected_rule text_begun bracket_opened value_begun list_closed dictionary_closed between in_word in_quoted in_bytes in_half step whole finish
+triangle_trimmed = refl
+
 -- ---- trees
+
+-- a string may have line feeds as they are, and characters beyond ASCII of two, three and four bytes
+raw_string : read_of (34 ∷ 97 ∷ 10 ∷ 195 ∷ 169 ∷ 226 ∷ 130 ∷ 172 ∷ 240 ∷ 159 ∷ 152 ∷ 128 ∷ 34 ∷ []) ≡ Ok (record { nodes = record { place = 0; end = 13; value = tree.Text (97 ∷ 10 ∷ 195 ∷ 169 ∷ 226 ∷ 130 ∷ 172 ∷ 240 ∷ 159 ∷ 152 ∷ 128 ∷ []) } ∷ []; top = 0 })
+unfolding read_of is_utf8 chars utf8_valid_len encode is_space is_word octal_value hex_value byte_of character_of escape_begun escape_unit escape_digit escape_next start value_ended key_ended text_ended unexpected_rule text_begun bracket_opened value_begun list_closed dictionary_closed between in_word in_quoted in_bytes in_half step whole finish
+raw_string = refl
 
 -- escapes are undone, and each value has its place and end
 quoted_tree : read_of (codes " " ++ (34 ∷ (codes "a" ++ (92 ∷ (codes "n" ++ (92 ∷ (codes "Ud83d" ++ (92 ∷ (codes "Ude00" ++ (34 ∷ [])))))))))) ≡ Ok (record { nodes = record { place = 1; end = 18; value = tree.Text (97 ∷ 10 ∷ 240 ∷ 159 ∷ 152 ∷ 128 ∷ []) } ∷ []; top = 0 })

@@ -47,13 +47,13 @@ hex_value-small c x e = elim (cond_cases (is_between 48 57 c) (Some (c - 48)) _ 
 
 -- ---- characters
 
-low_scalar : (u : ℕ) → u < 0xD800 → scalar u ≡ true
+pub low_scalar : (u : ℕ) → u < 0xD800 → scalar u ≡ true
 low_scalar u h = rw (lt-ltb u 55296 h) refl
 
-high_scalar : (u : ℕ) → 0xE000 ≤ u → u < 0x11_0000 → scalar u ≡ true
+pub high_scalar : (u : ℕ) → 0xE000 ≤ u → u < 0x11_0000 → scalar u ≡ true
 high_scalar u h g = let a : ltb u 55296 ≡ false = le-ltb u 55296 (omega arith) in rw (a, le-leb 57344 u h, lt-ltb u 1114112 g) refl
 
-character_of-scalar : (u : ℕ) → scalar u ≡ true → character_of u ≡ Whole u
+pub character_of-scalar : (u : ℕ) → scalar u ≡ true → character_of u ≡ Whole u
 unfolding character_of
 character_of-scalar u h = rw h refl
 
@@ -78,24 +78,24 @@ plain_scalar u b h l = elim (cases_Bool (ltb u 0xD800)) [
 -- ---- whole escapes
 
 -- an escape that goes on over these characters, and is whole at the last
-abbrev Reads : EscapeState → List ℕ → ℕ → Type 0
+abbrev pub Reads : EscapeState → List ℕ → ℕ → Type 0
 Reads escape [] character = ⊥
 Reads escape (c ∷ []) character = escape_next escape c ≡ Whole character
 Reads escape (c ∷ d ∷ cs) character = (next : EscapeState) × (escape_next escape c ≡ More next) × Reads next (d ∷ cs) character
 
-unit0 : (c x : ℕ) → hex_value c ≡ Some x → escape_next Unit0 c ≡ More (Unit1 x)
+pub unit0 : (c x : ℕ) → hex_value c ≡ Some x → escape_next Unit0 c ≡ More (Unit1 x)
 unfolding escape_next escape_digit
 unit0 c x h = rw h refl
 
-unit1 : (a c x : ℕ) → hex_value c ≡ Some x → (eqb a 13 && leb 12 x) ≡ false → escape_next (Unit1 a) c ≡ More (Unit2 a x)
+pub unit1 : (a c x : ℕ) → hex_value c ≡ Some x → (eqb a 13 && leb 12 x) ≡ false → escape_next (Unit1 a) c ≡ More (Unit2 a x)
 unfolding escape_next escape_digit
 unit1 a c x h g = rw (h, g) refl
 
-unit2 : (a b c x : ℕ) → hex_value c ≡ Some x → escape_next (Unit2 a b) c ≡ More (Unit3 a b x)
+pub unit2 : (a b c x : ℕ) → hex_value c ≡ Some x → escape_next (Unit2 a b) c ≡ More (Unit3 a b x)
 unfolding escape_next escape_digit
 unit2 a b c x h = rw h refl
 
-unit3 : (a b d c x : ℕ) → hex_value c ≡ Some x → escape_next (Unit3 a b d) c ≡ escape_unit a b d x
+pub unit3 : (a b d c x : ℕ) → hex_value c ≡ Some x → escape_next (Unit3 a b d) c ≡ escape_unit a b d x
 unfolding escape_next escape_digit
 unit3 a b d c x h = rw h refl
 
@@ -108,7 +108,7 @@ not_low_digits x y z w hy hz hw l = elim (cases_Bool (eqb x 13 && leb 12 y)) [
     low_if : (eqb x 13 && leb 12 y) ≡ true → IsLow (x * 4096 + y * 256 + z * 16 + w)
     low_if e = let p = and_parts (eqb x 13) (leb 12 y) e in let q = eqb-true x 13 p.0 in let k = leb-true 12 y p.1 in (omega (arith, q, k), omega (arith, q, k))
 
-unit-plain : (x y z w : ℕ) → x < 16 → y < 16 → z < 16 → w < 16 → (u : ℕ) → u ≡ x * 4096 + y * 256 + z * 16 + w → ¬ (IsHigh u) → ¬ (IsLow u) → escape_unit x y z w ≡ Whole u
+pub unit-plain : (x y z w : ℕ) → x < 16 → y < 16 → z < 16 → w < 16 → (u : ℕ) → u ≡ x * 4096 + y * 256 + z * 16 + w → ¬ (IsHigh u) → ¬ (IsLow u) → escape_unit x y z w ≡ Whole u
 unfolding escape_unit
 unit-plain x y z w hx hy hz hw u e h l =
     let v = x * 4096 + y * 256 + z * 16 + w in
@@ -118,7 +118,7 @@ unit-plain x y z w hx hy hz hw u e h l =
     ] in
     rw f (ap character_of (sym e) ∙ character_of-scalar u (plain_scalar u (omega arith) h l))
 
-unit-high : (x y z w : ℕ) → (u : ℕ) → u ≡ x * 4096 + y * 256 + z * 16 + w → IsHigh u → escape_unit x y z w ≡ More (High (u - 0xD800))
+pub unit-high : (x y z w : ℕ) → (u : ℕ) → u ≡ x * 4096 + y * 256 + z * 16 + w → IsHigh u → escape_unit x y z w ≡ More (High (u - 0xD800))
 unfolding escape_unit
 unit-high x y z w u e h =
     let v = x * 4096 + y * 256 + z * 16 + w in
@@ -126,27 +126,27 @@ unit-high x y z w u e h =
     let b : ltb v 0xDC00 ≡ true = lt-ltb v 0xDC00 (omega (arith, e, h.1)) in
     rw (a, b) (ap (λ n. More (High (n - 0xD800))) (sym e))
 
-low0 : (high c : ℕ) → hex_value c ≡ Some 13 → escape_next (Low high) c ≡ More (Low1 high)
+pub low0 : (high c : ℕ) → hex_value c ≡ Some 13 → escape_next (Low high) c ≡ More (Low1 high)
 unfolding escape_next escape_digit
 low0 high c h = rw h refl
 
-low1 : (high c x : ℕ) → hex_value c ≡ Some x → 12 ≤ x → escape_next (Low1 high) c ≡ More (Low2 high (x - 12))
+pub low1 : (high c x : ℕ) → hex_value c ≡ Some x → 12 ≤ x → escape_next (Low1 high) c ≡ More (Low2 high (x - 12))
 unfolding escape_next escape_digit
 low1 high c x h g = rw (h, le-leb 12 x g) refl
 
-low2 : (high b c x : ℕ) → hex_value c ≡ Some x → escape_next (Low2 high b) c ≡ More (Low3 high b x)
+pub low2 : (high b c x : ℕ) → hex_value c ≡ Some x → escape_next (Low2 high b) c ≡ More (Low3 high b x)
 unfolding escape_next escape_digit
 low2 high b c x h = rw h refl
 
-low3 : (high b d c x : ℕ) → hex_value c ≡ Some x → escape_next (Low3 high b d) c ≡ character_of (0x1_0000 + high * 1024 + (b * 256 + d * 16 + x))
+pub low3 : (high b d c x : ℕ) → hex_value c ≡ Some x → escape_next (Low3 high b d) c ≡ character_of (0x1_0000 + high * 1024 + (b * 256 + d * 16 + x))
 unfolding escape_next escape_digit
 low3 high b d c x h = rw h refl
 
-high-backslash : (high : ℕ) → escape_next (High high) 92 ≡ More (HighBackslash high)
+pub high-backslash : (high : ℕ) → escape_next (High high) 92 ≡ More (HighBackslash high)
 unfolding escape_next
 high-backslash high = refl
 
-backslash-unit : (high : ℕ) → escape_next (HighBackslash high) 85 ≡ More (Low high)
+pub backslash-unit : (high : ℕ) → escape_next (HighBackslash high) 85 ≡ More (Low high)
 unfolding escape_next
 backslash-unit high = refl
 
@@ -154,7 +154,7 @@ begun-unit : escape_next Begun 85 ≡ More Unit0
 unfolding escape_next escape_begun
 begun-unit = refl
 
-simple : (escape_next Begun 34 ≡ Whole 34) × (escape_next Begun 92 ≡ Whole 92) × (escape_next Begun 110 ≡ Whole 10) × (escape_next Begun 114 ≡ Whole 13) × (escape_next Begun 116 ≡ Whole 9)
+pub simple : (escape_next Begun 34 ≡ Whole 34) × (escape_next Begun 92 ≡ Whole 92) × (escape_next Begun 110 ≡ Whole 10) × (escape_next Begun 114 ≡ Whole 13) × (escape_next Begun 116 ≡ Whole 9)
 unfolding escape_next escape_begun
 simple = (refl, refl, refl, refl, refl)
 
@@ -164,11 +164,11 @@ octal0_at zero a h e = rw e refl
 octal0_at (suc zero) a h e = rw e refl
 octal0_at (suc (suc x)) a h e = absurd (omega (arith, h))
 
-octal1 : (x c y : ℕ) → octal_value c ≡ Some y → escape_next (Octal x) c ≡ More (Octals x y)
+pub octal1 : (x c y : ℕ) → octal_value c ≡ Some y → escape_next (Octal x) c ≡ More (Octals x y)
 unfolding escape_next
 octal1 x c y h = rw h refl
 
-octal2 : (x y c z : ℕ) → octal_value c ≡ Some z → escape_next (Octals x y) c ≡ character_of (x * 64 + y * 8 + z)
+pub octal2 : (x y c z : ℕ) → octal_value c ≡ Some z → escape_next (Octals x y) c ≡ character_of (x * 64 + y * 8 + z)
 unfolding escape_next
 octal2 x y c z h = rw h refl
 
@@ -266,12 +266,12 @@ reads-escape _ _ (units a b c d e f g k high low i j h l) = reads-units a b c d 
 
 -- ---- the reader over an escape
 
-step-escape_more : (nodes : List TreeNode) (brackets : List Open) (phase : Phase) (at back place c : ℕ) (escape next : EscapeState) (text : List ℕ) → escape_next escape c ≡ More next
+pub step-escape_more : (nodes : List TreeNode) (brackets : List Open) (phase : Phase) (at back place c : ℕ) (escape next : EscapeState) (text : List ℕ) → escape_next escape c ≡ More next
     → step (in_token nodes brackets phase (Escape at back escape) text []) place c ≡ Ok (in_token nodes brackets phase (Escape at back next) text [])
 unfolding step
 step-escape_more nodes brackets phase at back place c escape next text h = rw h refl
 
-step-escape_whole : (nodes : List TreeNode) (brackets : List Open) (phase : Phase) (at back place c : ℕ) (escape : EscapeState) (character : ℕ) (text : List ℕ) → escape_next escape c ≡ Whole character
+pub step-escape_whole : (nodes : List TreeNode) (brackets : List Open) (phase : Phase) (at back place c : ℕ) (escape : EscapeState) (character : ℕ) (text : List ℕ) → escape_next escape c ≡ Whole character
     → step (in_token nodes brackets phase (Escape at back escape) text []) place c ≡ Ok (in_token nodes brackets phase (Quoted at) (text ++ encode character) [])
 unfolding step
 step-escape_whole nodes brackets phase at back place c escape character text h = rw h refl

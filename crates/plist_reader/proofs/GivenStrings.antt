@@ -33,12 +33,12 @@ step-quote_begun nodes brackets KeyEnd place h = elim h [ ]
 step-quote_begun nodes brackets PairEnd place h = elim h [ ]
 step-quote_begun nodes brackets (End n) place h = elim h [ ]
 
-step-plain : (nodes : List TreeNode) (brackets : List Open) (phase : Phase) (at place c : ℕ) (text : List ℕ) → ¬ (c ≡ 34) → ¬ (c ≡ 92)
+pub step-plain : (nodes : List TreeNode) (brackets : List Open) (phase : Phase) (at place c : ℕ) (text : List ℕ) → ¬ (c ≡ 34) → ¬ (c ≡ 92)
     → step (in_token nodes brackets phase (Quoted at) text []) place c ≡ Ok (in_token nodes brackets phase (Quoted at) (text ++ encode c) [])
 unfolding step in_quoted
 step-plain nodes brackets phase at place c text h g = rw (ne_eqb c 34 h, ne_eqb c 92 g) refl
 
-step-backslash : (nodes : List TreeNode) (brackets : List Open) (phase : Phase) (at place : ℕ) (text : List ℕ)
+pub step-backslash : (nodes : List TreeNode) (brackets : List Open) (phase : Phase) (at place : ℕ) (text : List ℕ)
     → step (in_token nodes brackets phase (Quoted at) text []) place 92 ≡ Ok (in_token nodes brackets phase (Escape at place Begun) text [])
 unfolding step in_quoted
 step-backslash nodes brackets phase at place text = refl
@@ -62,7 +62,7 @@ run-quoted _ _ (escaped c escape cs bytes e q) nodes brackets phase at place tex
 digit_is : ℕ → Bool
 digit_is c = is_some (hex_value c)
 
-step-angle_begun : (nodes : List TreeNode) (brackets : List Open) (phase : Phase) (place : ℕ) → IsAwaiting phase → step (ready nodes brackets phase) place 60 ≡ Ok (in_token nodes brackets phase (Bytes place) [] [])
+pub step-angle_begun : (nodes : List TreeNode) (brackets : List Open) (phase : Phase) (place : ℕ) → IsAwaiting phase → step (ready nodes brackets phase) place 60 ≡ Ok (in_token nodes brackets phase (Bytes place) [] [])
 unfolding step between value_begun is_space
 step-angle_begun nodes brackets Value place h = refl
 step-angle_begun nodes brackets Item place h = refl
@@ -97,7 +97,7 @@ step-half_space : (nodes : List TreeNode) (brackets : List Open) (phase : Phase)
 unfolding step in_half
 step-half_space nodes brackets phase at high place c bytes h = rw h refl
 
-step-second_digit : (nodes : List TreeNode) (brackets : List Open) (phase : Phase) (at high place c x y : ℕ) (bytes : List ℕ) → hex_value high ≡ Some x → hex_value c ≡ Some y
+pub step-second_digit : (nodes : List TreeNode) (brackets : List Open) (phase : Phase) (at high place c x y : ℕ) (bytes : List ℕ) → hex_value high ≡ Some x → hex_value c ≡ Some y
     → step (in_token nodes brackets phase (Half at high) [] bytes) place c ≡ Ok (in_token nodes brackets phase (Bytes at) [] (bytes ++ (x * 16 + y) ∷ []))
 unfolding step in_half byte_of
 step-second_digit nodes brackets phase at high place c x y bytes h g = rw (hex-no_space c y g, h, g) refl
@@ -165,7 +165,7 @@ step-word_end r s at place c e w h k =
     let off : in_word r at place c ≡ between s place c = rw (w, h) refl in
     inside ∙ off ∙ sym (step-between s place c k)
 
-finish-word : (nodes : List TreeNode) (phase : Phase) (at place : ℕ) (text : List ℕ) → IsAwaiting phase
+pub finish-word : (nodes : List TreeNode) (phase : Phase) (at place : ℕ) (text : List ℕ) → IsAwaiting phase
     → finish (in_token nodes [] phase (Word at) text []) place ≡ finish (settled (nodes ++ node at place (tree.Text text) ∷ []) [] (length nodes)) place
 unfolding finish
 finish-word nodes phase at place text h = ap (λ d. d >>= (λ s. whole s place)) (text-ended nodes [] phase (Word at) at place text h)

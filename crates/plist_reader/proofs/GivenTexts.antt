@@ -34,7 +34,7 @@ marked-spaces : (gap cs : List ℕ) → AreSpaces gap → Marked cs → Marked (
 marked-spaces [] cs h m = m
 marked-spaces (c ∷ gap) cs h m = space-no_word c h.0
 
-stops-marked : (brackets : List Open) (cs : List ℕ) → Marked cs → Stops brackets cs
+pub stops-marked : (brackets : List Open) (cs : List ℕ) → Marked cs → Stops brackets cs
 stops-marked [] [] m = tt
 stops-marked (b ∷ brackets) [] m = m
 stops-marked [] (c ∷ cs) m = m
@@ -80,15 +80,15 @@ list_end nodes at end numbers brackets = settled (nodes ++ node at end (tree.Ite
 abbrev pub dictionary_end : List TreeNode → ℕ → ℕ → List (ℕ × ℕ) → List Open → Reader
 dictionary_end nodes at end numbers brackets = settled (nodes ++ node at end (tree.Pairs numbers) ∷ []) brackets (length nodes)
 
-step-empty_list_end : (nodes : List TreeNode) (at place : ℕ) (done : List ℕ) (brackets : List Open) → step (ready nodes (Items at done ∷ brackets) Item) place 41 ≡ Ok (list_end nodes at (place + 1) done brackets)
+pub step-empty_list_end : (nodes : List TreeNode) (at place : ℕ) (done : List ℕ) (brackets : List Open) → step (ready nodes (Items at done ∷ brackets) Item) place 41 ≡ Ok (list_end nodes at (place + 1) done brackets)
 unfolding step between list_closed value_ended is_space
 step-empty_list_end nodes at place done brackets = ap (λ r. Ok r) (settled_any (nodes ++ node at (place + 1) (tree.Items done) ∷ []) brackets brackets Item (length nodes))
 
-step-list_end : (nodes : List TreeNode) (at place : ℕ) (done : List ℕ) (brackets : List Open) → step (ready nodes (Items at done ∷ brackets) ItemEnd) place 41 ≡ Ok (list_end nodes at (place + 1) done brackets)
+pub step-list_end : (nodes : List TreeNode) (at place : ℕ) (done : List ℕ) (brackets : List Open) → step (ready nodes (Items at done ∷ brackets) ItemEnd) place 41 ≡ Ok (list_end nodes at (place + 1) done brackets)
 unfolding step between list_closed value_ended is_space
 step-list_end nodes at place done brackets = ap (λ r. Ok r) (settled_any (nodes ++ node at (place + 1) (tree.Items done) ∷ []) brackets brackets ItemEnd (length nodes))
 
-step-dictionary_end : (nodes : List TreeNode) (place : ℕ) (d : Dictionary) (brackets : List Open) → step (ready nodes (Pairs d ∷ brackets) Key) place 125 ≡ Ok (dictionary_end nodes d.place (place + 1) d.pairs brackets)
+pub step-dictionary_end : (nodes : List TreeNode) (place : ℕ) (d : Dictionary) (brackets : List Open) → step (ready nodes (Pairs d ∷ brackets) Key) place 125 ≡ Ok (dictionary_end nodes d.place (place + 1) d.pairs brackets)
 unfolding step between dictionary_closed value_ended is_space
 step-dictionary_end nodes place d brackets = ap (λ r. Ok r) (settled_any (nodes ++ node d.place (place + 1) (tree.Pairs d.pairs) ∷ []) brackets brackets Key (length nodes))
 
@@ -96,11 +96,11 @@ step-comma : (nodes : List TreeNode) (brackets : List Open) (place : ℕ) → st
 unfolding step between is_space
 step-comma nodes brackets place = refl
 
-step-equals : (nodes : List TreeNode) (brackets : List Open) (place : ℕ) → step (ready nodes brackets KeyEnd) place 61 ≡ Ok (ready nodes brackets Value)
+pub step-equals : (nodes : List TreeNode) (brackets : List Open) (place : ℕ) → step (ready nodes brackets KeyEnd) place 61 ≡ Ok (ready nodes brackets Value)
 unfolding step between is_space
 step-equals nodes brackets place = refl
 
-step-semicolon : (nodes : List TreeNode) (brackets : List Open) (place : ℕ) → step (ready nodes brackets PairEnd) place 59 ≡ Ok (ready nodes brackets Key)
+pub step-semicolon : (nodes : List TreeNode) (brackets : List Open) (place : ℕ) → step (ready nodes brackets PairEnd) place 59 ≡ Ok (ready nodes brackets Key)
 unfolding step between is_space
 step-semicolon nodes brackets place = refl
 
@@ -122,7 +122,7 @@ run-key_word_end nodes d brackets at place text (c ∷ cs) h m =
     ap (λ x. x >>= (λ r. run r (place + len_utf8 c) cs))
     (step-word_end (in_token nodes (Pairs d ∷ brackets) Key (Word at) text []) (key_end nodes d brackets at place text) at place c refl m (key-ended nodes d brackets (Word at) at place text h) refl)
 
-run-key : (cs key : List ℕ) → IsText cs key → (nodes : List TreeNode) (d : Dictionary) (brackets : List Open) (place : ℕ) (rest : List ℕ) → is_among key d.keys ≡ false → Marked rest
+pub run-key : (cs key : List ℕ) → IsText cs key → (nodes : List TreeNode) (d : Dictionary) (brackets : List Open) (place : ℕ) (rest : List ℕ) → is_among key d.keys ≡ false → Marked rest
     → run (ready nodes (Pairs d ∷ brackets) Key) place (cs ++ rest) ≡ run (key_end nodes d brackets place (place + width cs) key) (place + width cs) rest
 run-key cs key (inl w) nodes d brackets place rest h m =
     let same : key ≡ cs = w.same in
@@ -336,11 +336,11 @@ mutual
 
 -- ---- whole texts
 
-finish-end : (nodes : List TreeNode) (number place : ℕ) → finish (ready nodes [] (End number)) place ≡ Ok (record { nodes = nodes; top = number })
+pub finish-end : (nodes : List TreeNode) (number place : ℕ) → finish (ready nodes [] (End number)) place ≡ Ok (record { nodes = nodes; top = number })
 unfolding finish whole
 finish-end nodes number place = refl
 
-start-ready : start ≡ ready [] [] Value
+pub start-ready : start ≡ ready [] [] Value
 unfolding start
 start-ready = refl
 

@@ -1,9 +1,9 @@
 -- What the reader makes of the characters that spell a token: spaces, words, quoted strings and byte strings.
-use Rattle.std.proofs.Common.{inl, inr, ◌≡◌, ℕ, ◌+◌, ◌<◌, Bool, true, false, eqb, leb, List, [], ◌∷◌, ◌++◌, length, Ok, refl, sym, ap, ◌∙◌, arith, append_assoc}
+use Rattle.std.proofs.Common.{inl, inr, ◌≡◌, ℕ, ◌+◌, ◌<◌, ◌≤◌, Bool, true, false, eqb, leb, List, [], ◌∷◌, ◌++◌, length, Ok, refl, sym, ap, ◌∙◌, arith, append_assoc}
 use Rattle.std.specs.List.{AllByRecursion}
 use Rattle.std.proofs.lemmas.List.{append-nil}
 use Rattle.std.proofs.lemmas.Bool.{leb-true, ne_eqb, both_ways, and_parts, cases_Bool}
-use Rattle.std.proofs.lemmas.Str.{encode_ascii}
+use Rattle.std.proofs.lemmas.Str.{encode_ascii, len_utf8_bounds}
 use Rattle.std.specs.Char.{len_utf8}
 use Rattle.plist_reader.specs.declared.tree.TreeNode.{TreeNode}
 use Rattle.plist_reader.specs.declared.reader.Reader.{Reader}
@@ -51,6 +51,11 @@ run_same r s p q rest e f = ap (λ x. run x p rest) e ∙ ap (λ x. run s x rest
 pub width-append : (xs ys : List ℕ) → width (xs ++ ys) ≡ width xs + width ys
 width-append [] ys = omega arith
 width-append (x ∷ xs) ys = omega (arith, width-append xs ys)
+
+-- each character takes a byte or more
+pub width-long : (cs : List ℕ) → length cs ≤ width cs
+width-long [] = omega arith
+width-long (c ∷ cs) = omega (arith, width-long cs, len_utf8_bounds c)
 
 -- ---- characters
 
@@ -135,7 +140,7 @@ step-word_begun nodes brackets KeyEnd place c h w = elim h [ ]
 step-word_begun nodes brackets PairEnd place c h w = elim h [ ]
 step-word_begun nodes brackets (End n) place c h w = elim h [ ]
 
-step-word : (nodes : List TreeNode) (brackets : List Open) (phase : Phase) (at place c : ℕ) (text : List ℕ) → is_word c ≡ true → step (in_token nodes brackets phase (Word at) text []) place c ≡ Ok (in_token nodes brackets phase (Word at) (text ++ c ∷ []) [])
+pub step-word : (nodes : List TreeNode) (brackets : List Open) (phase : Phase) (at place c : ℕ) (text : List ℕ) → is_word c ≡ true → step (in_token nodes brackets phase (Word at) text []) place c ≡ Ok (in_token nodes brackets phase (Word at) (text ++ c ∷ []) [])
 unfolding step in_word
 step-word nodes brackets phase at place c text w = rw (w, encode_ascii c (word-ascii c w)) refl
 

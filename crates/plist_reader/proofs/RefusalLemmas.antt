@@ -1,149 +1,55 @@
--- Where reading stops, and that nothing longer can begin a text with a tree.
-use Rattle.std.proofs.Common.{inl, inr, ◌≡◌, ℕ, ◌+◌, ◌-◌, ◌<◌, ◌≤◌, Bool, true, false, cond, eqb, ltb, ◌&&◌, not, List, [], ◌∷◌, ◌++◌, length, Option, Some, None, Result, Ok, Err, refl, sym, ap, subst, ◌∙◌, arith, append_assoc, IfOk}
-use Rattle.std.specs.Prelude.{◌⊎◌, IfErr}
-use Rattle.std.proofs.lemmas.Bool.{eqb-true, cases_Bool}
-use Rattle.std.specs.Char.{len_utf8}
+-- Why reading stops where it does: each refusal is the one that the texts with trees explain.
+use Rattle.std.proofs.Common.{inl, inr, ◌≡◌, ℕ, ◌<◌, Bool, true, false, cond, eqb, List, [], ◌∷◌, ◌++◌, length, Result, Ok, Err, refl, sym, ap, subst, ◌∙◌, arith}
+use Rattle.std.specs.Prelude.{IfErr}
+use Rattle.std.proofs.lemmas.Bool.{eqb-true, eq-eqb, false≢true, or_cases, both_ways}
 use Rattle.std.specs.Str.{IsUtf8, chars}
 use Rattle.refusal_codes.specs.declared.refusal.Refusal.{Refusal}
-use Rattle.refusal_codes.specs.declared.rule.Rule.{Rule}
 use Rattle.refusal_codes.specs.declared.rule.Rule.TheVariants.{UnexpectedByte, UnexpectedEnd, BadEscape, DuplicateKey, TooDeep, TrailingText}
 use Rattle.plist_reader.specs.declared.tree.Tree.{Tree}
+use Rattle.plist_reader.specs.declared.tree.TreeNode.{TreeNode}
 use Rattle.plist_reader.specs.declared.tree.TreeValue.TheVariants as tree
 use Rattle.plist_reader.specs.declared.reader.Reader.{Reader}
 use Rattle.plist_reader.specs.declared.reader.Phase.{Phase}
 use Rattle.plist_reader.specs.declared.reader.Phase.TheVariants.{Value, Item, ItemEnd, Key, KeyEnd, PairEnd, End}
 use Rattle.plist_reader.specs.declared.reader.Token.{Token}
 use Rattle.plist_reader.specs.declared.reader.Token.TheVariants.{Between, Word, Quoted, Escape, Bytes, Half}
+use Rattle.plist_reader.specs.declared.reader.Dictionary.{Dictionary}
+use Rattle.plist_reader.specs.Keys.{is_among}
 use Rattle.plist_reader.specs.declared.reader.Open.{Open}
 use Rattle.plist_reader.specs.declared.reader.Open.TheVariants.{Items, Pairs}
-use Rattle.plist_reader.specs.declared.escape.Escaped.{Escaped}
-use Rattle.plist_reader.specs.declared.escape.Escaped.TheVariants.{More, Whole, Wrong}
-use Rattle.plist_reader.specs.Characters.{is_space, is_word, hex_value, byte_of}
-use Rattle.plist_reader.specs.Escapes.{escape_next}
-use Rattle.plist_reader.specs.Keys.{is_among}
-use Rattle.plist_reader.specs.Grammar.{width, tree_of}
-use Rattle.plist_reader.specs.Refusals.{Blames, IsReason, StopsIn, IsErrorOf}
+use Rattle.plist_reader.specs.declared.escape.Escape.{Escape as EscapeState}
+use Rattle.plist_reader.specs.Grammar.{node, width}
+use Rattle.plist_reader.specs.Refusals.{EndsText, HasText, IsWhole, IsDeep, IsBracket, IsTooDeep, IsInEscape, IsExplained, bad_escape, twice, too_deep, trailing, unexpected, IsReason, StopsIn, IsErrorOf}
 use Rattle.refusal_codes.specs.declared.errors.ReadError.{ReadError}
 use Rattle.refusal_codes.specs.declared.errors.ReadError.TheVariants as read_errors
 use Rattle.refusal_codes.specs.Gives.{Gives}
-use Rattle.plist_reader.specs.Reading.{refusal, ◌>>=◌, start, is_key, is_bracket, is_end, max_depth, unexpected, unexpected_rule, key_ended_in, key_ended, text_ended, text_begun, list_opened, dictionary_opened, bracket_opened, value_begun, list_closed_in, list_closed, dictionary_closed_in, dictionary_closed, awaited, between, in_word, in_quoted, after_escape, after_half, after_hex, in_bytes, in_half, step_in, step, whole_in, whole, finish_in, finish, run, read_of}
-use Rattle.plist_reader.proofs.RunLemmas.{run_step, read_of-text}
-use Rattle.plist_reader.proofs.GivenTokens.{ready, run_same, CanBegin}
-use Rattle.plist_reader.proofs.GivenTexts.{run-text_of}
-use Rattle.plist_reader.proofs.SpelledSteps.{Agrees, GoodIn, Good, Back}
-use Rattle.plist_reader.proofs.SpelledTexts.{back-step}
+use Rattle.plist_reader.specs.Reading.{refusal, ◌>>=◌, start, is_bracket, is_end, text_ended, step, whole_in, whole, finish_in, finish, run, read_of}
+use Rattle.plist_reader.proofs.RunLemmas.{read_of-text}
+use Rattle.plist_reader.proofs.GivenTokens.{width-append, width-long, ready, in_token, IsAwaiting}
+use Rattle.plist_reader.proofs.GivenEscapes.{Reads}
+use Rattle.plist_reader.proofs.GivenStrings.{finish-word}
+use Rattle.plist_reader.proofs.SpelledSteps.{Agrees, GoodIn, Good}
+use Rattle.plist_reader.proofs.Moves.{TextEnds, as_value, as_key, Closes, closes_between, closes_word, closes}
+use Rattle.plist_reader.proofs.CanGoOnEscapes.{finishes, finished-escape}
+use Rattle.plist_reader.proofs.CanGoOn.{finish_whole, KeyWay, way-any_word, way-any_string}
+use Rattle.plist_reader.proofs.Starts.{Started, StartOf, reached-started, prefix_same}
+use Rattle.plist_reader.proofs.TwiceRefused.{takes-key, never-goes_on, not_twice}
+use Rattle.plist_reader.proofs.Twices.{twice-goes_on}
+use Rattle.plist_reader.proofs.Fronts.{WordIn, StringIn, EscapeIn}
+use Rattle.plist_reader.proofs.Reached.{Reached, at_ok, reached-good, reached-token, reached-goes_on, whole-finishes, finishes-whole, refused-stops, err_not_ok, StopOf, stopped}
+use Rattle.plist_reader.proofs.Depths.{reached-placed, reached-deep}
+use Rattle.plist_reader.proofs.Texts.{begun_at, open-text}
+use Rattle.plist_reader.proofs.InEscapes.{not_in_escape}
+use Rattle.plist_reader.proofs.Fails.{IsOver, StopsAt, over, behind, other, Fails, between_fails, word_fails, word_twice, string_twice, escape_fails, bytes_fail, half_fails, fails}
 
 -- ---- choices
-
-if_err-cond : {A : Type 0} (P : Refusal → Type 0) (b : Bool) (x y : Result A Refusal) → IfErr x P → IfErr y P → IfErr (cond b x y) P
-if_err-cond P true x y h k = h
-if_err-cond P false x y h k = k
 
 if_err-bind : {A B : Type 0} (P : Refusal → Type 0) (d : Result A Refusal) (f : A → Result B Refusal) → IfErr d P → ((x : A) → IfErr (f x) P) → IfErr (d >>= f) P
 if_err-bind P (Ok x) f h k = k x
 if_err-bind P (Err e) f h k = h
 
-at_err : {A : Type 0} (P : Refusal → Type 0) (d : Result A Refusal) (e : Refusal) → d ≡ Err e → IfErr d P → P e
+pub at_err : {A : Type 0} (P : Refusal → Type 0) (d : Result A Refusal) (e : Refusal) → d ≡ Err e → IfErr d P → P e
 at_err {A} P d e h k = let Q : Result A Refusal → Type 0 = λ x. IfErr x P in subst Q h k
-
--- ---- what a step blames
-
-abbrev BlamesAt : ℕ → Refusal → Type 0
-BlamesAt here e = Blames e.rule e.place here
-
-blames-unexpected : (r : Reader) (place c : ℕ) → IfErr (unexpected r place c) (BlamesAt place)
-unfolding unexpected_rule
-blames-unexpected r place c = blames_rule (is_bracket c && not (ltb (length r.brackets) max_depth)) (is_end r.phase)
-  where
-    blames_rule : (a b : Bool) → Blames (cond a TooDeep (cond b TrailingText UnexpectedByte)) place place
-    blames_rule true b = refl
-    blames_rule false true = refl
-    blames_rule false false = refl
-
-blames-text_begun : (r : Reader) (place c : ℕ) → IfErr (text_begun r place c) (BlamesAt place)
-unfolding text_begun
-blames-text_begun r place c = if_err-cond (BlamesAt place) (eqb c 34) _ _ tt (if_err-cond (BlamesAt place) (is_word c) _ _ tt (blames-unexpected r place c))
-
-blames-value_begun : (r : Reader) (place c : ℕ) → IfErr (value_begun r place c) (BlamesAt place)
-unfolding value_begun bracket_opened
-blames-value_begun r place c = if_err-cond (BlamesAt place) (is_bracket c) _ _
-    (if_err-cond (BlamesAt place) (ltb (length r.brackets) max_depth) _ _ tt (blames-unexpected r place c))
-    (if_err-cond (BlamesAt place) (eqb c 60) _ _ tt (blames-text_begun r place c))
-
-blames-list_closed : (r : Reader) (place : ℕ) (brackets : List Open) → IfErr (list_closed_in r place brackets) (BlamesAt place)
-blames-list_closed r place [] = refl
-blames-list_closed r place (Pairs d ∷ outer) = refl
-blames-list_closed r place (Items at items ∷ outer) = tt
-
-blames-dictionary_closed : (r : Reader) (place : ℕ) (brackets : List Open) → IfErr (dictionary_closed_in r place brackets) (BlamesAt place)
-blames-dictionary_closed r place [] = refl
-blames-dictionary_closed r place (Items at items ∷ outer) = refl
-blames-dictionary_closed r place (Pairs d ∷ outer) = tt
-
-blames-awaited : (r : Reader) (place c : ℕ) (phase : Phase) → IfErr (awaited r place c phase) (BlamesAt place)
-unfolding list_closed dictionary_closed
-blames-awaited r place c Value = blames-value_begun r place c
-blames-awaited r place c Item = if_err-cond (BlamesAt place) (eqb c 41) _ _ (blames-list_closed r place r.brackets) (blames-value_begun r place c)
-blames-awaited r place c ItemEnd = if_err-cond (BlamesAt place) (eqb c 41) _ _ (blames-list_closed r place r.brackets) (if_err-cond (BlamesAt place) (eqb c 44) _ _ tt (blames-unexpected r place c))
-blames-awaited r place c Key = if_err-cond (BlamesAt place) (eqb c 125) _ _ (blames-dictionary_closed r place r.brackets) (blames-text_begun r place c)
-blames-awaited r place c KeyEnd = if_err-cond (BlamesAt place) (eqb c 61) _ _ tt (blames-unexpected r place c)
-blames-awaited r place c PairEnd = if_err-cond (BlamesAt place) (eqb c 59) _ _ tt (blames-unexpected r place c)
-blames-awaited r place c (End n) = blames-unexpected r place c
-
-blames-between : (r : Reader) (place c : ℕ) → IfErr (between r place c) (BlamesAt place)
-unfolding between
-blames-between r place c = if_err-cond (BlamesAt place) (is_space c) _ _ tt (blames-awaited r place c r.phase)
-
--- only a key that stands twice is blamed where a text ends
-abbrev IsTwice : Refusal → Type 0
-IsTwice e = e.rule ≡ DuplicateKey
-
-twice-blames : (here : ℕ) (e : Refusal) → IsTwice e → BlamesAt here e
-twice-blames here e h = let P : Rule → Type 0 = λ x. Blames x e.place here in subst P (sym h) tt
-
-twice-key_ended : (r : Reader) (at end : ℕ) (text : List ℕ) (brackets : List Open) → Agrees Key brackets → IfErr (key_ended_in r at end text brackets) IsTwice
-twice-key_ended r at end text [] g = elim g [ ]
-twice-key_ended r at end text (Items p items ∷ outer) g = elim g [ ]
-twice-key_ended r at end text (Pairs d ∷ outer) g = if_err-cond IsTwice (is_among text d.keys) _ _ refl tt
-
-twice-text_ended : (r : Reader) (at end : ℕ) (phase : Phase) → r.phase ≡ phase → Agrees phase r.brackets → IfErr (text_ended r at end) IsTwice
-unfolding text_ended key_ended
-twice-text_ended r at end Key e g = if_err-cond IsTwice (is_key r.phase) _ _ (twice-key_ended (record r { token = Between; text = [] }) at end r.text r.brackets g) tt
-twice-text_ended r at end Value e g = rw e tt
-twice-text_ended r at end Item e g = rw e tt
-twice-text_ended r at end ItemEnd e g = rw e tt
-twice-text_ended r at end KeyEnd e g = rw e tt
-twice-text_ended r at end PairEnd e g = rw e tt
-twice-text_ended r at end (End n) e g = rw e tt
-
-blames-text_ended : (r : Reader) (at end here : ℕ) → Agrees r.phase r.brackets → IfErr (text_ended r at end) (BlamesAt here)
-blames-text_ended r at end here g = weaker (text_ended r at end) (twice-text_ended r at end r.phase refl g)
-  where
-    weaker : (d : Result Reader Refusal) → IfErr d IsTwice → IfErr d (BlamesAt here)
-    weaker (Ok x) h = tt
-    weaker (Err e) h = twice-blames here e h
-
-blames-after_escape : (r : Reader) (at backslash place : ℕ) (escaped : Escaped) → IfErr (after_escape r at backslash escaped) (BlamesAt place)
-blames-after_escape r at backslash place (More escape) = tt
-blames-after_escape r at backslash place (Whole character) = tt
-blames-after_escape r at backslash place Wrong = tt
-
-blames-after_hex : (r : Reader) (at place c : ℕ) (o : Option ℕ) → IfErr (after_hex r at place c o) (BlamesAt place)
-blames-after_hex r at place c None = blames-unexpected r place c
-blames-after_hex r at place c (Some x) = tt
-
-blames-after_half : (r : Reader) (at place c : ℕ) (o : Option ℕ) → IfErr (after_half r at place c o) (BlamesAt place)
-blames-after_half r at place c None = blames-unexpected r place c
-blames-after_half r at place c (Some x) = tt
-
-blames-step_in : (r : Reader) (place c : ℕ) (token : Token) → Agrees r.phase r.brackets → IfErr (step_in r place c token) (BlamesAt place)
-unfolding in_word in_quoted in_bytes in_half
-blames-step_in r place c Between g = blames-between r place c
-blames-step_in r place c (Word at) g = if_err-cond (BlamesAt place) (is_word c) _ _ tt (if_err-bind (BlamesAt place) (text_ended r at place) (λ s. between s place c) (blames-text_ended r at place place g) (λ s. blames-between s place c))
-blames-step_in r place c (Quoted at) g = if_err-cond (BlamesAt place) (eqb c 34) _ _ (blames-text_ended r at (place + 1) place g) (if_err-cond (BlamesAt place) (eqb c 92) _ _ tt tt)
-blames-step_in r place c (Escape at backslash escape) g = blames-after_escape r at backslash place (escape_next escape c)
-blames-step_in r place c (Bytes at) g = if_err-cond (BlamesAt place) (is_space c) _ _ tt (if_err-cond (BlamesAt place) (eqb c 62) _ _ tt (blames-after_hex r at place c (hex_value c)))
-blames-step_in r place c (Half at high) g = if_err-cond (BlamesAt place) (is_space c) _ _ tt (blames-after_half r at place c (byte_of high c))
 
 -- a good reader agrees with what is open
 agrees_in : (token : Token) (r : Reader) → GoodIn token r → Agrees r.phase r.brackets
@@ -154,9 +60,197 @@ agrees_in (Escape at backslash escape) r g = g.0
 agrees_in (Bytes at) r g = g.0
 agrees_in (Half at high) r g = g.0
 
-blames-step : (r : Reader) (place c : ℕ) → Good r → IfErr (step r place c) (BlamesAt place)
-unfolding step
-blames-step r place c g = blames-step_in r place c r.token (agrees_in r.token r g)
+-- ---- brackets
+
+bracket-of : (c : ℕ) → is_bracket c ≡ true → IsBracket c
+bracket-of c e = elim (or_cases (eqb c 40) (eqb c 123) e) [ inl h ↦ inl (eqb-true c 40 h) | inr h ↦ inr (eqb-true c 123 h) ]
+
+is_bracket-of : (c : ℕ) → IsBracket c → is_bracket c ≡ true
+is_bracket-of c h = elim h [ inl e ↦ rw e refl | inr e ↦ rw e refl ]
+
+too_deep-of : (front : List ℕ) (r u : Reader) (c : ℕ) → Reached front r → length u.brackets ≡ length r.brackets → IsOver c u → IsTooDeep front c
+too_deep-of front r u c h e o =
+    let D : ℕ → Type 0 = λ n. IsDeep front n in
+    let full : length r.brackets ≡ 64 = omega (arith, e, o.1, (reached-placed front r h).shallow) in
+    (bracket-of c o.0, subst D full (reached-deep front r h))
+
+over-of : (front : List ℕ) (r u : Reader) (c : ℕ) → Reached front r → length u.brackets ≡ length r.brackets → IsTooDeep front c → IsOver c u
+over-of front r u c h e d =
+    let g = reached-goes_on front r h in
+    let full : 64 ≡ length r.brackets = sym (d.1 g.0 g.1 g.2) ∙ reached-deep front r h g.0 g.1 g.2 in
+    (is_bracket-of c d.0, omega (arith, full, e))
+
+-- ---- whole values
+
+-- where a text may end
+abbrev SaysEnd : Token → Reader → Type 0
+SaysEnd Between r = is_end r.phase ≡ true
+SaysEnd (Word at) r = r.brackets ≡ []
+SaysEnd (Quoted at) r = ⊥
+SaysEnd (Escape at backslash escape) r = ⊥
+SaysEnd (Bytes at) r = ⊥
+SaysEnd (Half at high) r = ⊥
+
+closes-says : (place : ℕ) (r : Reader) (t : Tree) → Closes place r t → SaysEnd r.token r
+closes-says place _ _ (closes_between nodes brackets number) = refl
+closes-says place _ _ (closes_word nodes phase at text a) = refl
+
+whole-says : (front : List ℕ) (r : Reader) → Reached front r → IsWhole front → SaysEnd r.token r
+whole-says front r h w =
+    let t = whole-finishes front r h w in
+    closes-says (width front) r t.0 (at_ok (Closes (width front) r) (finish r (width front)) t.0 t.1 (closes r (width front) (reached-good front r h)))
+
+ended-length : (nodes : List TreeNode) (brackets : List Open) (phase : Phase) (at end : ℕ) (text : List ℕ) (u : Reader) → TextEnds nodes brackets phase at end text u → length u.brackets ≡ length brackets
+ended-length nodes _ _ _ _ _ _ (as_value [] phase at end text a) = refl
+ended-length nodes _ _ _ _ _ _ (as_value (Items p done ∷ outer) phase at end text a) = refl
+ended-length nodes _ _ _ _ _ _ (as_value (Pairs d ∷ outer) phase at end text a) = refl
+ended-length nodes _ _ _ _ _ _ (as_key d outer at end text e) = refl
+
+-- outside all brackets the end of a text is the end of the whole value
+ended-outside : (nodes : List TreeNode) (brackets : List Open) (phase : Phase) (at end : ℕ) (text : List ℕ) (u : Reader) → TextEnds nodes brackets phase at end text u → length brackets ≡ 0 → is_end u.phase ≡ true
+ended-outside nodes _ _ _ _ _ _ (as_value [] phase at end text a) l = refl
+ended-outside nodes _ _ _ _ _ _ (as_value (Items p done ∷ outer) phase at end text a) l = absurd (omega (arith, l))
+ended-outside nodes _ _ _ _ _ _ (as_value (Pairs d ∷ outer) phase at end text a) l = absurd (omega (arith, l))
+ended-outside nodes _ _ _ _ _ _ (as_key d outer at end text e) l = absurd (omega (arith, l))
+
+ended-finishes : (nodes : List TreeNode) (brackets : List Open) (phase : Phase) (at end : ℕ) (text : List ℕ) (u : Reader) → TextEnds nodes brackets phase at end text u → is_end u.phase ≡ true → (t : Tree) × (finish (in_token nodes brackets phase (Word at) text []) end ≡ Ok t)
+ended-finishes nodes _ _ _ _ _ _ (as_value [] phase at end text a) e =
+    let made = nodes ++ node at end (tree.Text text) ∷ [] in
+    (record { nodes = made; top = length nodes }, finish-word nodes phase at end text a ∙ finish_whole made [] (length nodes) end)
+ended-finishes nodes _ _ _ _ _ _ (as_value (Items p done ∷ outer) phase at end text a) e = absurd (false≢true e)
+ended-finishes nodes _ _ _ _ _ _ (as_value (Pairs d ∷ outer) phase at end text a) e = absurd (false≢true e)
+ended-finishes nodes _ _ _ _ _ _ (as_key d outer at end text k) e = absurd (false≢true e)
+
+ready-finishes : (nodes : List TreeNode) (brackets : List Open) (phase : Phase) (place : ℕ) → is_end phase ≡ true → (t : Tree) × (finish (ready nodes brackets phase) place ≡ Ok t)
+ready-finishes nodes brackets (End n) place e = (record { nodes = nodes; top = n }, finish_whole nodes brackets n place)
+ready-finishes nodes brackets Value place e = absurd (false≢true e)
+ready-finishes nodes brackets Item place e = absurd (false≢true e)
+ready-finishes nodes brackets ItemEnd place e = absurd (false≢true e)
+ready-finishes nodes brackets Key place e = absurd (false≢true e)
+ready-finishes nodes brackets KeyEnd place e = absurd (false≢true e)
+ready-finishes nodes brackets PairEnd place e = absurd (false≢true e)
+
+awaiting-no_end : (phase : Phase) → IsAwaiting phase → is_end phase ≡ true → ⊥
+awaiting-no_end Value a e = false≢true e
+awaiting-no_end Item a e = false≢true e
+awaiting-no_end Key a e = a
+awaiting-no_end ItemEnd a e = a
+awaiting-no_end KeyEnd a e = a
+awaiting-no_end PairEnd a e = a
+awaiting-no_end (End n) a e = a
+
+-- ---- which rule
+
+deep_no_end : TooDeep ≡ UnexpectedEnd → ⊥
+deep_no_end e = cc
+
+deep_no_escape : TooDeep ≡ BadEscape → ⊥
+deep_no_escape e = cc
+
+trail_no_end : TrailingText ≡ UnexpectedEnd → ⊥
+trail_no_end e = cc
+
+trail_no_escape : TrailingText ≡ BadEscape → ⊥
+trail_no_escape e = cc
+
+byte_no_end : UnexpectedByte ≡ UnexpectedEnd → ⊥
+byte_no_end e = cc
+
+byte_no_escape : UnexpectedByte ≡ BadEscape → ⊥
+byte_no_escape e = cc
+
+deep_no_key : TooDeep ≡ DuplicateKey → ⊥
+deep_no_key e = cc
+
+trail_no_key : TrailingText ≡ DuplicateKey → ⊥
+trail_no_key e = cc
+
+byte_no_key : UnexpectedByte ≡ DuplicateKey → ⊥
+byte_no_key e = cc
+
+key_no_end : DuplicateKey ≡ UnexpectedEnd → ⊥
+key_no_end e = cc
+
+key_no_escape : DuplicateKey ≡ BadEscape → ⊥
+key_no_escape e = cc
+
+-- a character that nothing takes
+explain-stop : (front : List ℕ) (r u : Reader) (c : ℕ) (e : Refusal) → Reached front r → step r (width front) c ≡ Err e → length u.brackets ≡ length r.brackets → (is_end u.phase ≡ true → IsWhole front) → (IsWhole front → is_end u.phase ≡ true) → StopsAt (width front) c u e → IsExplained front c e
+explain-stop front r u c _ h s l w n (over o) = too_deep (not_in_escape front r c (refusal TooDeep (width front)) h s deep_no_end deep_no_escape) (not_twice front r c (refusal TooDeep (width front)) h s deep_no_key) (too_deep-of front r u c h l o)
+explain-stop front r u c _ h s l w n (behind o e) = trailing (not_in_escape front r c (refusal TrailingText (width front)) h s trail_no_end trail_no_escape) (not_twice front r c (refusal TrailingText (width front)) h s trail_no_key) (λ d. o (over-of front r u c h l d)) (w e)
+explain-stop front r u c _ h s l w n (other o e) = unexpected (not_in_escape front r c (refusal UnexpectedByte (width front)) h s byte_no_end byte_no_escape) (not_twice front r c (refusal UnexpectedByte (width front)) h s byte_no_key) (λ d. o (over-of front r u c h l d)) (λ k. both_ways (is_end u.phase) e (n k))
+
+same_bit : (m n : ℕ) → m ≡ n → ◌≡◌ {A = ℕ} (cond (eqb m n) 1 0) 1
+same_bit m n e = rw (eq-eqb m n e) refl
+
+explain-escape : (front text : List ℕ) (nodes : List TreeNode) (brackets : List Open) (phase : Phase) (at backslash : ℕ) (escape : EscapeState) → Reached front (in_token nodes brackets phase (Escape at backslash escape) text []) → EscapeIn front at backslash escape text → IsInEscape front backslash
+explain-escape front text nodes brackets phase at backslash escape r h =
+    let f = finishes escape h.first h.fits in
+    record { before = h.before; inner = h.inner; bytes = text; escape = h.first; more = f.0; character = f.1; parts = h.parts; place_is = h.back; string = begins; quoted = h.quoted; unfinished = some f.0 f.2; known = finished-escape escape h.first f.0 f.1 h.fits f.2 }
+  where
+    inside : width h.before < width front
+    inside = omega (arith, ap width h.parts, width-append (h.before ++ 34 ∷ h.inner) (92 ∷ h.first), width-append h.before (34 ∷ h.inner))
+
+    begins : HasText front h.before
+    begins = open-text front h.before (in_token nodes brackets phase (Escape at backslash escape) text []) r inside (same_bit at (width h.before) h.place)
+
+    some : (cs : List ℕ) → Reads escape cs (finishes escape h.first h.fits).1 → 0 < length cs
+    some [] r = absurd r
+    some (c ∷ cs) r = omega arith
+
+-- a key that stands twice, with the word or string that it is
+explain-twice : (front : List ℕ) (nodes : List TreeNode) (d : Dictionary) (outer : List Open) (token : Token) (at c : ℕ) (text before part whole : List ℕ) → Reached front (in_token nodes (Pairs d ∷ outer) Key token text []) → step (in_token nodes (Pairs d ∷ outer) Key token text []) (width front) c ≡ Err (refusal DuplicateKey at)
+    → begun_at at token ≡ 1 → StartOf (in_token nodes (Pairs d ∷ outer) Key token text []) front → (StartOf (in_token nodes (Pairs d ∷ outer) Key token text []) front → Started front at nodes (Pairs d ∷ outer) Key) → front ≡ before ++ part → at ≡ width before → 0 < width part → EndsText part c text whole
+    → KeyWay nodes d outer at (in_token nodes (Pairs d ∷ outer) Key token text []) (width front) → is_among text d.keys ≡ true → IsExplained front c (refusal DuplicateKey at)
+explain-twice front nodes d outer token at c text before part whole h x t y z parts place some ended way k =
+    let r = in_token nodes (Pairs d ∷ outer) Key token text [] in
+    let i = z y in
+    let g = twice-goes_on front nodes d outer token at text h way k in
+    let same : i.before ≡ before = prefix_same i.before before i.more part (sym i.parts ∙ parts) (sym i.place ∙ place) in
+    let start : Reached before (ready nodes (Pairs d ∷ outer) Key) = subst (λ (b : List ℕ). Reached b (ready nodes (Pairs d ∷ outer) Key)) same i.reached in
+    let inside : width before < width front = omega (arith, ap width parts, width-append before part, some) in
+    let open_here : begun_at (width before) token ≡ 1 = subst (λ (n : ℕ). begun_at n token ≡ 1) place t in
+    twice at (not_in_escape front r c (refusal DuplicateKey at) h x key_no_end key_no_escape) (record {
+      before = before;
+      text = part;
+      key = text;
+      whole = whole;
+      rest = g.rest;
+      other = g.other;
+      parts = parts;
+      place_is = place;
+      begins = open-text front before r h inside open_here;
+      ended = ended;
+      another = takes-key before nodes d outer start;
+      never = never-goes_on before nodes d outer c part text whole start ended k;
+      goes_on = g.spelled;
+      behind = g.behind;
+    })
+
+pub explain : (front : List ℕ) (r : Reader) (c : ℕ) (e : Refusal) → Reached front r → step r (width front) c ≡ Err e → Fails (width front) c r e → IsExplained front c e
+explain front _ c e h x (between_fails nodes brackets phase _ s) =
+    let r = ready nodes brackets phase in
+    explain-stop front r r c e h x refl (λ k. (let t = ready-finishes nodes brackets phase (width front) k in finishes-whole front r t.0 h t.1)) (λ w. whole-says front r h w) s
+explain front _ c e h x (word_fails nodes brackets phase at text u _ k s) =
+    let r = in_token nodes brackets phase (Word at) text [] in
+    explain-stop front r u c e h x (ended-length nodes brackets phase at (width front) text u k) (λ q. (let t = ended-finishes nodes brackets phase at (width front) text u k q in finishes-whole front r t.0 h t.1))
+    (λ w. ended-outside nodes brackets phase at (width front) text u k (ap length (whole-says front r h w))) s
+explain front _ c e h x (word_twice nodes d outer at text w k) =
+    let r = in_token nodes (Pairs d ∷ outer) Key (Word at) text [] in
+    let i : WordIn front at text = reached-token front r h in
+    explain-twice front nodes d outer (Word at) at c text i.before i.word i.word h x (same_bit at at refl) (reached-started front r h) (λ q. q) i.parts i.place (omega (arith, i.own.some, width-long i.word)) (inl (i.own, w, refl)) (way-any_word nodes d outer at (width front) text) k
+explain front _ c e h x (string_twice nodes d outer at text q k) =
+    let r = in_token nodes (Pairs d ∷ outer) Key (Quoted at) text [] in
+    let i : StringIn front at text = reached-token front r h in
+    explain-twice front nodes d outer (Quoted at) at c text i.before (34 ∷ i.inner) (34 ∷ (i.inner ++ 34 ∷ [])) h x (same_bit at at refl) (reached-started front r h) (λ z. z) i.parts i.place (omega arith) (inr (q, i.inner, refl, i.quoted, refl)) (way-any_string nodes d outer at (width front) text) k
+explain front _ c e h x (escape_fails nodes brackets phase at backslash text escape) =
+    bad_escape backslash (explain-escape front text nodes brackets phase at backslash escape h (reached-token front (in_token nodes brackets phase (Escape at backslash escape) text []) h))
+explain front _ c e h x (bytes_fail nodes brackets phase at bytes _ a s) =
+    let r = in_token nodes brackets phase (Bytes at) [] bytes in
+    explain-stop front r r c e h x refl (λ q. absurd (awaiting-no_end phase a q)) (λ w. absurd (whole-says front r h w)) s
+explain front _ c e h x (half_fails nodes brackets phase at high bytes _ a s) =
+    let r = in_token nodes brackets phase (Half at high) [] bytes in
+    explain-stop front r r c e h x refl (λ q. absurd (awaiting-no_end phase a q)) (λ w. absurd (whole-says front r h w)) s
 
 -- ---- the end
 
@@ -201,82 +295,28 @@ finish_in-end r place (Escape at backslash escape) g = refl
 finish_in-end r place (Bytes at) g = refl
 finish_in-end r place (Half at high) g = refl
 
-finish-end : (r : Reader) (place : ℕ) → Good r → IfErr (finish r place) (IsEnd place)
+pub finish-end : (r : Reader) (place : ℕ) → Good r → IfErr (finish r place) (IsEnd place)
 unfolding finish
 finish-end r place g = finish_in-end r place r.token (agrees_in r.token r g)
 
--- ---- where reading stops
+-- ---- why reading stops
 
-abbrev StopOf : Reader → ℕ → List ℕ → Refusal → Type 0
-StopOf s place [] e = finish s place ≡ Err e
-StopOf s place (c ∷ cs) e = step s place c ≡ Err e
-
-record Stopped (r : Reader) (place : ℕ) (cs : List ℕ) (e : Refusal) : Type 0 where
-  front : List ℕ
-  rest : List ℕ
-  state : Reader
-  good : Good state
-  parts : cs ≡ front ++ rest
-  leads : (more : List ℕ) → run r place (front ++ more) ≡ run state (place + width front) more
-  stop : StopOf state (place + width front) rest e
-
-same_error : {A : Type 0} (x e : Refusal) (d : Result A Refusal) → d ≡ Err x → d ≡ Err e → x ≡ e
-same_error x e d h k = cc
-
-stopped_step : (r : Reader) (place c : ℕ) (cs : List ℕ) (e : Refusal) (d : Result Reader Refusal) → step r place c ≡ d → Good r → IfOk d (Back r place c)
-    → ((s : Reader) → Good s → run s (place + len_utf8 c) cs ≡ Err e → Stopped s (place + len_utf8 c) cs e) → (d >>= (λ s. run s (place + len_utf8 c) cs)) ≡ Err e → Stopped r place (c ∷ cs) e
-stopped_step r place c cs e (Ok s) q g b next h =
-    let k = next s b.0 h in
-    let P : ℕ → Type 0 = λ x. StopOf k.state x k.rest e in
-    let moved : place + len_utf8 c + width k.front ≡ place + (len_utf8 c + width k.front) = omega arith in
-    record {
-      front = c ∷ k.front;
-      rest = k.rest;
-      state = k.state;
-      good = k.good;
-      parts = ap (λ x. c ∷ x) k.parts;
-      leads = λ more. run_step r s place c (k.front ++ more) q ∙ k.leads more ∙ run_same k.state k.state (place + len_utf8 c + width k.front) (place + (len_utf8 c + width k.front)) more refl moved;
-      stop = subst P moved k.stop;
-    }
-stopped_step r place c cs e (Err x) q g b next h =
-    let P : ℕ → Type 0 = λ y. StopOf r y (c ∷ cs) e in
-    let E : Refusal → Result Reader Refusal = λ y. Err y in
-    let none : place ≡ place + 0 = omega arith in
-    record { front = []; rest = c ∷ cs; state = r; good = g; parts = refl; leads = λ more. run_same r r place (place + 0) more refl none; stop = subst P none (q ∙ ap E (same_error x e ((Err x) >>= (λ s. run s (place + len_utf8 c) cs)) refl h)) }
-
-stopped : (cs : List ℕ) (r : Reader) (place : ℕ) (e : Refusal) → Good r → run r place cs ≡ Err e → Stopped r place cs e
-stopped [] r place e g h =
-    let P : ℕ → Type 0 = λ y. StopOf r y [] e in
-    let none : place ≡ place + 0 = omega arith in
-    record { front = []; rest = []; state = r; good = g; parts = refl; leads = λ more. run_same r r place (place + 0) more refl none; stop = subst P none h }
-stopped (c ∷ cs) r place e g h = stopped_step r place c cs e (step r place c) refl g (back-step r place c g) (λ s k q. stopped cs s (place + len_utf8 c) e k q) h
-
--- ---- nothing longer can begin a text
-
-no_tree : (e : Refusal) (t : Tree) (d : Result Tree Refusal) → d ≡ Err e → d ≡ Ok t → ⊥
-no_tree e t d h k = cc
-
-reason_of : (front rest : List ℕ) (s : Reader) (e : Refusal) → Good s → ((more : List ℕ) → run start 0 (front ++ more) ≡ run s (0 + width front) more) → StopOf s (0 + width front) rest e → IsReason front rest e
-reason_of front [] s e g leads stop = at_err (IsEnd (0 + width front)) (finish s (0 + width front)) e stop (finish-end s (0 + width front) g) ∙ ap (λ n. refusal UnexpectedEnd n) (omega arith)
-reason_of front (c ∷ cs) s e g leads stop = (
-  λ h. no_tree e (tree_of h.1) (run start 0 ((front ++ c ∷ []) ++ h.0))
-      (ap (λ x. run start 0 x) (append_assoc front (c ∷ []) h.0) ∙ leads (c ∷ h.0) ∙ ap (λ d. d >>= (λ r. run r (0 + width front + len_utf8 c) h.0)) stop)
-      (run-text_of h.1 ((front ++ c ∷ []) ++ h.0) h.2),
-  at_err (BlamesAt (width front)) (step s (0 + width front) c) e stop (blames-here s (width front) c g),
+reason_of : (front rest : List ℕ) (r : Reader) (e : Refusal) → Reached front r → StopOf r (width front) rest e → IsReason front rest e
+reason_of front [] r e h stop = (
+  reached-goes_on front r h,
+  λ w. (let t = whole-finishes front r h w in err_not_ok e t.0 (finish r (width front)) stop t.1),
+  at_err (IsEnd (width front)) (finish r (width front)) e stop (finish-end r (width front) (reached-good front r h)),
 )
-  where
-    blames-here : (s : Reader) (n c : ℕ) → Good s → IfErr (step s (0 + n) c) (BlamesAt n)
-    blames-here s n c g = let P : ℕ → Type 0 = λ m. IfErr (step s (0 + n) c) (BlamesAt m) in let e : 0 + n ≡ n = omega arith in subst P e (blames-step s (0 + n) c g)
-
-start-good : Good start
-unfolding start
-start-good = (tt, refl, refl)
+reason_of front (c ∷ cs) r e h stop = (
+  record { goes_on = reached-goes_on front r h; no_more = refused-stops front r c e h stop },
+  explain front r c e h stop (at_err (Fails (width front) c r) (step r (width front) c) e stop (fails r (width front) c (reached-good front r h))),
+)
 
 -- a text that is refused stops so
 pub run-refused : (cs : List ℕ) (e : Refusal) → run start 0 cs ≡ Err e → StopsIn cs e
 run-refused cs e h =
-    let k = stopped cs start 0 e start-good h in
-    record { front = k.front; rest = k.rest; parts = k.parts; reason = reason_of k.front k.rest k.state e k.good k.leads k.stop }
+    let k = stopped cs e h in
+    record { front = k.front; rest = k.rest; parts = k.parts; reason = reason_of k.front k.rest k.state e k.reached k.stop }
 
 -- each refusal that is answered is one of the source
 pub error-from_Gives : (source : List ℕ) (result : Result Tree ReadError) → IsUtf8 source → Gives (λ t. t) result (read_of source) → IfErr result (IsErrorOf source)

@@ -39,7 +39,7 @@ pub holds-known : {A : Type 0} (P : A → Type 0) (b : Bool) (x y : A) → (b �
 holds-known P true x y h k = h refl
 holds-known P false x y h k = k refl
 
-zero_digit : octal_value 48 ≡ Some 0
+pub zero_digit : octal_value 48 ≡ Some 0
 unfolding octal_value
 zero_digit = refl
 
@@ -88,7 +88,7 @@ means-unit2 a b x y c None e h g k = tt
 means-unit2 a b x y c (Some z) e h g k = unit3 a b c x y z h g k e
 
 -- four digits that don't begin as a low surrogate are none
-no_low : (x y z w : ℕ) → x < 16 → y < 16 → z < 16 → w < 16 → (eqb x 13 && leb 12 y) ≡ false → ¬ (IsLow (x * 4096 + y * 256 + z * 16 + w))
+pub no_low : (x y z w : ℕ) → x < 16 → y < 16 → z < 16 → w < 16 → (eqb x 13 && leb 12 y) ≡ false → ¬ (IsLow (x * 4096 + y * 256 + z * 16 + w))
 no_low x y z w hx hy hz hw k l =
     let first : x ≡ 13 = omega (arith, l.0, l.1) in
     let second : 12 ≤ y = omega (arith, first, l.0, l.1) in

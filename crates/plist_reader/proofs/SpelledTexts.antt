@@ -346,7 +346,7 @@ run-rest (c ∷ cs) r place g = if_ok-bind (Back r place c) (λ t. Rest r t plac
     (λ s b. IfOk-weaker (run s (place + len_utf8 c) cs) (λ t. Rest s t (place + len_utf8 c) cs) (λ t. Rest r t place (c ∷ cs)) (λ t h. b.1 t cs h) (run-rest cs s (place + len_utf8 c) b.0))
 
 -- a text with a tree
-abbrev Spelled : List ℕ → Tree → Type 0
+abbrev pub Spelled : List ℕ → Tree → Type 0
 Spelled cs t = (v : grammar.Value) × IsTextOf v cs × (t ≡ tree_of v)
 
 from_zero : (v : grammar.Value) (gap text : List ℕ) → Spells v 0 (0 + width gap) text → Spells v 0 (width gap) text

@@ -4,4 +4,5 @@ pub mod Grammar
 pub mod Keys
 pub mod Reading
 pub mod Refusals
+pub mod Sources
 pub mod Tree

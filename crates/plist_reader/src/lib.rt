@@ -9,7 +9,10 @@ mod source;
 mod stack;
 mod tree;
 
-pub use source::{read, trees_are_unique};
+pub use source::{
+    fronts_end_where_nothing_goes_on, read, sources_have_one_answer, trees_are_unique,
+    trees_stand_in_their_sources,
+};
 pub use tree::{Tree, TreeNode, TreeValue};
 
 #[cfg(test)]

@@ -1,8 +1,10 @@
-ghost use Rattle.std.specs.Prelude.{◌≡◌, ◌≤◌, length, IfOk, IfErr, Ok, List, ℕ};
+ghost use Rattle.std.specs.Prelude.{[], ◌∷◌, ◌++◌, ◌≡◌, ◌≤◌, length, ◌⊎◌, IfOk, IfErr, Ok, Err, List, ℕ};
 ghost use Rattle.refusal_codes.specs.Gives.{Gives};
 ghost use Rattle.plist_reader.specs.Tree.{IsTree, source_limit};
 ghost use Rattle.plist_reader.specs.Grammar.{HasTree};
-ghost use Rattle.plist_reader.specs.Refusals.{IsErrorOf};
+ghost use Rattle.plist_reader.specs.Refusals.{CanGoOn, IsErrorOf, IsRefusal};
+ghost use Rattle.refusal_codes.specs.declared.refusal.Refusal.{Refusal};
+ghost use Rattle.plist_reader.specs.Sources.{StandsInSource};
 ghost use Rattle.plist_reader.specs.declared.tree.Tree.{Tree};
 ghost use Rattle.plist_reader.specs.Reading.{refusal, read_of, run, start};
 ghost use Rattle.std.specs.Str.{chars};
@@ -18,8 +20,10 @@ use std::str;
 /// The errors are those of memory, and one refusal for each text that is no property list, at the byte that explains it.
 pub fn read(alloc: Global, source: &[u8]) -> Result<Tree, ReadError>
     requires { length source.now ≤ source_limit }
-    // A refusal names the end of the text, or a character with which no text with a tree goes on.
+    // A refusal names the end of the longest front with which some text with a tree begins.
     ensures refused { IfErr result (IsErrorOf source.now) }
+    // What is a refusal of the source is the refusal, unless memory runs out.
+    ensures refusals { (r : Refusal) → IsRefusal source.now r → Gives (λ t. t) result (Err r) }
     // What it answers is what its definition computes.
     ensures exact { Gives (λ t. t) result (read_of source.now) }
     // What is read is spelled so by the grammar.
@@ -51,4 +55,29 @@ fn read_text(alloc: Global, text: &str) -> Result<Tree, ReadError>
 /// A text has at most one tree.
 pub fn trees_are_unique()
     ensures { (source : List ℕ) (s t : Tree) → HasTree source s → HasTree source t → s ≡ t }
+{}
+
+/// A source has a tree or a refusal, not both, and no two refusals. Both are what the definition computes.
+pub fn sources_have_one_answer()
+    ensures either { (source : List ℕ) → ((t : Tree) × HasTree source t) ⊎ ((r : Refusal) × IsRefusal source r) }
+    ensures not_both { (source : List ℕ) (t : Tree) (r : Refusal) → HasTree source t → ¬ (IsRefusal source r) }
+    ensures one { (source : List ℕ) (r s : Refusal) → IsRefusal source r → IsRefusal source s → r ≡ s }
+    ensures tree_computed { (source : List ℕ) (t : Tree) → HasTree source t → read_of source ≡ Ok t }
+    ensures tree_of_computed { (source : List ℕ) (t : Tree) → read_of source ≡ Ok t → HasTree source t }
+    ensures refusal_computed { (source : List ℕ) (r : Refusal) → IsRefusal source r → read_of source ≡ Err r }
+    ensures refusal_of_computed { (source : List ℕ) (r : Refusal) → read_of source ≡ Err r → IsRefusal source r }
+{}
+
+/// Where the longest front of a text ends with which some text with a tree begins: each shorter front begins one too, so
+/// it ends where none begins with one character more. It may be measured in characters or in bytes, since of the
+/// characters of several bytes either each can follow a front or none.
+pub fn fronts_end_where_nothing_goes_on()
+    ensures shorter { (front more : List ℕ) → CanGoOn (front ++ more) → CanGoOn front }
+    ensures alike { (front : List ℕ) (c d : ℕ) → 128 ≤ c → 128 ≤ d → CanGoOn (front ++ c ∷ []) → CanGoOn (front ++ d ∷ []) }
+{}
+
+/// The values of a tree stand in its source, its texts are the bytes between their places after escapes are undone, at
+/// most 64 brackets are open at a place, and the keys of a dictionary differ.
+pub fn trees_stand_in_their_sources()
+    ensures { (source : List ℕ) (t : Tree) → HasTree source t → StandsInSource source t }
 {}

@@ -57,6 +57,18 @@ fn each_rule_refuses_at_its_place(rt: HostRuntime) {
         (b"{a=;}".as_slice(), Some((Rule::UnexpectedByte, 3))),
         (b"\"\xc3".as_slice(), Some((Rule::NotUtf8, 1))),
         (b"(\"\\Ud83d\\Ude00\\n\\101\",<0aF f>,\n)".as_slice(), None),
+        (b"{a=1;\"a\"=2;}".as_slice(), Some((Rule::DuplicateKey, 5))),
+        (b"{a=1;a".as_slice(), Some((Rule::UnexpectedEnd, 6))),
+        (b"{a=(1,2".as_slice(), Some((Rule::UnexpectedEnd, 7))),
+        (b"\xff".as_slice(), Some((Rule::NotUtf8, 0))),
+        (b"\"\\Ud83d\"".as_slice(), Some((Rule::BadEscape, 1))),
+        (b"\"\\Ud83d".as_slice(), Some((Rule::UnexpectedEnd, 7))),
+        (b"\"\\Ud83dx\"".as_slice(), Some((Rule::BadEscape, 1))),
+        (b"\"\\200\"".as_slice(), Some((Rule::BadEscape, 1))),
+        (b"<a>".as_slice(), Some((Rule::UnexpectedByte, 2))),
+        (b"<a b>".as_slice(), None),
+        (b"<ab c>".as_slice(), Some((Rule::UnexpectedByte, 5))),
+        (b"\"a\n\xc3\xa9\xf0\x9f\x98\x80\"".as_slice(), None),
     ];
     for (source, outcome) in cases {
         assert_eq!(rt; refused(rt.alloc(), source), outcome);
