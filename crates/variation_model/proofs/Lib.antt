@@ -7,3 +7,11 @@ pub mod Rows
 pub mod DeltaLemmas
 pub mod SupportSteps
 pub mod ModelLemmas
+pub mod OwnSupports
+pub mod EarlierPlaces
+pub mod LaterSupports
+pub mod RankLemmas
+pub mod KeyLemmas
+pub mod OrderLaws
+pub mod HalfLemmas
+pub mod ModelLaws

@@ -1,13 +1,12 @@
 -- What the parts of a model are: how many, and of which lengths.
-use Rattle.std.proofs.Common.{◌≡◌, ℕ, zero, suc, ◌+◌, ◌<◌, ◌≤◌, ◌^◌, List, [], ◌∷◌, ◌++◌, refl, sym, ap, subst, ◌∙◌, arith, length, get_or, map, ℤ, pos}
-use Rattle.std.proofs.lemmas.List.{get_or_default, get_or-map, length-map}
+use Rattle.std.proofs.Common.{◌≡◌, ℕ, ◌<◌, ◌^◌, List, [], sym, ap, subst, ◌∙◌, arith, length, get_or, map}
+use Rattle.std.proofs.lemmas.List.{get_or-map, length-map}
 use Rattle.std.proofs.lemmas.List.FromFn.{length-map-range_with_len, get_or-map-range_with_len}
 use Rattle.std.specs.Prelude.{EachIndex, All}
-use Rattle.std.specs.List.{range_with_len}
 use Rattle.fixed_math.specs.declared.F2Dot14.{F2Dot14}
 use Rattle.fixed_math.specs.declared.Fixed.{Fixed}
 use Rattle.font_ir.specs.declared.variation.Region.{Region}
-use Rattle.variation_model.specs.Places.{place_at, axis_count, ordered, order_of, of_rank, ranks, rank_among, keys_of, key, ArePlaces}
+use Rattle.variation_model.specs.Places.{place_at, axis_count, ordered, order_of, of_rank, ranks, rank_among, keys_of, key}
 use Rattle.variation_model.specs.Supports.{supports_of, supports_after}
 use Rattle.variation_model.specs.Deltas.{region_at, deltas_after, deltas_of, value_at_place}
 use Rattle.variation_model.specs.Parts.{IsModel}
@@ -18,10 +17,10 @@ pub length-order_of : (places : List (List F2Dot14)) → length (order_of places
 unfolding order_of
 length-order_of places = length-map-range_with_len (of_rank (ranks places)) 0 (length places)
 
-length-ranks : (places : List (List F2Dot14)) → length (ranks places) ≡ length places
+pub length-ranks : (places : List (List F2Dot14)) → length (ranks places) ≡ length places
 length-ranks places = length-map (keys_of places) (rank_among (keys_of places)) ∙ length-map places (key places)
 
-order_of-at : (places : List (List F2Dot14)) (k d : ℕ) → k < length places → get_or (order_of places) k d ≡ of_rank (ranks places) k
+pub order_of-at : (places : List (List F2Dot14)) (k d : ℕ) → k < length places → get_or (order_of places) k d ≡ of_rank (ranks places) k
 unfolding order_of
 order_of-at places k d h = get_or-map-range_with_len (of_rank (ranks places)) 0 (length places) k k d h (omega arith)
 

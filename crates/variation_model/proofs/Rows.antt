@@ -1,10 +1,10 @@
 -- Worked examples: places in 2.14, values in 16.16.
-use Rattle.std.specs.Prelude.{◌≡◌, ℕ, List, [], ◌∷◌, ℤ, pos, negsuc, Option, Some, None}
+use Rattle.std.specs.Prelude.{◌≡◌, ℕ, List, [], ◌∷◌, ℤ, pos, negsuc, Some, None}
 use Rattle.std.proofs.Common.{refl}
 use Rattle.fixed_math.specs.declared.F2Dot14.{F2Dot14}
 use Rattle.fixed_math.specs.declared.Fixed.{Fixed}
 use Rattle.font_ir.specs.declared.variation.Region.{Region}
-use Rattle.variation_model.specs.Places.{order_of, ordered}
+use Rattle.variation_model.specs.Places.{order_of}
 use Rattle.variation_model.specs.Supports.{supports_of}
 use Rattle.variation_model.specs.Scalar.{scalar_of}
 use Rattle.variation_model.specs.Deltas.{deltas_of, value_of, first_large, region_at}

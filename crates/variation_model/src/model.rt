@@ -1,6 +1,8 @@
 ghost use Rattle.std.specs.Prelude.{◌≡◌, ◌≢◌, ℕ, ◌-◌, ◌+◌, ◌*◌, ◌^◌, ◌<◌, ◌≤◌, ◌-ℤ◌, ◌*ℤ◌, Bool, true, false, List, [], map, unsigned_abs, All, MatchOption, IfOk, length, replicate, EachIndex, Contains};
 ghost use Rattle.variation_model.specs.Places.{ArePlaces, axis_count, place_at, zero_number, order_of};
 ghost use Rattle.fixed_math.specs.FixedPoint.{half_up};
+ghost use Rattle.fixed_math.specs.declared.Fixed.{Fixed};
+ghost use Rattle.variation_model.specs.Laws.{IsOrder, IsSorted, LaterSupportsCountNothing, MeetWithinHalf, OwnSupportsCountWhole, comes_before};
 ghost use Rattle.variation_model.specs.Scalar.{scalar_of};
 ghost use Rattle.variation_model.specs.Supports.{supports_after, supports_of};
 ghost use Rattle.variation_model.specs.Deltas.{GivesDeltas, deltas_after, deltas_of, is_storable, region_at, value_at_place, value_of};
@@ -44,6 +46,8 @@ impl Model {
         requires different { (i j : ℕ) → i < j → j < length places.now → place_at places.now i ≢ place_at places.now j }
         requires has_zero { Contains places.now (replicate (axis_count places.now) zero_number) }
         ensures places { IfOk result (λ model. model ≡ places.now) }
+        ensures own { IfOk result (λ model. OwnSupportsCountWhole model) }
+        ensures later { IfOk result (λ model. LaterSupportsCountNothing model) }
     {
         let order = positions(alloc, places)?;
         let supports = supports_in_order(alloc, places, order.as_slice())?;
@@ -57,14 +61,18 @@ impl Model {
 
     /// The positions of the places in the model's order.
     pub fn order(&self) -> &[u32]
-        ensures { result.now ≡ order_of self.now }
+        ensures value { result.now ≡ order_of self.now }
+        ensures sorted { IsSorted self.now result.now }
+        ensures compares { IsOrder (comes_before self.now) }
     {
         self.order.as_slice()
     }
 
     /// The region of each place, in the model's order.
     pub fn supports(&self) -> &[Region]
-        ensures { result.now ≡ supports_of self.now }
+        ensures value { result.now ≡ supports_of self.now }
+        ensures own { OwnSupportsCountWhole self.now }
+        ensures later { LaterSupportsCountNothing self.now }
     {
         self.supports.as_slice()
     }
@@ -73,7 +81,8 @@ impl Model {
     /// given them. Each is formed from the earlier ones as they are answered, and rounded to the nearest, a tie going up.
     pub fn deltas(&self, alloc: Global, values: &[Fixed]) -> Result<Vec<i16>, DeltaError>
         requires { length values.now ≡ length self.now }
-        ensures { GivesDeltas result (deltas_of self.now values.now) }
+        ensures deltas { GivesDeltas result (deltas_of self.now values.now) }
+        ensures within_half { IfOk result (λ deltas. MeetWithinHalf self.now values.now deltas.items) }
     {
         deltas_over(
             alloc,
@@ -88,7 +97,8 @@ impl Model {
     pub fn value_at(&self, deltas: &[i16], at: &[F2Dot14]) -> i64
         requires deltas { length deltas.now ≡ length self.now }
         requires axes { length at.now ≡ axis_count self.now }
-        ensures { result ≡ value_of (supports_of self.now) deltas.now at.now }
+        ensures value { result ≡ value_of (supports_of self.now) deltas.now at.now }
+        ensures within_half { (values : List Fixed) (i : ℕ) → deltas.now ≡ deltas_of self.now values → i < length self.now → at.now ≡ place_at self.now i → unsigned_abs (result -ℤ value_at_place values i) ≤ 32768 }
     {
         value_of(self.supports.as_slice(), deltas, at)
     }

@@ -1,10 +1,9 @@
-use Rattle.std.proofs.Common.{◌≡◌, ◌<◌, true, false, List, [], ap, ◌∙◌, sym, map, length, get_or, arith, rules, FitsSigned, to_z, of_z, to_z-of_z, Some, ℤ, ◌++◌, ◌∷◌}
+use Rattle.std.proofs.Common.{◌≡◌, ◌<◌, true, false, [], ap, ◌∙◌, map, length, arith, rules, FitsSigned, to_z-of_z, ◌++◌, ◌∷◌}
 use Rattle.std.proofs.lemmas.List.{length-map}
 use Rattle.std.specs.Int.{w16, w64}
-use Rattle.fixed_math.specs.declared.F2Dot14.{F2Dot14}
 use Rattle.variation_model.specs.Places.{place_at}
-use Rattle.variation_model.specs.Deltas.{deltas_after, is_storable, value_at_place, first_large}
-use Rattle.variation_model.proofs.DeltaLemmas.{AreDeltas, AreDeltas-more, AreDeltas-large, delta_at}
+use Rattle.variation_model.specs.Deltas.{deltas_after, is_storable, value_at_place}
+use Rattle.variation_model.proofs.DeltaLemmas.{AreDeltas-more, AreDeltas-large, delta_at}
 use Rattle.variation_model.proofs.model.deltas_over.Goals as goal
 
 pub returns-in-None : goal.returns-in-None

@@ -1,4 +1,4 @@
-use Rattle.std.proofs.Common.{◌≡◌, [], map}
+use Rattle.std.proofs.Common.{[], map}
 use Rattle.variation_model.specs.Places.{place_at}
 use Rattle.variation_model.specs.Deltas.{deltas_after, value_at_place}
 use Rattle.variation_model.proofs.DeltaLemmas.{AreDeltas}

@@ -1,7 +1,9 @@
 use Rattle.std.proofs.Common.{◌≡◌, List, [], map, ap, subst, length, sym, ◌∙◌, ℤ}
-use Rattle.variation_model.specs.Places.{place_at}
+use Rattle.fixed_math.specs.declared.F2Dot14.{F2Dot14}
+use Rattle.variation_model.specs.Places.{place_at, ArePlaces}
 use Rattle.variation_model.specs.Deltas.{GivesDeltas, deltas_after, deltas_of, value_at_place}
 use Rattle.variation_model.proofs.ModelLemmas.{model_few, model_one_each, model_positions, model_sides, model_deltas}
+use Rattle.variation_model.proofs.ModelLaws.{given_deltas_meet}
 use Rattle.variation_model.proofs.model.Model.deltas.Goals as goal
 
 pub deltas_over-requires-clause-few : goal.deltas_over-requires-clause-few
@@ -20,11 +22,17 @@ pub deltas_over-requires-clause-axes : goal.deltas_over-requires-clause-axes
 deltas_over-requires-clause-axes c =
     rw (c.as_slice.ensures.value, c.as_slice-2.ensures.value) (model_sides c.self.inside.places.items c.self.inside.order.items c.self.inside.supports.items c.self.invariant)
 
-pub returns : goal.returns
-returns c =
+pub returns-clause-deltas : goal.returns-clause-deltas
+returns-clause-deltas c =
     let seen : c.self.inside.places.items ≡ c.args.self.now = c.self.view_is in
     let values = c.args.values.now in
     let same : deltas_after c.as_slice.result.now [] (map (place_at c.as_slice-2.result.now) c.as_slice-3.result.now) (map (value_at_place values) c.as_slice-3.result.now) ≡ deltas_of c.args.self.now values =
     rw (c.as_slice.ensures.value, c.as_slice-2.ensures.value, c.as_slice-3.ensures.value) (model_deltas c.self.inside.places.items values c.self.inside.order.items c.self.inside.supports.items c.self.invariant ∙ ap (λ ps. deltas_of ps values) seen) in
     let P : List ℤ → Type 0 = λ ds. GivesDeltas c.deltas_over.result ds in
     subst P same c.deltas_over.ensures
+
+pub returns-clause-within_half : goal.returns-clause-within_half
+returns-clause-within_half c =
+    let P : List (List F2Dot14) → Type 0 = λ places. ArePlaces places in
+    let are = subst P c.self.view_is c.self.invariant.are_places in
+    given_deltas_meet c.deltas_over.result c.args.self.now c.args.values.now are (returns-clause-deltas c)

@@ -1,3 +1,8 @@
+use Rattle.std.proofs.Common.{List, sym, subst}
+use Rattle.fixed_math.specs.declared.F2Dot14.{F2Dot14}
+use Rattle.variation_model.specs.Laws.{LaterSupportsCountNothing}
+use Rattle.variation_model.proofs.OwnSupports.{own_supports}
+use Rattle.variation_model.proofs.LaterSupports.{later_supports}
 use Rattle.variation_model.proofs.ModelLemmas.{order_within, supports_of-parts}
 use Rattle.variation_model.proofs.model.Model.new.Goals as goal
 
@@ -12,3 +17,11 @@ invariant_of-result c =
       in_order = c.in_ok-order.ensures;
       are_supports = supports_of-parts c.args.places.now c.in_ok-order.order.items c.as_slice.result.now c.in_ok-supports.supports.items c.in_ok-order.ensures c.as_slice.ensures.value c.in_ok-supports.ensures;
     })
+
+pub returns-clause-own : goal.returns-clause-own
+returns-clause-own c = own_supports c.in_ok-places.places.items
+
+pub returns-clause-later : goal.returns-clause-later
+returns-clause-later c =
+    let P : List (List F2Dot14) → Type 0 = λ places. LaterSupportsCountNothing places in
+    subst P (sym c.in_ok-places.ensures) (later_supports c.args.places.now c.requires.one_length c.requires.different)

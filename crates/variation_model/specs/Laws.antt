@@ -1,0 +1,43 @@
+-- What holds of the order and of the supports of any places that a model has.
+use Rattle.std.specs.Prelude.{◌≡◌, ◌≢◌, ◌⊎◌, ℕ, ◌<◌, ◌≤◌, Bool, true, false, List, length, ℤ, pos, ◌-ℤ◌, unsigned_abs, All, Contains, EachIndex, slice_index_or}
+use Rattle.fixed_math.specs.declared.F2Dot14.{F2Dot14}
+use Rattle.fixed_math.specs.declared.Fixed.{Fixed}
+use Rattle.variation_model.specs.Places.{place_at, ordered, key, is_less_key}
+use Rattle.variation_model.specs.Supports.{supports_of}
+use Rattle.variation_model.specs.Scalar.{scalar_of}
+use Rattle.variation_model.specs.Deltas.{region_at, value_of, value_at_place}
+
+-- whether a place comes before another, among these places
+abbrev pub comes_before : List (List F2Dot14) → List F2Dot14 → List F2Dot14 → Bool
+comes_before places x y = is_less_key (key places x) (key places y)
+
+-- it is an order: no place comes before itself, and of two different places just one comes before the other
+pub record IsOrder (before : List F2Dot14 → List F2Dot14 → Bool) : Type 0 where
+  pub irreflexive : (x : List F2Dot14) → before x x ≡ false
+  pub transitive : (x y z : List F2Dot14) → before x y ≡ true → before y z ≡ true → before x z ≡ true
+  pub total : (x y : List F2Dot14) → length x ≡ length y → x ≢ y → (before x y ≡ true) ⊎ (before y x ≡ true)
+
+-- positions that name each place once, in that order
+pub record IsSorted (places : List (List F2Dot14)) (positions : List ℕ) : Type 0 where
+  pub as_many : length positions ≡ length places
+  pub within : All (λ i. i < length places) positions
+  pub each : (i : ℕ) → i < length places → Contains positions i
+  pub once : (j k : ℕ) → j < k → k < length places → slice_index_or positions j 0 ≢ slice_index_or positions k 0
+  pub rising : (j k : ℕ) → j < k → k < length places → comes_before places (place_at places (slice_index_or positions j 0)) (place_at places (slice_index_or positions k 0)) ≡ true
+
+-- the scalar that the support of the k-th place in the order has at the j-th
+abbrev pub scalar_between : List (List F2Dot14) → ℕ → ℕ → ℤ
+scalar_between places k j = scalar_of ((region_at (supports_of places) k).sides) (place_at (ordered places) j)
+
+-- a place's own support counts whole there
+abbrev pub OwnSupportsCountWhole : List (List F2Dot14) → Type 0
+OwnSupportsCountWhole places = EachIndex places (λ k. scalar_between places k k ≡ pos 65536)
+
+-- a later place's support counts nothing at an earlier place
+abbrev pub LaterSupportsCountNothing : List (List F2Dot14) → Type 0
+LaterSupportsCountNothing places = (j k : ℕ) → j < k → k < length places → scalar_between places k j ≡ pos 0
+
+-- what deltas give at each place differs from the value there by at most one half, in 16.16
+abbrev pub MeetWithinHalf : List (List F2Dot14) → List Fixed → List ℤ → Type 0
+MeetWithinHalf places values deltas =
+    EachIndex places (λ i. unsigned_abs (value_of (supports_of places) deltas (place_at places i) -ℤ value_at_place values i) ≤ 32768)
