@@ -15,3 +15,4 @@ pub mod KeyLemmas
 pub mod OrderLaws
 pub mod HalfLemmas
 pub mod ModelLaws
+pub mod RefusalLemmas

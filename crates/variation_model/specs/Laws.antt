@@ -1,11 +1,15 @@
 -- What holds of the order and of the supports of any places that a model has.
-use Rattle.std.specs.Prelude.{◌≡◌, ◌≢◌, ◌⊎◌, ℕ, ◌<◌, ◌≤◌, Bool, true, false, List, length, ℤ, pos, ◌-ℤ◌, unsigned_abs, All, Contains, EachIndex, slice_index_or}
+use Rattle.std.specs.Prelude.{◌≡◌, ◌≢◌, ◌⊎◌, ℕ, ◌<◌, ◌≤◌, Bool, true, false, List, length, ℤ, pos, ◌-ℤ◌, unsigned_abs, All, Contains, EachIndex, FitsSigned, slice_index_or, Result, Ok, Err, Vec}
+use Rattle.std.specs.Int.{w16}
+use Rattle.std.specs.declared.alloc.Global.{Global}
 use Rattle.fixed_math.specs.declared.F2Dot14.{F2Dot14}
 use Rattle.fixed_math.specs.declared.Fixed.{Fixed}
 use Rattle.variation_model.specs.Places.{place_at, ordered, key, is_less_key}
 use Rattle.variation_model.specs.Supports.{supports_of}
 use Rattle.variation_model.specs.Scalar.{scalar_of}
 use Rattle.variation_model.specs.Deltas.{region_at, value_of, value_at_place}
+use Rattle.variation_model.specs.declared.errors.DeltaError.{DeltaError}
+use Rattle.variation_model.specs.declared.errors.DeltaError.TheVariants as delta_errors
 
 -- whether a place comes before another, among these places
 abbrev pub comes_before : List (List F2Dot14) → List F2Dot14 → List F2Dot14 → Bool
@@ -41,3 +45,19 @@ LaterSupportsCountNothing places = (j k : ℕ) → j < k → k < length places �
 abbrev pub MeetWithinHalf : List (List F2Dot14) → List Fixed → List ℤ → Type 0
 MeetWithinHalf places values deltas =
     EachIndex places (λ i. unsigned_abs (value_of (supports_of places) deltas (place_at places i) -ℤ value_at_place values i) ≤ 32768)
+
+-- the delta at this number is outside an i16, and none before it is
+pub record IsFirstOutside (deltas : List ℤ) (at : ℕ) (value : ℤ) : Type 0 where
+  pub within : at < length deltas
+  pub there : slice_index_or deltas at (pos 0) ≡ value
+  pub outside : FitsSigned w16 value → ⊥
+  pub before : (k : ℕ) → k < at → FitsSigned w16 (slice_index_or deltas k (pos 0))
+
+-- deltas are answered only where all are in an i16, and too large is the first that isn't
+abbrev pub RefusesFirst : DeltaError → List ℤ → Type 0
+RefusesFirst (delta_errors.TooLarge at value) deltas = IsFirstOutside deltas at value
+RefusesFirst delta_errors.NoMemory deltas = Unit {0}
+
+abbrev pub RefusesFirstOutside : Result (Vec ℤ Global) DeltaError → List ℤ → Type 0
+RefusesFirstOutside (Ok answer) deltas = EachIndex deltas (λ k. FitsSigned w16 (slice_index_or deltas k (pos 0)))
+RefusesFirstOutside (Err e) deltas = RefusesFirst e deltas

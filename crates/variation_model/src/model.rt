@@ -2,7 +2,7 @@ ghost use Rattle.std.specs.Prelude.{◌≡◌, ◌≢◌, ℕ, ◌-◌, ◌+◌,
 ghost use Rattle.variation_model.specs.Places.{ArePlaces, axis_count, place_at, zero_number, order_of};
 ghost use Rattle.fixed_math.specs.FixedPoint.{half_up};
 ghost use Rattle.fixed_math.specs.declared.Fixed.{Fixed};
-ghost use Rattle.variation_model.specs.Laws.{IsOrder, IsSorted, LaterSupportsCountNothing, MeetWithinHalf, OwnSupportsCountWhole, comes_before};
+ghost use Rattle.variation_model.specs.Laws.{IsOrder, IsSorted, LaterSupportsCountNothing, MeetWithinHalf, OwnSupportsCountWhole, RefusesFirstOutside, comes_before};
 ghost use Rattle.variation_model.specs.Scalar.{scalar_of};
 ghost use Rattle.variation_model.specs.Supports.{supports_after, supports_of};
 ghost use Rattle.variation_model.specs.Deltas.{GivesDeltas, deltas_after, deltas_of, is_storable, region_at, value_at_place, value_of};
@@ -82,6 +82,7 @@ impl Model {
     pub fn deltas(&self, alloc: Global, values: &[Fixed]) -> Result<Vec<i16>, DeltaError>
         requires { length values.now ≡ length self.now }
         ensures deltas { GivesDeltas result (deltas_of self.now values.now) }
+        ensures too_large { RefusesFirstOutside result (deltas_of self.now values.now) }
         ensures within_half { IfOk result (λ deltas. MeetWithinHalf self.now values.now deltas.items) }
     {
         deltas_over(

@@ -3,6 +3,7 @@ use Rattle.fixed_math.specs.declared.F2Dot14.{F2Dot14}
 use Rattle.variation_model.specs.Places.{place_at, ArePlaces}
 use Rattle.variation_model.specs.Deltas.{GivesDeltas, deltas_after, deltas_of, value_at_place}
 use Rattle.variation_model.proofs.ModelLemmas.{model_few, model_one_each, model_positions, model_sides, model_deltas}
+use Rattle.variation_model.proofs.RefusalLemmas.{given_refuses_first}
 use Rattle.variation_model.proofs.ModelLaws.{given_deltas_meet}
 use Rattle.variation_model.proofs.model.Model.deltas.Goals as goal
 
@@ -36,3 +37,7 @@ returns-clause-within_half c =
     let P : List (List F2Dot14) → Type 0 = λ places. ArePlaces places in
     let are = subst P c.self.view_is c.self.invariant.are_places in
     given_deltas_meet c.deltas_over.result c.args.self.now c.args.values.now are (returns-clause-deltas c)
+
+pub returns-clause-too_large : goal.returns-clause-too_large
+returns-clause-too_large c =
+    given_refuses_first c.deltas_over.result (deltas_of c.args.self.now c.args.values.now) (returns-clause-deltas c)
