@@ -95,10 +95,10 @@ differs [] vs = false
 differs (p ∷ ps) [] = false
 differs (p ∷ ps) (v ∷ vs) = not (int_eq v.0 p.0) || differs ps vs
 
-abbrev pub Alike : List F2Dot14 → List F2Dot14 → Type 0
-Alike [] vs = Unit {0}
-Alike (p ∷ ps) [] = ⊥
-Alike (p ∷ ps) (v ∷ vs) = (int_eq p.0 (pos 0) ≡ int_eq v.0 (pos 0)) × Alike ps vs
+abbrev pub SameAxes : List F2Dot14 → List F2Dot14 → Type 0
+SameAxes [] vs = Unit {0}
+SameAxes (p ∷ ps) [] = ⊥
+SameAxes (p ∷ ps) (v ∷ vs) = (int_eq p.0 (pos 0) ≡ int_eq v.0 (pos 0)) × SameAxes ps vs
 
 -- a place with the same active axes that isn't inside is out
 out_of_side : (s p e v : ℤ) → int_eq p (pos 0) ≡ int_eq v (pos 0) → (cond (int_eq p (pos 0)) (int_eq v (pos 0)) (not (int_eq v (pos 0)) && (int_eq v p || (int_lt s v && int_lt v e)))) ≡ false → (not (int_eq p (pos 0) || int_eq v p) && (int_le v s || int_le e v)) ≡ true
@@ -107,7 +107,7 @@ out_of_side s p e v f g = grind (arith, ints)
 is_active_same : (side : Side) (p v : F2Dot14) → side.1.0 ≡ p.0 → int_eq p.0 (pos 0) ≡ int_eq v.0 (pos 0) → int_eq side.1.0 (pos 0) ≡ int_eq v.0 (pos 0)
 is_active_same side p v e f = ap (λ z. int_eq z (pos 0)) e ∙ f
 
-out_where_not_inside : (sides : List Side) (place vs : List F2Dot14) → Peaks sides place → Alike place vs → spec.all_inside sides vs ≡ false → some_out sides vs ≡ true
+out_where_not_inside : (sides : List Side) (place vs : List F2Dot14) → Peaks sides place → SameAxes place vs → spec.all_inside sides vs ≡ false → some_out sides vs ≡ true
 out_where_not_inside [] place vs p a e = cc
 out_where_not_inside (side ∷ sides) [] vs p a e = absurd p
 out_where_not_inside (side ∷ sides) (q ∷ qs) [] p a e = absurd a
@@ -246,14 +246,14 @@ hit_some_out most (side ∷ sides) (v ∷ vs) f g =
     (or_cases (is_hit most side v) (some_hit most sides vs) g)
 
 -- a place that takes away from a region is out of it then
-narrowed_out : (sides : List Side) (place vs : List F2Dot14) → Peaks sides place → Alike place vs → differs place vs ≡ true → some_out (spec.narrowed sides vs) vs ≡ true
+narrowed_out : (sides : List Side) (place vs : List F2Dot14) → Peaks sides place → SameAxes place vs → differs place vs ≡ true → some_out (spec.narrowed sides vs) vs ≡ true
 narrowed_out sides place vs p a d =
     let P : List Side → Type 0 = λ s. some_out s vs ≡ true in
     cond_both (spec.all_inside sides vs) (spec.cut_strongest (spec.strongest sides vs) sides vs) sides P
     (λ f. hit_some_out (spec.strongest sides vs) sides vs f (hit_somewhere sides place vs p d))
     (λ f. out_where_not_inside sides place vs p a f)
 
-pub becomes_out : (sides : List Side) (earlier : List (List F2Dot14)) (place : List F2Dot14) (i : ℕ) → i < length earlier → Peaks sides place → Alike place (get_or earlier i []) → differs place (get_or earlier i []) ≡ true → some_out (fold spec.narrowed sides earlier) (get_or earlier i []) ≡ true
+pub becomes_out : (sides : List Side) (earlier : List (List F2Dot14)) (place : List F2Dot14) (i : ℕ) → i < length earlier → Peaks sides place → SameAxes place (get_or earlier i []) → differs place (get_or earlier i []) ≡ true → some_out (fold spec.narrowed sides earlier) (get_or earlier i []) ≡ true
 becomes_out sides [] place i h p a d = absurd (omega arith)
 becomes_out sides (other ∷ rest) place zero h p a d =
     stays_out (spec.narrowed sides other) rest other (narrowed_out sides place other p a d)

@@ -12,7 +12,7 @@ use Rattle.variation_model.specs.Places.{place_at, ordered, order_of}
 use Rattle.variation_model.specs.Supports.{supports_of}
 use Rattle.variation_model.specs.Scalar.{scalar_of}
 use Rattle.variation_model.specs.Deltas.{value_of, region_at, deltas_after, deltas_of, value_at_place}
-use Rattle.variation_model.specs.Laws.{IsSorted, OwnSupportsCountWhole, LaterSupportsCountNothing, MeetWithinHalf}
+use Rattle.variation_model.specs.Laws.{IsInOrder, OwnSupportsCountWhole, LaterSupportsCountNothing, MeetWithinHalf}
 use Rattle.variation_model.proofs.ModelLemmas.{length-order_of, length-supports_of}
 
 -- regions that count nothing at a place
@@ -87,7 +87,7 @@ within_at regions earlier (place ∷ places) (value ∷ values) (suc i) h many l
     subst Q (append_assoc earlier (delta ∷ []) later)
     (within_at regions next places values i (omega arith) (omega arith) (omega arith) whole (subst P at rest))
 
-pub deltas_meet : (places : List (List F2Dot14)) (values : List Fixed) → IsSorted places (order_of places) → OwnSupportsCountWhole places → LaterSupportsCountNothing places → MeetWithinHalf places values (deltas_of places values)
+pub deltas_meet : (places : List (List F2Dot14)) (values : List Fixed) → IsInOrder places (order_of places) → OwnSupportsCountWhole places → LaterSupportsCountNothing places → MeetWithinHalf places values (deltas_of places values)
 unfolding deltas_of
 deltas_meet places values sorted own later i h =
     let order = order_of places in

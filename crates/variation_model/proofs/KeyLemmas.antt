@@ -90,7 +90,7 @@ same_coordinates (c ∷ cs) (d ∷ ds) e f g =
     same_list c d cs ds pair (same_coordinates cs ds axes signs sizes)
 
 -- the active coordinates tell a place of so many axes
-abbrev active_from : ℕ → List F2Dot14 → List (ℕ × F2Dot14)
+abbrev pub active_from : ℕ → List F2Dot14 → List (ℕ × F2Dot14)
 active_from n place = filter spec.is_active (enumerate_from n place)
 
 first_of : (b : Bool) (x c : ℕ × F2Dot14) (xs cs : List (ℕ × F2Dot14)) → cond (not b) (x ∷ xs) xs ≡ c ∷ cs → (x ≡ c) ⊎ (xs ≡ c ∷ cs)
@@ -119,7 +119,7 @@ both_kept false false x y xs ys f g e =
 both_zero : (x y : ℤ) → int_eq x (pos 0) ≡ true → int_eq y (pos 0) ≡ true → x ≡ y
 both_zero x y e f = grind (arith, ints)
 
-same_active : (n : ℕ) (ps vs : List F2Dot14) → length ps ≡ length vs → active_from n ps ≡ active_from n vs → ps ≡ vs
+pub same_active : (n : ℕ) (ps vs : List F2Dot14) → length ps ≡ length vs → active_from n ps ≡ active_from n vs → ps ≡ vs
 same_active n [] [] e f = refl
 same_active n [] (v ∷ vs) e f = absurd (omega arith)
 same_active n (p ∷ ps) [] e f = absurd (omega arith)

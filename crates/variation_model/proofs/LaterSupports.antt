@@ -12,12 +12,12 @@ use Rattle.variation_model.specs.Places.{zero_number, place_at, is_active, activ
 use Rattle.variation_model.specs.Supports as spec
 use Rattle.variation_model.specs.Scalar.{scalar_of}
 use Rattle.variation_model.specs.Deltas.{region_at}
-use Rattle.variation_model.specs.Laws.{comes_before, IsSorted, LaterSupportsCountNothing}
+use Rattle.variation_model.specs.Laws.{comes_before, IsInOrder, LaterSupportsCountNothing}
 use Rattle.variation_model.proofs.ModelLemmas.{length-order_of, ordered_length}
 use Rattle.variation_model.proofs.KeyLemmas.{no_more_active}
-use Rattle.variation_model.proofs.OrderLaws.{order_IsSorted, comes_before_IsOrder}
+use Rattle.variation_model.proofs.OrderLaws.{order_IsInOrder, comes_before_IsOrder}
 use Rattle.variation_model.proofs.OwnSupports.{Side, widest_Peaks}
-use Rattle.variation_model.proofs.EarlierPlaces.{is_out, some_out, nothing_from, stays_out, differs, Alike, becomes_out}
+use Rattle.variation_model.proofs.EarlierPlaces.{is_out, some_out, nothing_from, stays_out, differs, SameAxes, becomes_out}
 
 -- whether an axis that is active in a place isn't in another
 abbrev is_missing : F2Dot14 → F2Dot14 → Bool
@@ -88,7 +88,7 @@ as_many n (p ∷ ps) (v ∷ vs) e f =
     let others = as_many (n + 1) ps vs (omega arith) ((or_parts (is_missing p v) (some_missing ps vs) f).1) in
     omega (arith, length-kept (int_eq p.0 (pos 0)) (n, p) (active_from (n + 1) ps), length-kept (int_eq v.0 (pos 0)) (n, v) (active_from (n + 1) vs), own, others)
 
-alike : (n : ℕ) (ps vs : List F2Dot14) → length ps ≡ length vs → some_missing ps vs ≡ false → length (active_from n vs) ≤ length (active_from n ps) → Alike ps vs
+alike : (n : ℕ) (ps vs : List F2Dot14) → length ps ≡ length vs → some_missing ps vs ≡ false → length (active_from n vs) ≤ length (active_from n ps) → SameAxes ps vs
 alike n [] vs e f h = tt
 alike n (p ∷ ps) [] e f h = absurd (omega arith)
 alike n (p ∷ ps) (v ∷ vs) e f h =
@@ -148,7 +148,7 @@ support_at places earlier (place ∷ rest) (suc k) h =
     support_at places (earlier ++ place ∷ []) rest k (omega arith) ∙ ap (λ (e : List (List F2Dot14)). spec.support places e (place_at rest k)) (append_assoc earlier (place ∷ []) (take k rest))
 
 -- the places in their order rise
-rising_places : (places : List (List F2Dot14)) (j k : ℕ) → IsSorted places (order_of places) → j < k → k < length places → comes_before places (place_at (ordered places) j) (place_at (ordered places) k) ≡ true
+pub rising_places : (places : List (List F2Dot14)) (j k : ℕ) → IsInOrder places (order_of places) → j < k → k < length places → comes_before places (place_at (ordered places) j) (place_at (ordered places) k) ≡ true
 rising_places places j k sorted h l =
     let as_many = length-order_of places in
     let first : place_at (ordered places) j ≡ place_at places (get_or (order_of places) j 0) =
@@ -164,7 +164,7 @@ later_supports places one_length different j k h l =
     let as_many : length in_order ≡ length places = length-map (order_of places) (place_at places) ∙ length-order_of places in
     let first = place_at in_order j in
     let second = place_at in_order k in
-    let before = rising_places places j k (order_IsSorted places one_length different) h l in
+    let before = rising_places places j k (order_IsInOrder places one_length different) h l in
     let earlier = take k in_order in
     let same : get_or earlier j [] ≡ first = get_or-take k in_order j [] h in
     let within : j < length earlier = omega (arith, length-take-le k in_order) in

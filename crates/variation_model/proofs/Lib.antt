@@ -13,6 +13,8 @@ pub mod LaterSupports
 pub mod RankLemmas
 pub mod KeyLemmas
 pub mod OrderLaws
+pub mod ZeroLemmas
+pub mod LackLemmas
 pub mod HalfLemmas
 pub mod ModelLaws
 pub mod RefusalLemmas

@@ -8,14 +8,15 @@ use Rattle.variation_model.specs.Places.{place_at, order_of, ArePlaces}
 use Rattle.variation_model.specs.Supports.{supports_of}
 use Rattle.variation_model.specs.Deltas.{GivesDeltas, value_of, deltas_of, value_at_place}
 use Rattle.variation_model.specs.declared.errors.DeltaError.{DeltaError}
-use Rattle.variation_model.specs.Laws.{IsSorted, LaterSupportsCountNothing, MeetWithinHalf}
+use Rattle.variation_model.specs.Laws.{IsEachWhatIsLacking, IsInOrder, LaterSupportsCountNothing, MeetWithinHalf}
 use Rattle.variation_model.proofs.OwnSupports.{own_supports}
 use Rattle.variation_model.proofs.LaterSupports.{later_supports}
-use Rattle.variation_model.proofs.OrderLaws.{order_IsSorted}
+use Rattle.variation_model.proofs.OrderLaws.{order_IsInOrder}
 use Rattle.variation_model.proofs.HalfLemmas.{deltas_meet}
+use Rattle.variation_model.proofs.LackLemmas.{deltas_lack}
 
-pub places_sorted : (places : List (List F2Dot14)) → ArePlaces places → IsSorted places (order_of places)
-places_sorted places are = order_IsSorted places are.one_length are.different
+pub places_sorted : (places : List (List F2Dot14)) → ArePlaces places → IsInOrder places (order_of places)
+places_sorted places are = order_IsInOrder places are.one_length are.different
 
 pub places_later : (places : List (List F2Dot14)) → ArePlaces places → LaterSupportsCountNothing places
 places_later places are = later_supports places are.one_length are.different
@@ -36,3 +37,9 @@ given_deltas_meet (Ok deltas) places values are given =
     let P : List ℤ → Type 0 = λ ds. MeetWithinHalf places values ds in
     subst P (sym given.0) (places_meet places values are)
 given_deltas_meet (Err e) places values are given = tt
+
+pub given_deltas_lack : (result : Result (Vec ℤ Global) DeltaError) (places : List (List F2Dot14)) (values : List Fixed) → GivesDeltas result (deltas_of places values) → IfOk result (λ deltas. IsEachWhatIsLacking places values deltas.items)
+given_deltas_lack (Ok deltas) places values given =
+    let P : List ℤ → Type 0 = λ ds. IsEachWhatIsLacking places values ds in
+    subst P (sym given.0) (deltas_lack places values)
+given_deltas_lack (Err e) places values given = tt

@@ -37,6 +37,9 @@ order_within places order e =
     let P : List ℕ → Type 0 = λ l. All (λ i. i < length places) l in
     subst P (sym e) (order_of-within places)
 
+pub length-ordered : (places : List (List F2Dot14)) → length (ordered places) ≡ length places
+length-ordered places = length-map (order_of places) (place_at places) ∙ length-order_of places
+
 -- the places in their order are as long as all places
 pub ordered_length : (places : List (List F2Dot14)) → EachIndex places (λ i. length (place_at places i) ≡ axis_count places) → EachIndex (ordered places) (λ k. length (place_at (ordered places) k) ≡ axis_count places)
 ordered_length places one_length k h =

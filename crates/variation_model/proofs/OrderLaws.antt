@@ -8,7 +8,7 @@ use Rattle.std.specs.Prelude.{EachIndex, Contains, unwrap_or}
 use Rattle.std.specs.List.{position_or_len}
 use Rattle.fixed_math.specs.declared.F2Dot14.{F2Dot14}
 use Rattle.variation_model.specs.Places as spec
-use Rattle.variation_model.specs.Laws.{comes_before, IsOrder, IsSorted}
+use Rattle.variation_model.specs.Laws.{comes_before, IsOrder, IsInOrder}
 use Rattle.variation_model.proofs.RankLemmas.{rank, rank_grows, rank_rises, rank_below, AllDiffer, ranked}
 use Rattle.variation_model.proofs.KeyLemmas.{less_key_IsStrict, same_key}
 use Rattle.variation_model.proofs.ModelLemmas.{length-order_of, order_of-within, order_of-at, length-ranks}
@@ -131,8 +131,8 @@ named places i differ h =
     let here : get_or order k i ≡ i = get_or_default order k i 0 there ∙ same in
     (k, there, here)
 
-pub order_IsSorted : (places : List (List F2Dot14)) → EachIndex places (λ i. length (spec.place_at places i) ≡ spec.axis_count places) → ((i j : ℕ) → i < j → j < length places → spec.place_at places i ≢ spec.place_at places j) → IsSorted places (spec.order_of places)
-order_IsSorted places one_length different =
+pub order_IsInOrder : (places : List (List F2Dot14)) → EachIndex places (λ i. length (spec.place_at places i) ≡ spec.axis_count places) → ((i j : ℕ) → i < j → j < length places → spec.place_at places i ≢ spec.place_at places j) → IsInOrder places (spec.order_of places)
+order_IsInOrder places one_length different =
     let differ = keys_differ places one_length different in
     let order = spec.order_of places in
     let many : length order ≡ length places = length-order_of places in

@@ -1,10 +1,11 @@
 -- What holds of the order and of the supports of any places that a model has.
-use Rattle.std.specs.Prelude.{◌≡◌, ◌≢◌, ◌⊎◌, ℕ, ◌<◌, ◌≤◌, Bool, true, false, List, length, ℤ, pos, ◌-ℤ◌, unsigned_abs, All, Contains, EachIndex, FitsSigned, slice_index_or, Result, Ok, Err, Vec}
+use Rattle.std.specs.Prelude.{◌≡◌, ◌≢◌, ◌⊎◌, ℕ, ◌<◌, ◌≤◌, Bool, true, false, List, length, replicate, take, ℤ, pos, ◌-ℤ◌, unsigned_abs, All, Contains, EachIndex, FitsSigned, slice_index_or, Result, Ok, Err, Vec}
 use Rattle.std.specs.Int.{w16}
 use Rattle.std.specs.declared.alloc.Global.{Global}
 use Rattle.fixed_math.specs.declared.F2Dot14.{F2Dot14}
 use Rattle.fixed_math.specs.declared.Fixed.{Fixed}
-use Rattle.variation_model.specs.Places.{place_at, ordered, key, is_less_key}
+use Rattle.fixed_math.specs.FixedPoint.{half_up}
+use Rattle.variation_model.specs.Places.{place_at, axis_count, zero_number, ordered, order_of, key, is_less_key}
 use Rattle.variation_model.specs.Supports.{supports_of}
 use Rattle.variation_model.specs.Scalar.{scalar_of}
 use Rattle.variation_model.specs.Deltas.{region_at, value_of, value_at_place}
@@ -22,12 +23,16 @@ pub record IsOrder (before : List F2Dot14 → List F2Dot14 → Bool) : Type 0 wh
   pub total : (x y : List F2Dot14) → length x ≡ length y → x ≢ y → (before x y ≡ true) ⊎ (before y x ≡ true)
 
 -- positions that name each place once, in that order
-pub record IsSorted (places : List (List F2Dot14)) (positions : List ℕ) : Type 0 where
+pub record IsInOrder (places : List (List F2Dot14)) (positions : List ℕ) : Type 0 where
   pub as_many : length positions ≡ length places
   pub within : All (λ i. i < length places) positions
   pub each : (i : ℕ) → i < length places → Contains positions i
   pub once : (j k : ℕ) → j < k → k < length places → slice_index_or positions j 0 ≢ slice_index_or positions k 0
   pub rising : (j k : ℕ) → j < k → k < length places → comes_before places (place_at places (slice_index_or positions j 0)) (place_at places (slice_index_or positions k 0)) ≡ true
+
+-- the first of the places in their order is the zero one
+abbrev pub IsZeroFirst : List (List F2Dot14) → Type 0
+IsZeroFirst places = place_at (ordered places) 0 ≡ replicate (axis_count places) zero_number
 
 -- the scalar that the support of the k-th place in the order has at the j-th
 abbrev pub scalar_between : List (List F2Dot14) → ℕ → ℕ → ℤ
@@ -40,6 +45,11 @@ OwnSupportsCountWhole places = EachIndex places (λ k. scalar_between places k k
 -- a later place's support counts nothing at an earlier place
 abbrev pub LaterSupportsCountNothing : List (List F2Dot14) → Type 0
 LaterSupportsCountNothing places = (j k : ℕ) → j < k → k < length places → scalar_between places k j ≡ pos 0
+
+-- each delta, in the places' order, is what the earlier ones lack of the value at its place, rounded
+abbrev pub IsEachWhatIsLacking : List (List F2Dot14) → List Fixed → List ℤ → Type 0
+IsEachWhatIsLacking places values deltas =
+    EachIndex places (λ k. slice_index_or deltas k (pos 0) ≡ half_up (value_at_place values (slice_index_or (order_of places) k 0) -ℤ value_of (supports_of places) (take k deltas) (place_at (ordered places) k)))
 
 -- what deltas give at each place differs from the value there by at most one half, in 16.16
 abbrev pub MeetWithinHalf : List (List F2Dot14) → List Fixed → List ℤ → Type 0

@@ -2,7 +2,7 @@ ghost use Rattle.std.specs.Prelude.{◌≡◌, ◌≢◌, ℕ, ◌-◌, ◌+◌,
 ghost use Rattle.variation_model.specs.Places.{ArePlaces, axis_count, place_at, zero_number, order_of};
 ghost use Rattle.fixed_math.specs.FixedPoint.{half_up};
 ghost use Rattle.fixed_math.specs.declared.Fixed.{Fixed};
-ghost use Rattle.variation_model.specs.Laws.{IsOrder, IsSorted, LaterSupportsCountNothing, MeetWithinHalf, OwnSupportsCountWhole, RefusesFirstOutside, comes_before};
+ghost use Rattle.variation_model.specs.Laws.{IsEachWhatIsLacking, IsOrder, IsInOrder, IsZeroFirst, LaterSupportsCountNothing, MeetWithinHalf, OwnSupportsCountWhole, RefusesFirstOutside, comes_before};
 ghost use Rattle.variation_model.specs.Scalar.{scalar_of};
 ghost use Rattle.variation_model.specs.Supports.{supports_after, supports_of};
 ghost use Rattle.variation_model.specs.Deltas.{GivesDeltas, deltas_after, deltas_of, is_storable, region_at, value_at_place, value_of};
@@ -62,8 +62,9 @@ impl Model {
     /// The positions of the places in the model's order.
     pub fn order(&self) -> &[u32]
         ensures value { result.now ≡ order_of self.now }
-        ensures sorted { IsSorted self.now result.now }
+        ensures sorted { IsInOrder self.now result.now }
         ensures compares { IsOrder (comes_before self.now) }
+        ensures zero_first { IsZeroFirst self.now }
     {
         self.order.as_slice()
     }
@@ -82,6 +83,7 @@ impl Model {
     pub fn deltas(&self, alloc: Global, values: &[Fixed]) -> Result<Vec<i16>, DeltaError>
         requires { length values.now ≡ length self.now }
         ensures deltas { GivesDeltas result (deltas_of self.now values.now) }
+        ensures lacking { IfOk result (λ deltas. IsEachWhatIsLacking self.now values.now deltas.items) }
         ensures too_large { RefusesFirstOutside result (deltas_of self.now values.now) }
         ensures within_half { IfOk result (λ deltas. MeetWithinHalf self.now values.now deltas.items) }
     {

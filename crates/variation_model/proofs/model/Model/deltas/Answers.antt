@@ -4,7 +4,7 @@ use Rattle.variation_model.specs.Places.{place_at, ArePlaces}
 use Rattle.variation_model.specs.Deltas.{GivesDeltas, deltas_after, deltas_of, value_at_place}
 use Rattle.variation_model.proofs.ModelLemmas.{model_few, model_one_each, model_positions, model_sides, model_deltas}
 use Rattle.variation_model.proofs.RefusalLemmas.{given_refuses_first}
-use Rattle.variation_model.proofs.ModelLaws.{given_deltas_meet}
+use Rattle.variation_model.proofs.ModelLaws.{given_deltas_lack, given_deltas_meet}
 use Rattle.variation_model.proofs.model.Model.deltas.Goals as goal
 
 pub deltas_over-requires-clause-few : goal.deltas_over-requires-clause-few
@@ -41,3 +41,7 @@ returns-clause-within_half c =
 pub returns-clause-too_large : goal.returns-clause-too_large
 returns-clause-too_large c =
     given_refuses_first c.deltas_over.result (deltas_of c.args.self.now c.args.values.now) (returns-clause-deltas c)
+
+pub returns-clause-lacking : goal.returns-clause-lacking
+returns-clause-lacking c =
+    given_deltas_lack c.deltas_over.result c.args.self.now c.args.values.now (returns-clause-deltas c)
