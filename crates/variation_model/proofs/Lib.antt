@@ -6,6 +6,7 @@ pub mod OrderLemmas
 pub mod Rows
 pub mod DeltaLemmas
 pub mod SupportSteps
+pub mod RowLemmas
 pub mod ModelLemmas
 pub mod OwnSupports
 pub mod EarlierPlaces

@@ -9,18 +9,18 @@ use Rattle.variation_model.proofs.model.Model.value_at.Goals as goal
 
 pub value_of-requires-clause-few : goal.value_of-requires-clause-few
 value_of-requires-clause-few c =
-    rw c.as_slice.ensures.value (model_few c.self.inside.places.items c.self.inside.order.items c.self.inside.supports.items c.self.invariant)
+    rw c.as_slice.ensures.value (model_few c.self.inside.places.items c.self.inside.order.items c.self.inside.supports.items c.self.inside.scalars.items c.self.invariant)
 
 pub value_of-requires-clause-enough : goal.value_of-requires-clause-enough
 value_of-requires-clause-enough c =
     let seen : c.self.inside.places.items ≡ c.args.self.now = c.self.view_is in
-    let many = model_as_many c.self.inside.places.items c.self.inside.order.items c.self.inside.supports.items c.self.invariant in
+    let many = model_as_many c.self.inside.places.items c.self.inside.order.items c.self.inside.supports.items c.self.inside.scalars.items c.self.invariant in
     rw c.as_slice.ensures.value (omega (arith, many, ap length seen))
 
 pub value_of-requires-clause-axes : goal.value_of-requires-clause-axes
 value_of-requires-clause-axes c =
     let seen : c.self.inside.places.items ≡ c.args.self.now = c.self.view_is in
-    rw c.as_slice.ensures.value (model_axes c.self.inside.places.items c.self.inside.order.items c.self.inside.supports.items c.args.at.now c.self.invariant (c.requires.axes ∙ sym (ap axis_count seen)))
+    rw c.as_slice.ensures.value (model_axes c.self.inside.places.items c.self.inside.order.items c.self.inside.supports.items c.self.inside.scalars.items c.args.at.now c.self.invariant (c.requires.axes ∙ sym (ap axis_count seen)))
 
 pub returns-clause-value : goal.returns-clause-value
 returns-clause-value c =
