@@ -128,3 +128,9 @@ steep = (at 0 ∷ at 0 ∷ []) ∷ (at 4096 ∷ at 8192 ∷ []) ∷ (at 16384 �
 steep_last : region_at (supports_of steep) 2 ≡ record { sides = (at 4096, at 16384, at 16384) ∷ (at 0, at 16384, at 16384) ∷ [] }
 unfolding supports_of order_of
 steep_last = refl
+
+-- where each delta is formed from the rounded ones before, the values 0, 1/2 and 9.8 have the deltas 0, 1 and 9; formed from
+-- unrounded ones the last would be 10, and miss the third master by 0.7
+slanted_rounded : deltas_of slanted (value (pos 0) ∷ value (pos 32768) ∷ value (pos 642253) ∷ []) ≡ pos 0 ∷ pos 1 ∷ pos 9 ∷ []
+unfolding deltas_of supports_of order_of
+slanted_rounded = refl

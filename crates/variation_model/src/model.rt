@@ -1,12 +1,12 @@
-ghost use Rattle.std.specs.Prelude.{◌≡◌, ◌≢◌, ℕ, ◌-◌, ◌+◌, ◌*◌, ◌^◌, ◌<◌, ◌≤◌, ◌-ℤ◌, ◌*ℤ◌, Bool, true, false, List, [], map, unsigned_abs, All, MatchOption, IfOk, length, replicate, EachIndex, Contains};
-ghost use Rattle.variation_model.specs.Places.{ArePlaces, axis_count, place_at, zero_number, order_of};
+ghost use Rattle.std.specs.Prelude.{◌≡◌, ◌≢◌, ℕ, ◌-◌, ◌+◌, ◌*◌, ◌^◌, ◌<◌, ◌≤◌, ◌-ℤ◌, ◌*ℤ◌, true, false, List, [], map, unsigned_abs, All, MatchOption, IfOk, length, replicate, EachIndex, Contains};
+ghost use Rattle.variation_model.specs.Places.{axis_count, place_at, zero_number, order_of};
 ghost use Rattle.fixed_math.specs.FixedPoint.{half_up};
 ghost use Rattle.fixed_math.specs.declared.Fixed.{Fixed};
 ghost use Rattle.variation_model.specs.Laws.{IsEachWhatIsLacking, IsOrder, IsInOrder, IsZeroFirst, LaterSupportsCountNothing, MeetWithinHalf, OwnSupportsCountWhole, RefusesFirstOutside, comes_before};
 ghost use Rattle.variation_model.specs.Scalar.{scalar_of};
 ghost use Rattle.variation_model.specs.Supports.{supports_after, supports_of};
 ghost use Rattle.variation_model.specs.Parts.{AreSmall, deltas_by, row_at, rows_from, scalars_at, weighted};
-ghost use Rattle.variation_model.specs.Deltas.{GivesDeltas, deltas_after, deltas_of, is_storable, region_at, value_at_place, value_of};
+ghost use Rattle.variation_model.specs.Deltas.{GivesDeltas, deltas_of, is_storable, region_at, value_at_place, value_of};
 
 use crate::errors::DeltaError;
 use crate::order::positions;
