@@ -1,14 +1,12 @@
 -- Steps of the loop that forms deltas.
-use Rattle.std.proofs.Common.{◌≡◌, ℕ, ◌+◌, ◌*◌, ◌<◌, ◌≤◌, ◌^◌, Bool, true, false, cond, ◌&&◌, List, [], ◌∷◌, ◌++◌, refl, sym, ap, ◌∙◌, arith, length, get_or, drop, map, append_assoc, append-nil, Option, Some, None, Ok, Err, ℤ, pos, negsuc, ◌+ℤ◌, ◌-ℤ◌, ◌*ℤ◌, ◌≤ℤ◌, ◌<ℤ◌, FitsSigned, length-append}
+use Rattle.std.proofs.Common.{◌≡◌, ℕ, ◌+◌, ◌*◌, ◌<◌, ◌≤◌, ◌^◌, Bool, true, false, cond, List, [], ◌∷◌, ◌++◌, refl, sym, ap, ◌∙◌, arith, length, get_or, drop, map, append_assoc, append-nil, Option, Some, None, ℤ, pos, negsuc, ◌+ℤ◌, ◌-ℤ◌, FitsSigned, length-append}
 use Rattle.std.proofs.lemmas.Int.{ints, fits_signed_from_abs}
 use Rattle.std.proofs.lemmas.List.{get_or_default, drop_all, get_or-map}
-use Rattle.std.specs.Prelude.{unsigned_abs, int_le, Vec}
-use Rattle.std.specs.Int.{w16, w32, w64}
+use Rattle.std.specs.Prelude.{unsigned_abs}
+use Rattle.std.specs.Int.{w32, w64}
 use Rattle.fixed_math.specs.FixedPoint.{half_up}
-use Rattle.fixed_math.specs.declared.F2Dot14.{F2Dot14}
-use Rattle.font_ir.specs.declared.variation.Region.{Region}
-use Rattle.variation_model.specs.Deltas.{value_of, deltas_after, is_storable, first_large, value_at_place}
-use Rattle.variation_model.specs.Places.{place_at}
+use Rattle.variation_model.specs.Deltas.{is_storable, first_large, value_at_place}
+use Rattle.variation_model.specs.Parts.{deltas_by, row_at, weighted}
 use Rattle.fixed_math.specs.declared.Fixed.{Fixed}
 use Rattle.variation_model.proofs.Steps.{step_both}
 use Rattle.variation_model.proofs.ValueLemmas.{abs_sum}
@@ -34,52 +32,48 @@ first_large-append at (x ∷ xs) ys e =
     chosen (is_storable x) (first_large (at + 1) (xs ++ ys)) (at, x) p.0 ∙ first_large-append (at + 1) xs ys p.1 ∙ ap (λ n. first_large n ys) same
 
 -- the deltas so far, of which each can be stored, and those to come are all deltas
-pub record AreDeltas (regions : List Region) (places : List (List F2Dot14)) (values total : List ℤ) (k : ℕ) (deltas : List ℤ) : Type 0 where
-  pub all : deltas ++ deltas_after regions deltas (drop k places) (drop k values) ≡ total
+pub record AreDeltas (rows : List (List Fixed)) (values total : List ℤ) (k : ℕ) (deltas : List ℤ) : Type 0 where
+  pub all : deltas ++ deltas_by (drop k rows) deltas (drop k values) ≡ total
   pub stored : first_large 0 deltas ≡ None
   pub counted : length deltas ≡ k
 
-pub AreDeltas-none : (regions : List Region) (places : List (List F2Dot14)) (values : List ℤ) → AreDeltas regions places values (deltas_after regions [] places values) 0 []
-AreDeltas-none regions places values = record { all = refl; stored = refl; counted = refl }
+pub AreDeltas-none : (rows : List (List Fixed)) (values : List ℤ) → AreDeltas rows values (deltas_by rows [] values) 0 []
+AreDeltas-none rows values = record { all = refl; stored = refl; counted = refl }
 
-opened : (regions : List Region) (places : List (List F2Dot14)) (values total : List ℤ) (k : ℕ) (deltas : List ℤ) (delta : ℤ) → k < length places → k < length values → AreDeltas regions places values total k deltas → delta ≡ half_up (get_or values k (pos 0) -ℤ value_of regions deltas (get_or places k [])) → deltas ++ (delta ∷ deltas_after regions (deltas ++ delta ∷ []) (drop (k + 1) places) (drop (k + 1) values)) ≡ total
-opened regions places values total k deltas delta h l f e =
-    ap (λ d. deltas ++ (d ∷ deltas_after regions (deltas ++ d ∷ []) (drop (k + 1) places) (drop (k + 1) values))) e ∙ sym (ap (λ (ds : List ℤ). deltas ++ ds) (step_both (deltas_after regions deltas) places values k [] (pos 0) h l)) ∙ f.all
+opened : (rows : List (List Fixed)) (values total : List ℤ) (k : ℕ) (deltas : List ℤ) (delta : ℤ) → k < length rows → k < length values → AreDeltas rows values total k deltas → delta ≡ half_up (get_or values k (pos 0) -ℤ weighted (row_at rows k) deltas) → deltas ++ (delta ∷ deltas_by (drop (k + 1) rows) (deltas ++ delta ∷ []) (drop (k + 1) values)) ≡ total
+opened rows values total k deltas delta h l f e =
+    ap (λ d. deltas ++ (d ∷ deltas_by (drop (k + 1) rows) (deltas ++ d ∷ []) (drop (k + 1) values))) e ∙ sym (ap (λ (ds : List ℤ). deltas ++ ds) (step_both (λ (rs : List (List Fixed)) (vs : List ℤ). deltas_by rs deltas vs) rows values k [] (pos 0) h l)) ∙ f.all
 
-pub AreDeltas-more : (regions : List Region) (places : List (List F2Dot14)) (values total : List ℤ) (k : ℕ) (deltas next : List ℤ) (delta : ℤ) → k < length places → k < length values → AreDeltas regions places values total k deltas → delta ≡ half_up (get_or values k (pos 0) -ℤ value_of regions deltas (get_or places k [])) → is_storable delta ≡ true → next ≡ deltas ++ delta ∷ [] → AreDeltas regions places values total (k + 1) next
-AreDeltas-more regions places values total k deltas next delta h l f e g n =
+pub AreDeltas-more : (rows : List (List Fixed)) (values total : List ℤ) (k : ℕ) (deltas next : List ℤ) (delta : ℤ) → k < length rows → k < length values → AreDeltas rows values total k deltas → delta ≡ half_up (get_or values k (pos 0) -ℤ weighted (row_at rows k) deltas) → is_storable delta ≡ true → next ≡ deltas ++ delta ∷ [] → AreDeltas rows values total (k + 1) next
+AreDeltas-more rows values total k deltas next delta h l f e g n =
     let counted = f.counted in
     let longer : length (deltas ++ delta ∷ []) ≡ k + 1 = omega (arith, length-append deltas (delta ∷ [])) in
     rw n (record {
-      all = append_assoc deltas (delta ∷ []) (deltas_after regions (deltas ++ delta ∷ []) (drop (k + 1) places) (drop (k + 1) values)) ∙ opened regions places values total k deltas delta h l f e;
+      all = append_assoc deltas (delta ∷ []) (deltas_by (drop (k + 1) rows) (deltas ++ delta ∷ []) (drop (k + 1) values)) ∙ opened rows values total k deltas delta h l f e;
       stored = first_large-append 0 deltas (delta ∷ []) f.stored ∙ chosen (is_storable delta) None (0 + length deltas, delta) g;
       counted = longer;
     })
 
 -- the first that can't be stored
-pub AreDeltas-large : (regions : List Region) (places : List (List F2Dot14)) (values total : List ℤ) (k : ℕ) (deltas : List ℤ) (delta : ℤ) → k < length places → k < length values → AreDeltas regions places values total k deltas → delta ≡ half_up (get_or values k (pos 0) -ℤ value_of regions deltas (get_or places k [])) → is_storable delta ≡ false → first_large 0 total ≡ Some (k, delta)
-AreDeltas-large regions places values total k deltas delta h l f e g =
-    let rest = deltas_after regions (deltas ++ delta ∷ []) (drop (k + 1) places) (drop (k + 1) values) in
+pub AreDeltas-large : (rows : List (List Fixed)) (values total : List ℤ) (k : ℕ) (deltas : List ℤ) (delta : ℤ) → k < length rows → k < length values → AreDeltas rows values total k deltas → delta ≡ half_up (get_or values k (pos 0) -ℤ weighted (row_at rows k) deltas) → is_storable delta ≡ false → first_large 0 total ≡ Some (k, delta)
+AreDeltas-large rows values total k deltas delta h l f e g =
+    let rest = deltas_by (drop (k + 1) rows) (deltas ++ delta ∷ []) (drop (k + 1) values) in
     let counted : 0 + length deltas ≡ k = let c = f.counted in omega arith in
-    ap (first_large 0) (sym (opened regions places values total k deltas delta h l f e)) ∙ first_large-append 0 deltas (delta ∷ rest) f.stored ∙ refused (is_storable delta) (first_large (0 + length deltas + 1) rest) (0 + length deltas, delta) g ∙ ap (λ n. Some (n, delta)) counted
+    ap (first_large 0) (sym (opened rows values total k deltas delta h l f e)) ∙ first_large-append 0 deltas (delta ∷ rest) f.stored ∙ refused (is_storable delta) (first_large (0 + length deltas + 1) rest) (0 + length deltas, delta) g ∙ ap (λ n. Some (n, delta)) counted
 
-no_more : (regions : List Region) (deltas : List ℤ) (values : List ℤ) → deltas_after regions deltas [] values ≡ []
-no_more regions deltas values = refl
-
-pub AreDeltas-all : (regions : List Region) (places : List (List F2Dot14)) (values total : List ℤ) (k : ℕ) (deltas : List ℤ) → length places ≤ k → AreDeltas regions places values total k deltas → (deltas ≡ total) × (first_large 0 total ≡ None)
-AreDeltas-all regions places values total k deltas h f =
-    let ends : deltas_after regions deltas (drop k places) (drop k values) ≡ [] =
-    ap (λ (ps : List (List F2Dot14)). deltas_after regions deltas ps (drop k values)) (drop_all k places h) in
+pub AreDeltas-all : (rows : List (List Fixed)) (values total : List ℤ) (k : ℕ) (deltas : List ℤ) → length rows ≤ k → AreDeltas rows values total k deltas → (deltas ≡ total) × (first_large 0 total ≡ None)
+AreDeltas-all rows values total k deltas h f =
+    let ends : deltas_by (drop k rows) deltas (drop k values) ≡ [] =
+    ap (λ (rs : List (List Fixed)). deltas_by rs deltas (drop k values)) (drop_all k rows h) in
     let same : deltas ≡ total = sym (append-nil deltas) ∙ ap (λ (ds : List ℤ). deltas ++ ds) (sym ends) ∙ f.all in
     (same, ap (first_large 0) (sym same) ∙ f.stored)
 
--- the value and the place that the order names
-pub delta_at : (regions : List Region) (places : List (List F2Dot14)) (values : List Fixed) (order : List ℕ) (k : ℕ) (item slice : List F2Dot14) (deltas deltas' : List ℤ) (delta : ℤ) → k < length order → get_or order k 0 < length places → item ≡ get_or places (get_or order k 0) item → slice ≡ item → deltas' ≡ deltas → delta ≡ half_up ((get_or values (get_or order k 0) (record { 0 = pos 0 })).0 -ℤ value_of regions deltas' slice) → delta ≡ half_up (get_or (map (value_at_place values) order) k (pos 0) -ℤ value_of regions deltas (get_or (map (place_at places) order) k []))
-delta_at regions places values order k item slice deltas deltas' delta h l at at_slice same e =
-    let is_place : slice ≡ get_or (map (place_at places) order) k [] =
-    at_slice ∙ at ∙ get_or_default places (get_or order k 0) item [] l ∙ sym (get_or-map (place_at places) order k 0 [] h) in
+-- the value that the order names, and the row
+pub delta_at : (rows : List (List Fixed)) (values : List Fixed) (order : List ℕ) (k : ℕ) (item slice : List Fixed) (deltas deltas' : List ℤ) (delta : ℤ) → k < length order → k < length rows → item ≡ get_or rows k item → slice ≡ item → deltas' ≡ deltas → delta ≡ half_up ((get_or values (get_or order k 0) (record { 0 = pos 0 })).0 -ℤ weighted slice deltas') → delta ≡ half_up (get_or (map (value_at_place values) order) k (pos 0) -ℤ weighted (row_at rows k) deltas)
+delta_at rows values order k item slice deltas deltas' delta h l at at_slice same e =
+    let is_row : slice ≡ row_at rows k = at_slice ∙ at ∙ get_or_default rows k item [] l in
     let value = value_at_place values (get_or order k 0) in
-    e ∙ ap (λ (ds : List ℤ). half_up (value -ℤ value_of regions ds slice)) same ∙ ap (λ (v : List F2Dot14). half_up (value -ℤ value_of regions deltas v)) is_place ∙ ap (λ z. half_up (z -ℤ value_of regions deltas (get_or (map (place_at places) order) k []))) (sym (get_or-map (value_at_place values) order k 0 (pos 0) h))
+    e ∙ ap (λ (ds : List ℤ). half_up (value -ℤ weighted slice ds)) same ∙ ap (λ (r : List Fixed). half_up (value -ℤ weighted r deltas)) is_row ∙ ap (λ z. half_up (z -ℤ weighted (row_at rows k) deltas)) (sym (get_or-map (value_at_place values) order k 0 (pos 0) h))
 
 abs_fits : (z : ℤ) → FitsSigned w32 z → unsigned_abs z ≤ 2147483648
 abs_fits (pos n) f = omega (arith, ints)

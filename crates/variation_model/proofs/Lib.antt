@@ -6,4 +6,16 @@ pub mod OrderLemmas
 pub mod Rows
 pub mod DeltaLemmas
 pub mod SupportSteps
+pub mod RowLemmas
 pub mod ModelLemmas
+pub mod OwnSupports
+pub mod EarlierPlaces
+pub mod LaterSupports
+pub mod RankLemmas
+pub mod KeyLemmas
+pub mod OrderLaws
+pub mod ZeroLemmas
+pub mod LackLemmas
+pub mod HalfLemmas
+pub mod ModelLaws
+pub mod RefusalLemmas

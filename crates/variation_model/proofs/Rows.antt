@@ -1,10 +1,10 @@
 -- Worked examples: places in 2.14, values in 16.16.
-use Rattle.std.specs.Prelude.{◌≡◌, ℕ, List, [], ◌∷◌, ℤ, pos, negsuc, Option, Some, None}
+use Rattle.std.specs.Prelude.{◌≡◌, ℕ, List, [], ◌∷◌, ℤ, pos, negsuc, Some, None}
 use Rattle.std.proofs.Common.{refl}
 use Rattle.fixed_math.specs.declared.F2Dot14.{F2Dot14}
 use Rattle.fixed_math.specs.declared.Fixed.{Fixed}
 use Rattle.font_ir.specs.declared.variation.Region.{Region}
-use Rattle.variation_model.specs.Places.{order_of, ordered}
+use Rattle.variation_model.specs.Places.{order_of}
 use Rattle.variation_model.specs.Supports.{supports_of}
 use Rattle.variation_model.specs.Scalar.{scalar_of}
 use Rattle.variation_model.specs.Deltas.{deltas_of, value_of, first_large, region_at}
@@ -65,18 +65,72 @@ corners = (at 0 ∷ at 0 ∷ []) ∷ (at 16384 ∷ at 0 ∷ []) ∷ (at 0 ∷ at
 abbrev corner_deltas : ℤ → ℤ → List ℤ
 corner_deltas side last = deltas_of corners (value (pos 0) ∷ value side ∷ value side ∷ value last ∷ [])
 
-corners_least : first_large 0 (corner_deltas (pos 1073676288) (negsuc 131071)) ≡ None
+corners_least : corner_deltas (pos 1073676288) (negsuc 131071) ≡ pos 0 ∷ pos 16383 ∷ pos 16383 ∷ negsuc 32767 ∷ []
 unfolding deltas_of supports_of order_of
 corners_least = refl
+
+corners_least_stored : first_large 0 (corner_deltas (pos 1073676288) (negsuc 131071)) ≡ None
+unfolding deltas_of supports_of order_of
+corners_least_stored = refl
 
 corners_below : first_large 0 (corner_deltas (pos 1073676288) (negsuc 196607)) ≡ Some (3, negsuc 32768)
 unfolding deltas_of supports_of order_of
 corners_below = refl
 
-corners_greatest : first_large 0 (corner_deltas (negsuc 1073676287) (pos 65536)) ≡ None
+corners_greatest : corner_deltas (negsuc 1073676287) (pos 65536) ≡ pos 0 ∷ negsuc 16382 ∷ negsuc 16382 ∷ pos 32767 ∷ []
 unfolding deltas_of supports_of order_of
 corners_greatest = refl
+
+corners_greatest_stored : first_large 0 (corner_deltas (negsuc 1073676287) (pos 65536)) ≡ None
+unfolding deltas_of supports_of order_of
+corners_greatest_stored = refl
 
 corners_above : first_large 0 (corner_deltas (negsuc 1073676287) (pos 131072)) ≡ Some (3, pos 32768)
 unfolding deltas_of supports_of order_of
 corners_above = refl
+
+-- two axes, and masters of every kind, listed out of order: the zero one is first; then those on the first axis, minus before
+-- plus and near before far; then that on the second axis; then those off the axes, of which the last has a number that no
+-- master has alone
+abbrev minus : ℕ → F2Dot14
+minus n = record { 0 = negsuc n }
+
+abbrev mixed : List (List F2Dot14)
+mixed =
+    (at 16384 ∷ at 16384 ∷ []) ∷ (at 4096 ∷ at 16384 ∷ []) ∷ (at 0 ∷ at 16384 ∷ []) ∷ (at 16384 ∷ at 0 ∷ [])
+    ∷ (at 0 ∷ at 0 ∷ []) ∷ (at 8192 ∷ at 0 ∷ []) ∷ (minus 16383 ∷ at 0 ∷ []) ∷ (at 8192 ∷ at 16384 ∷ []) ∷ []
+
+mixed_order : order_of mixed ≡ 4 ∷ 6 ∷ 5 ∷ 3 ∷ 2 ∷ 7 ∷ 0 ∷ 1 ∷ []
+unfolding order_of
+mixed_order = refl
+
+-- a region on the minus side, and one that two neighbours cut
+mixed_minus : region_at (supports_of mixed) 1 ≡ record { sides = (minus 16383, minus 16383, at 0) ∷ (at 0, at 0, at 0) ∷ [] }
+unfolding supports_of order_of
+mixed_minus = refl
+
+mixed_far : region_at (supports_of mixed) 3 ≡ record { sides = (at 8192, at 16384, at 16384) ∷ (at 0, at 0, at 0) ∷ [] }
+unfolding supports_of order_of
+mixed_far = refl
+
+-- where the ratios of two axes are the same, both are cut
+abbrev diagonal : List (List F2Dot14)
+diagonal = (at 0 ∷ at 0 ∷ []) ∷ (at 8192 ∷ at 8192 ∷ []) ∷ (at 16384 ∷ at 16384 ∷ []) ∷ []
+
+diagonal_last : region_at (supports_of diagonal) 2 ≡ record { sides = (at 8192, at 16384, at 16384) ∷ (at 8192, at 16384, at 16384) ∷ [] }
+unfolding supports_of order_of
+diagonal_last = refl
+
+-- and else the axis of the larger alone
+abbrev steep : List (List F2Dot14)
+steep = (at 0 ∷ at 0 ∷ []) ∷ (at 4096 ∷ at 8192 ∷ []) ∷ (at 16384 ∷ at 16384 ∷ []) ∷ []
+
+steep_last : region_at (supports_of steep) 2 ≡ record { sides = (at 4096, at 16384, at 16384) ∷ (at 0, at 16384, at 16384) ∷ [] }
+unfolding supports_of order_of
+steep_last = refl
+
+-- where each delta is formed from the rounded ones before, the values 0, 1/2 and 9.8 have the deltas 0, 1 and 9; formed from
+-- unrounded ones the last would be 10, and miss the third master by 0.7
+slanted_rounded : deltas_of slanted (value (pos 0) ∷ value (pos 32768) ∷ value (pos 642253) ∷ []) ≡ pos 0 ∷ pos 1 ∷ pos 9 ∷ []
+unfolding deltas_of supports_of order_of
+slanted_rounded = refl

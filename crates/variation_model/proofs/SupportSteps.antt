@@ -1,10 +1,10 @@
 -- The loop that makes all supports, and what they have in common.
 use Rattle.std.proofs.Common.{◌≡◌, ℕ, zero, suc, ◌+◌, ◌<◌, ◌≤◌, List, [], ◌∷◌, ◌++◌, refl, sym, ap, ◌∙◌, arith, length, get_or, map, take, drop, append_assoc, append-nil}
-use Rattle.std.proofs.lemmas.List.{get_or_default, take_more, map-append, length-map, drop_all, take_all}
+use Rattle.std.proofs.lemmas.List.{get_or_default, take_more, map-append, drop_all}
 use Rattle.std.specs.Prelude.{EachIndex}
 use Rattle.fixed_math.specs.declared.F2Dot14.{F2Dot14}
 use Rattle.font_ir.specs.declared.variation.Region.{Region}
-use Rattle.variation_model.specs.Places.{place_at, axis_count, ordered, order_of}
+use Rattle.variation_model.specs.Places.{place_at}
 use Rattle.variation_model.specs.Supports as spec
 use Rattle.variation_model.specs.Deltas.{region_at}
 use Rattle.variation_model.proofs.Steps.{step_one}

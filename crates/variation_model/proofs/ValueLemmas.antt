@@ -1,5 +1,5 @@
 -- Sums of deltas times scalars: a loop's steps, and how large they get.
-use Rattle.std.proofs.Common.{◌≡◌, ℕ, ◌+◌, ◌*◌, ◌<◌, ◌≤◌, ◌^◌, List, [], ◌∷◌, ◌++◌, refl, sym, ap, ◌∙◌, arith, length, get_or, drop, ℤ, pos, negsuc, ◌+ℤ◌, ◌-ℤ◌, ◌*ℤ◌, ◌≤ℤ◌, ◌<ℤ◌, FitsSigned, mul-le-mul}
+use Rattle.std.proofs.Common.{◌≡◌, ℕ, ◌+◌, ◌*◌, ◌<◌, ◌≤◌, ◌^◌, List, [], ◌∷◌, refl, sym, ap, ◌∙◌, arith, length, get_or, drop, ℤ, pos, negsuc, ◌+ℤ◌, ◌*ℤ◌, FitsSigned, mul-le-mul}
 use Rattle.std.proofs.lemmas.Int.{ints, unsigned_abs-mul, fits_signed_from_abs}
 use Rattle.std.proofs.lemmas.List.{get_or_default, drop_all}
 use Rattle.std.specs.Prelude.{unsigned_abs}
@@ -11,11 +11,11 @@ use Rattle.variation_model.specs.Deltas.{value_of, region_at}
 use Rattle.variation_model.proofs.Steps.{step_both}
 use Rattle.variation_model.proofs.ScalarLemmas.{IsScalar, scalar_of-IsScalar}
 
-abs_scalar : (s : ℤ) → IsScalar s → unsigned_abs s ≤ 65536
+pub abs_scalar : (s : ℤ) → IsScalar s → unsigned_abs s ≤ 65536
 abs_scalar (pos n) f = let high = f.high in omega (arith, ints)
 abs_scalar (negsuc n) f = let low = f.low in absurd (omega (arith, ints))
 
-abs_small : (d : ℤ) → FitsSigned w16 d → unsigned_abs d ≤ 32768
+pub abs_small : (d : ℤ) → FitsSigned w16 d → unsigned_abs d ≤ 32768
 abs_small (pos n) f = omega (arith, ints)
 abs_small (negsuc n) f = omega (arith, ints)
 
@@ -39,10 +39,10 @@ pub record SumsTo (regions : List Region) (deltas : List ℤ) (place : List F2Do
 pub SumsTo-none : (regions : List Region) (deltas : List ℤ) (place : List F2Dot14) → SumsTo regions deltas place 0 (pos 0)
 SumsTo-none regions deltas place = record { total = omega (arith, ints); within = omega arith }
 
-shifted : (sum term now rest total : ℤ) → now ≡ sum +ℤ term → (sum +ℤ (term +ℤ rest)) ≡ total → (now +ℤ rest) ≡ total
+pub shifted : (sum term now rest total : ℤ) → now ≡ sum +ℤ term → (sum +ℤ (term +ℤ rest)) ≡ total → (now +ℤ rest) ≡ total
 shifted sum term now rest total e f = omega (arith, ints)
 
-shifted_none : (sum rest total : ℤ) → rest ≡ pos 0 → (sum +ℤ rest) ≡ total → sum ≡ total
+pub shifted_none : (sum rest total : ℤ) → rest ≡ pos 0 → (sum +ℤ rest) ≡ total → sum ≡ total
 shifted_none sum rest total e f = omega (arith, ints)
 
 pub SumsTo-more : (regions : List Region) (deltas : List ℤ) (place : List F2Dot14) (i : ℕ) (region : Region) (sum term : ℤ) → i < length regions → i < length deltas → SumsTo regions deltas place i sum → region ≡ get_or regions i region → FitsSigned w16 (get_or deltas i (pos 0)) → term ≡ scalar_of region.sides place *ℤ get_or deltas i (pos 0) → SumsTo regions deltas place (i + 1) (sum +ℤ term)

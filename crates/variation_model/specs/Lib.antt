@@ -3,3 +3,4 @@ pub mod Supports
 pub mod Scalar
 pub mod Deltas
 pub mod Parts
+pub mod Laws

@@ -1,6 +1,6 @@
 -- The places of a variation model, and the order in which it takes them. A place is a list of normalised coordinates, one per
 -- axis. The order is fontc's own.
-use Rattle.std.specs.Prelude.{◌≡◌, ◌≢◌, ℕ, ◌+◌, ◌<◌, ◌^◌, Bool, true, false, not, ◌&&◌, ◌==◌, if◌then◌else◌, List, [], ◌∷◌, ◌++◌, length, map, replicate, slice_index_or, ℤ, pos, int_lt, unsigned_abs, filter, count_by, position, unwrap_or, Contains, EachIndex}
+use Rattle.std.specs.Prelude.{◌≡◌, ◌≢◌, ℕ, ◌<◌, ◌^◌, Bool, not, ◌&&◌, ◌==◌, if◌then◌else◌, List, [], ◌∷◌, ◌++◌, length, map, replicate, slice_index_or, pos, int_lt, unsigned_abs, filter, count_by, position, unwrap_or, Contains, EachIndex}
 use Rattle.std.specs.List.{enumerate_from, list_any, flat_map, range_with_len}
 use Rattle.std.specs.Ordering.{nat_cmp, is_lt, int_eq}
 use Rattle.std.specs.Cmp.Lexicographic.{slice_cmp}

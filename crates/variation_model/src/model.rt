@@ -1,9 +1,12 @@
-ghost use Rattle.std.specs.Prelude.{◌≡◌, ◌≢◌, ℕ, ◌-◌, ◌+◌, ◌*◌, ◌^◌, ◌<◌, ◌≤◌, ◌-ℤ◌, ◌*ℤ◌, Bool, true, false, List, [], map, unsigned_abs, All, MatchOption, IfOk, length, replicate, EachIndex, Contains};
-ghost use Rattle.variation_model.specs.Places.{ArePlaces, axis_count, place_at, zero_number, order_of};
+ghost use Rattle.std.specs.Prelude.{◌≡◌, ◌≢◌, ℕ, ◌-◌, ◌+◌, ◌*◌, ◌^◌, ◌<◌, ◌≤◌, ◌-ℤ◌, ◌*ℤ◌, true, false, List, [], map, unsigned_abs, All, MatchOption, IfOk, length, replicate, EachIndex, Contains};
+ghost use Rattle.variation_model.specs.Places.{axis_count, place_at, zero_number, order_of};
 ghost use Rattle.fixed_math.specs.FixedPoint.{half_up};
+ghost use Rattle.fixed_math.specs.declared.Fixed.{Fixed};
+ghost use Rattle.variation_model.specs.Laws.{IsEachWhatIsLacking, IsOrder, IsInOrder, IsZeroFirst, LaterSupportsCountNothing, MeetWithinHalf, OwnSupportsCountWhole, RefusesFirstOutside, comes_before};
 ghost use Rattle.variation_model.specs.Scalar.{scalar_of};
 ghost use Rattle.variation_model.specs.Supports.{supports_after, supports_of};
-ghost use Rattle.variation_model.specs.Deltas.{GivesDeltas, deltas_after, deltas_of, is_storable, region_at, value_at_place, value_of};
+ghost use Rattle.variation_model.specs.Parts.{AreSmall, deltas_by, row_at, rows_from, scalars_at, weighted};
+ghost use Rattle.variation_model.specs.Deltas.{GivesDeltas, deltas_of, is_storable, region_at, value_at_place, value_of};
 
 use crate::errors::DeltaError;
 use crate::order::positions;
@@ -21,6 +24,8 @@ pub struct Model {
     places: Vec<Location>,
     order: Vec<u32>,
     supports: Vec<Region>,
+    /// At each place, in the model's order, the scalars of the regions before its own.
+    scalars: Vec<Sequence<Fixed>>,
 }
 
 impl std::marker::Model for Model {
@@ -32,53 +37,65 @@ impl std::marker::Model for Model {
 
     ghost view = { λ m. m.places.items };
 
-    ghost invariant = { λ m. IsModel m.places.items m.order.items m.supports.items };
+    ghost invariant = { λ m. IsModel m.places.items m.order.items m.supports.items m.scalars.items };
 }
 
 impl Model {
-    /// The model of these places, which are normalised coordinates. It costs at most the cube of the number of places times
-    /// the number of axes; `deltas` then costs at most its square times the number of axes.
+    /// The model of these places, which are normalised coordinates. It takes time for at most the square of the number of
+    /// places times the number of axes, and keeps a scalar for each two places.
     pub fn new(alloc: Global, places: &[Location]) -> Result<Model, NoMemory>
         requires few { length places.now < 2 ^ 32 }
         requires one_length { EachIndex places.now (λ i. length (place_at places.now i) ≡ axis_count places.now) }
         requires different { (i j : ℕ) → i < j → j < length places.now → place_at places.now i ≢ place_at places.now j }
         requires has_zero { Contains places.now (replicate (axis_count places.now) zero_number) }
         ensures places { IfOk result (λ model. model ≡ places.now) }
+        ensures own { IfOk result (λ model. OwnSupportsCountWhole model) }
+        ensures later { IfOk result (λ model. LaterSupportsCountNothing model) }
     {
         let order = positions(alloc, places)?;
         let supports = supports_in_order(alloc, places, order.as_slice())?;
+        let scalars = scalars_in_order(alloc, supports.as_slice(), places, order.as_slice())?;
         let places = copies(alloc, places)?;
         Ok(Model {
             places,
             order,
             supports,
+            scalars,
         })
     }
 
     /// The positions of the places in the model's order.
     pub fn order(&self) -> &[u32]
-        ensures { result.now ≡ order_of self.now }
+        ensures value { result.now ≡ order_of self.now }
+        ensures sorted { IsInOrder self.now result.now }
+        ensures compares { IsOrder (comes_before self.now) }
+        ensures zero_first { IsZeroFirst self.now }
     {
         self.order.as_slice()
     }
 
     /// The region of each place, in the model's order.
     pub fn supports(&self) -> &[Region]
-        ensures { result.now ≡ supports_of self.now }
+        ensures value { result.now ≡ supports_of self.now }
+        ensures own { OwnSupportsCountWhole self.now }
+        ensures later { LaterSupportsCountNothing self.now }
     {
         self.supports.as_slice()
     }
 
     /// The deltas, in the model's order, of a value that has these numbers at the places, in the order in which the model was
-    /// given them. Each is formed from the earlier ones as they are answered, and rounded to the nearest, a tie going up.
+    /// given them. Each is formed from the earlier ones as they are answered, and rounded to the nearest, a tie going up. It
+    /// takes time for at most the square of the number of places, and memory for its answer alone.
     pub fn deltas(&self, alloc: Global, values: &[Fixed]) -> Result<Vec<i16>, DeltaError>
         requires { length values.now ≡ length self.now }
-        ensures { GivesDeltas result (deltas_of self.now values.now) }
+        ensures deltas { GivesDeltas result (deltas_of self.now values.now) }
+        ensures lacking { IfOk result (λ deltas. IsEachWhatIsLacking self.now values.now deltas.items) }
+        ensures too_large { RefusesFirstOutside result (deltas_of self.now values.now) }
+        ensures within_half { IfOk result (λ deltas. MeetWithinHalf self.now values.now deltas.items) }
     {
         deltas_over(
             alloc,
-            self.supports.as_slice(),
-            self.places.as_slice(),
+            self.scalars.as_slice(),
             self.order.as_slice(),
             values,
         )
@@ -88,7 +105,8 @@ impl Model {
     pub fn value_at(&self, deltas: &[i16], at: &[F2Dot14]) -> i64
         requires deltas { length deltas.now ≡ length self.now }
         requires axes { length at.now ≡ axis_count self.now }
-        ensures { result ≡ value_of (supports_of self.now) deltas.now at.now }
+        ensures value { result ≡ value_of (supports_of self.now) deltas.now at.now }
+        ensures within_half { (values : List Fixed) (i : ℕ) → deltas.now ≡ deltas_of self.now values → i < length self.now → at.now ≡ place_at self.now i → unsigned_abs (result -ℤ value_at_place values i) ≤ 32768 }
     {
         value_of(self.supports.as_slice(), deltas, at)
     }
@@ -124,26 +142,61 @@ fn copies(alloc: Global, places: &[Location]) -> Result<Vec<Location>, AllocErro
     Ok(copies)
 }
 
-/// The deltas over regions, whose places are told by their positions.
-fn deltas_over(
+/// At each place, told by its position, the scalars of the regions before its own.
+fn scalars_in_order(
     alloc: Global,
     regions: &[Region],
     places: &[Location],
     order: &[u32],
-    values: &[Fixed],
-) -> Result<Vec<i16>, DeltaError>
-    requires few { length regions.now < 2 ^ 32 }
+) -> Result<Vec<Sequence<Fixed>>, AllocError>
     requires one_each { length order.now ≡ length regions.now }
     requires positions { All (λ i. i < length places.now) order.now }
     requires one_length { EachIndex places.now (λ i. length (place_at places.now i) ≡ axis_count places.now) }
     requires axes { EachIndex regions.now (λ i. length (region_at regions.now i).sides ≡ axis_count places.now) }
-    requires values { length values.now ≡ length places.now }
-    ensures { GivesDeltas result (deltas_after regions.now [] (map (place_at places.now) order.now) (map (value_at_place values.now) order.now)) }
+    ensures { IfOk result (λ rows. rows.items ≡ rows_from regions.now 0 (map (place_at places.now) order.now)) }
+{
+    let mut rows = Vec::with_capacity(alloc, order.len())?;
+    for (k, i) in order.iter().enumerate() {
+        let row = scalars_at(alloc, &regions[..k], places[*i as usize].as_slice())?;
+        rows.push(Sequence::from_vec(row))?;
+    }
+    Ok(rows)
+}
+
+/// The scalars of regions at a place.
+fn scalars_at(
+    alloc: Global,
+    regions: &[Region],
+    place: &[F2Dot14],
+) -> Result<Vec<Fixed>, AllocError>
+    requires axes { EachIndex regions.now (λ i. length place.now ≡ length (region_at regions.now i).sides) }
+    ensures { IfOk result (λ row. row.items ≡ scalars_at regions.now place.now) }
+{
+    let mut row = Vec::with_capacity(alloc, regions.len())?;
+    for region in regions {
+        row.push(scalar(region, place))?;
+    }
+    Ok(row)
+}
+
+/// The deltas of values whose order is told by their positions, by the scalars that count at each.
+fn deltas_over(
+    alloc: Global,
+    rows: &[Sequence<Fixed>],
+    order: &[u32],
+    values: &[Fixed],
+) -> Result<Vec<i16>, DeltaError>
+    requires few { length rows.now < 2 ^ 32 }
+    requires one_each { length order.now ≡ length rows.now }
+    requires positions { All (λ i. i < length values.now) order.now }
+    requires earlier { EachIndex rows.now (λ k. length (row_at rows.now k) ≡ k) }
+    requires small { EachIndex rows.now (λ k. AreSmall (row_at rows.now k)) }
+    ensures { GivesDeltas result (deltas_by rows.now [] (map (value_at_place values.now) order.now)) }
 {
     let mut deltas = Vec::with_capacity(alloc, order.len())?;
     for (k, i) in order.iter().enumerate() {
-        let i = *i as usize;
-        let delta = next_delta(regions, deltas.as_slice(), places[i].as_slice(), values[i]);
+        let row = rows[k].as_slice();
+        let delta = next_delta(row, deltas.as_slice(), values[*i as usize]);
         match stored(delta) {
             Some(small) => deltas.push(small)?,
             None => {
@@ -166,14 +219,35 @@ fn stored(delta: i64) -> Option<i16>
     }
 }
 
-/// What a value lacks, after the earlier deltas, at its place, rounded.
-fn next_delta(regions: &[Region], deltas: &[i16], place: &[F2Dot14], value: Fixed) -> i64
-    requires few { length regions.now < 2 ^ 32 }
-    requires enough { length deltas.now < length regions.now }
-    requires axes { EachIndex regions.now (λ i. length place.now ≡ length (region_at regions.now i).sides) }
-    ensures { result ≡ half_up (value.0 -ℤ value_of regions.now deltas.now place.now) }
+/// What a value lacks of the earlier deltas, each times its scalar, rounded.
+fn next_delta(row: &[Fixed], deltas: &[i16], value: Fixed) -> i64
+    requires few { length deltas.now + 1 < 2 ^ 32 }
+    requires enough { length deltas.now ≤ length row.now }
+    requires small { AreSmall row.now }
+    ensures { result ≡ half_up (value.0 -ℤ weighted row.now deltas.now) }
 {
-    round_half_up(i64::from(value.0) - value_of(regions, deltas, place))
+    round_half_up(i64::from(value.0) - weighted(row, deltas))
+}
+
+/// The sum of deltas, each times its scalar.
+fn weighted(row: &[Fixed], deltas: &[i16]) -> i64
+    requires few { length deltas.now < 2 ^ 32 }
+    requires enough { length deltas.now ≤ length row.now }
+    requires small { AreSmall row.now }
+    ensures value { result ≡ weighted row.now deltas.now }
+    ensures within { unsigned_abs result ≤ 2147483648 * length deltas.now }
+{
+    let mut sum = 0i64;
+    for (i, delta) in deltas.iter().enumerate() {
+        sum += times(row[i], *delta);
+    }
+    sum
+}
+
+fn times(scalar: Fixed, delta: i16) -> i64
+    ensures { result ≡ scalar.0 *ℤ delta }
+{
+    i64::from(scalar.0) * i64::from(delta)
 }
 
 /// The sum of deltas, each times the scalar of its region at a place.

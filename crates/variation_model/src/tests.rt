@@ -1,4 +1,4 @@
-ghost use Rattle.std.specs.Prelude.{◌≡◌, pos, negsuc, [], ◌∷◌, IfOk};
+ghost use Rattle.std.specs.Prelude.{◌≡◌, pos, negsuc, [], ◌∷◌, IfOk, length};
 
 use super::*;
 use fixed_math::{F2Dot14, Fixed};
@@ -43,5 +43,75 @@ fn a_scalar_falls_from_the_peak(rt: HostRuntime) -> Result<(), Fail> {
     assert_eq!(rt; scalar(&region, [F2Dot14(4096)].as_slice()).0, 49155);
     assert_eq!(rt; scalar(&region, [F2Dot14(5461)].as_slice()).0, 65536);
     assert_eq!(rt; scalar(&region, [F2Dot14(16384)].as_slice()).0, 0);
+    Ok(())
+}
+
+fn on_one_axis(alloc: Global, x: i16) -> Result<Location, AllocError>
+    ensures { IfOk result (λ l. l ≡ record { 0 = x } ∷ []) }
+{
+    Ok(Sequence::from_vec(vec![in alloc; F2Dot14(x)]?))
+}
+
+#[test]
+fn regions_reach_to_their_neighbours(rt: HostRuntime) -> Result<(), Fail> {
+    let alloc = rt.alloc();
+    let places = vec![in alloc;
+        on_one_axis(alloc, 16384)?,
+        on_one_axis(alloc, 0)?,
+        on_one_axis(alloc, 5461)?,
+    ]?;
+    let model = Model::new(alloc, places.as_slice())?;
+    assert_eq!(rt; model.order(), [1, 2, 0].as_slice());
+    let mut told = Vec::new(alloc);
+    for region in model.supports() {
+        for side in region.sides.as_slice() {
+            told.push((side.0.0, side.1.0, side.2.0))?;
+        }
+    }
+    assert_eq!(rt;
+        told.as_slice(),
+        [(0, 0, 0), (0, 5461, 16384), (5461, 16384, 16384)].as_slice()
+    );
+    Ok(())
+}
+
+/// The first delta that is too large, with its number.
+fn too_large(alloc: Global, model: &Model, values: &[Fixed]) -> Option<(u32, i64)>
+    requires { length values.now ≡ length model.now }
+{
+    match model.deltas(alloc, values) {
+        Err(DeltaError::TooLarge { at, value }) => Some((at, value)),
+        _ => None,
+    }
+}
+
+#[test]
+fn the_first_delta_outside_is_told(rt: HostRuntime) -> Result<(), Fail> {
+    let alloc = rt.alloc();
+    let places = vec![in alloc;
+        place(alloc, 0, 0)?,
+        place(alloc, 16384, 0)?,
+        place(alloc, 0, 16384)?,
+        place(alloc, 16384, 16384)?,
+    ]?;
+    let model = Model::new(alloc, places.as_slice())?;
+    let far = Fixed(16383 * 65536);
+    let least = [Fixed(0), far, far, Fixed(-2 * 65536)];
+    let deltas = model.deltas(alloc, least.as_slice())?;
+    assert_eq!(rt; deltas.as_slice(), [0, 16383, 16383, -32768].as_slice());
+    let below = [Fixed(0), far, far, Fixed(-3 * 65536)];
+    assert_eq!(rt;
+        too_large(alloc, &model, below.as_slice()),
+        Some((3, -32769))
+    );
+    let near = Fixed(-16383 * 65536);
+    let greatest = [Fixed(0), near, near, Fixed(65536)];
+    let deltas = model.deltas(alloc, greatest.as_slice())?;
+    assert_eq!(rt; deltas.as_slice(), [0, -16383, -16383, 32767].as_slice());
+    let above = [Fixed(0), near, near, Fixed(2 * 65536)];
+    assert_eq!(rt;
+        too_large(alloc, &model, above.as_slice()),
+        Some((3, 32768))
+    );
     Ok(())
 }

@@ -1,33 +1,30 @@
-use Rattle.std.proofs.Common.{◌≡◌, ◌<◌, true, false, List, [], ap, ◌∙◌, sym, map, length, get_or, arith, rules, FitsSigned, to_z, of_z, to_z-of_z, Some, ℤ, ◌++◌, ◌∷◌}
+use Rattle.std.proofs.Common.{◌≡◌, ◌<◌, true, false, [], ap, ◌∙◌, map, length, arith, rules, FitsSigned, to_z-of_z, ◌++◌, ◌∷◌}
 use Rattle.std.proofs.lemmas.List.{length-map}
 use Rattle.std.specs.Int.{w16, w64}
-use Rattle.fixed_math.specs.declared.F2Dot14.{F2Dot14}
-use Rattle.variation_model.specs.Places.{place_at}
-use Rattle.variation_model.specs.Deltas.{deltas_after, is_storable, value_at_place, first_large}
-use Rattle.variation_model.proofs.DeltaLemmas.{AreDeltas, AreDeltas-more, AreDeltas-large, delta_at}
+use Rattle.variation_model.specs.Parts.{deltas_by}
+use Rattle.variation_model.specs.Deltas.{is_storable, value_at_place}
+use Rattle.variation_model.proofs.DeltaLemmas.{AreDeltas-more, AreDeltas-large, delta_at}
 use Rattle.variation_model.proofs.model.deltas_over.Goals as goal
 
 pub returns-in-None : goal.returns-in-None
 returns-in-None c =
-    let places = map (place_at c.args.places.now) c.args.order.now in
     let values = map (value_at_place c.args.values.now) c.args.order.now in
-    let some_place : c.loop-k.k < length places = omega (arith, length-map c.args.order.now (place_at c.args.places.now)) in
+    let some_row : c.loop-k.k < length c.args.rows.now = omega arith in
     let some_value : c.loop-k.k < length values = omega (arith, length-map c.args.order.now (value_at_place c.args.values.now)) in
-    let is_delta = delta_at c.args.regions.now c.args.places.now c.args.values.now c.args.order.now c.loop-k.k c.index-places-i.result c.as_slice-in-loop-k.result.now c.loop-k.deltas.items c.as_slice.result.now c.next_delta-delta.result c.loop-k-test.true (c.requires.positions c.loop-k.k 0 c.loop-k-test.true) c.index-places-i.is c.as_slice-in-loop-k.ensures c.as_slice.ensures.value c.next_delta-delta.ensures in
+    let is_delta = delta_at c.args.rows.now c.args.values.now c.args.order.now c.loop-k.k c.index-rows-k.result c.as_slice-row.result.now c.loop-k.deltas.items c.as_slice.result.now c.next_delta-delta.result c.loop-k-test.true some_row c.index-rows-k.is c.as_slice-row.ensures c.as_slice.ensures.value c.next_delta-delta.ensures in
     let fits : FitsSigned w64 c.next_delta-delta.result = search rules in
     let large : is_storable c.next_delta-delta.result ≡ false = rw (to_z-of_z fits) at c.in-None.ensures in
-    rw (to_z-of_z fits) (AreDeltas-large c.args.regions.now places values (deltas_after c.args.regions.now [] places values) c.loop-k.k c.loop-k.deltas.items c.next_delta-delta.result some_place some_value c.loop-k.invariant is_delta large)
+    rw (to_z-of_z fits) (AreDeltas-large c.args.rows.now values (deltas_by c.args.rows.now [] values) c.loop-k.k c.loop-k.deltas.items c.next_delta-delta.result some_row some_value c.loop-k.invariant is_delta large)
 
 pub loop-k-preserved : goal.loop-k-preserved
 loop-k-preserved c =
-    let places = map (place_at c.args.places.now) c.args.order.now in
     let values = map (value_at_place c.args.values.now) c.args.order.now in
-    let some_place : c.loop-k.k < length places = omega (arith, length-map c.args.order.now (place_at c.args.places.now)) in
+    let some_row : c.loop-k.k < length c.args.rows.now = omega arith in
     let some_value : c.loop-k.k < length values = omega (arith, length-map c.args.order.now (value_at_place c.args.values.now)) in
-    let is_delta = delta_at c.args.regions.now c.args.places.now c.args.values.now c.args.order.now c.loop-k.k c.index-places-i.result c.as_slice-in-loop-k.result.now c.loop-k.deltas.items c.as_slice.result.now c.next_delta-delta.result c.loop-k-test.true (c.requires.positions c.loop-k.k 0 c.loop-k-test.true) c.index-places-i.is c.as_slice-in-loop-k.ensures c.as_slice.ensures.value c.next_delta-delta.ensures in
+    let is_delta = delta_at c.args.rows.now c.args.values.now c.args.order.now c.loop-k.k c.index-rows-k.result c.as_slice-row.result.now c.loop-k.deltas.items c.as_slice.result.now c.next_delta-delta.result c.loop-k-test.true some_row c.index-rows-k.is c.as_slice-row.ensures c.as_slice.ensures.value c.next_delta-delta.ensures in
     let fits : FitsSigned w64 c.next_delta-delta.result = search rules in
     let small : is_storable c.next_delta-delta.result ≡ true = rw (to_z-of_z fits) at c.in-Some.ensures.0 in
     let same : c.in-Some.small ≡ c.next_delta-delta.result = rw (to_z-of_z fits) at c.in-Some.ensures.1 in
     let fits16 : FitsSigned w16 c.in-Some.small = search rules in
     let next : c.push.new.self.items ≡ c.loop-k.deltas.items ++ c.next_delta-delta.result ∷ [] = c.in_ok-push-in-Some.ensures.items ∙ ap (λ z. c.loop-k.deltas.items ++ z ∷ []) (to_z-of_z fits16 ∙ same) in
-    AreDeltas-more c.args.regions.now places values (deltas_after c.args.regions.now [] places values) c.loop-k.k c.loop-k.deltas.items c.push.new.self.items c.next_delta-delta.result some_place some_value c.loop-k.invariant is_delta small next
+    AreDeltas-more c.args.rows.now values (deltas_by c.args.rows.now [] values) c.loop-k.k c.loop-k.deltas.items c.push.new.self.items c.next_delta-delta.result some_row some_value c.loop-k.invariant is_delta small next

@@ -1,5 +1,5 @@
-use Rattle.std.proofs.Common.{◌≡◌, arith, FitsSigned, ◌*ℤ◌, ℤ, to_z-of_z}
-use Rattle.std.specs.Int.{w16, w32, w64}
+use Rattle.std.proofs.Common.{arith, FitsSigned, ◌*ℤ◌, to_z-of_z}
+use Rattle.std.specs.Int.{w64}
 use Rattle.variation_model.specs.Scalar.{scalar_of}
 use Rattle.variation_model.proofs.ValueLemmas.{term_fits}
 use Rattle.variation_model.proofs.model.term.Goals as goal

@@ -1,9 +1,8 @@
-use Rattle.std.proofs.Common.{◌≡◌, ◌<◌, ◌≤◌, ◌+ℤ◌, ◌*ℤ◌, ap, ◌∙◌, pos, get_or, length, arith, rules, FitsSigned, to_z, of_z, to_z-of_z}
+use Rattle.std.proofs.Common.{◌≡◌, ◌<◌, ◌≤◌, ◌+ℤ◌, ◌*ℤ◌, ap, ◌∙◌, pos, get_or, length, arith, rules, FitsSigned, to_z, to_z-of_z}
 use Rattle.std.specs.Prelude.{unsigned_abs}
 use Rattle.std.specs.Int.{w16, w64}
 use Rattle.variation_model.specs.Scalar.{scalar_of}
-use Rattle.variation_model.specs.Deltas.{value_of}
-use Rattle.variation_model.proofs.ValueLemmas.{SumsTo, SumsTo-more, SumsTo-all, sum_fits, term_within}
+use Rattle.variation_model.proofs.ValueLemmas.{SumsTo-more, SumsTo-all, sum_fits, term_within}
 use Rattle.variation_model.proofs.model.value_of.Goals as goal
 
 pub overflow_add-sum : goal.overflow_add-sum

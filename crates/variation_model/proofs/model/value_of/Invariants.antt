@@ -1,4 +1,3 @@
-use Rattle.std.proofs.Common.{◌≡◌}
 use Rattle.variation_model.proofs.ValueLemmas.{SumsTo}
 use Rattle.variation_model.proofs.model.value_of.Given as goal
 

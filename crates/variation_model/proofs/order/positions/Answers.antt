@@ -1,4 +1,4 @@
-use Rattle.std.proofs.Common.{◌≡◌, ap, ◌∙◌, length, arith}
+use Rattle.std.proofs.Common.{ap, ◌∙◌, arith}
 use Rattle.variation_model.specs.Places as spec
 use Rattle.variation_model.proofs.OrderLemmas.{ranged_more, order_from_ranks}
 use Rattle.variation_model.proofs.order.positions.Goals as goal

@@ -1,9 +1,6 @@
-use Rattle.std.proofs.Common.{◌≡◌, arith, to_z, of_z, false, pos, ◌-ℤ◌, sym, ◌∙◌}
+use Rattle.std.proofs.Common.{◌≡◌, arith, ◌-ℤ◌, sym, ◌∙◌}
 use Rattle.std.proofs.lemmas.Int.{ints, to_z-of_z}
-use Rattle.std.specs.Prelude.{int_lt, int_le}
-use Rattle.std.specs.Ordering.{int_eq}
 use Rattle.fixed_math.specs.FixedPoint.{ratio_of}
-use Rattle.variation_model.specs.Scalar.{axis_scalar, scalar_of}
 use Rattle.variation_model.proofs.ScalarLemmas.{falling}
 use Rattle.variation_model.proofs.scalars.on_axis.Goals as goal
 

@@ -1,4 +1,4 @@
-use Rattle.std.proofs.Common.{◌≡◌, ◌<◌, ◌≤◌, arith, length, pos, refl, ap}
+use Rattle.std.proofs.Common.{◌<◌, ◌≤◌, arith, length, refl, ap}
 use Rattle.std.proofs.lemmas.List.{drop_all}
 use Rattle.variation_model.specs.Scalar.{scalar_of}
 use Rattle.variation_model.proofs.ScalarLemmas.{one_IsScalar, scalar_fits, scalar_more}

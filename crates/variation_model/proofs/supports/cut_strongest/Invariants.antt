@@ -1,4 +1,4 @@
-use Rattle.std.proofs.Common.{◌≡◌, ◌++◌, length, take, drop}
+use Rattle.std.proofs.Common.{◌≡◌, ◌++◌, take, drop}
 use Rattle.variation_model.specs.Supports as spec
 use Rattle.variation_model.proofs.supports.cut_strongest.Given as goal
 

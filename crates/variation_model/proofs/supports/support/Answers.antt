@@ -1,4 +1,4 @@
-use Rattle.std.proofs.Common.{◌≡◌, ◌<◌, ◌≤◌, ◌++◌, List, length, get_or, drop, arith, ap, sym, ◌∙◌, map, take}
+use Rattle.std.proofs.Common.{◌≡◌, ◌≤◌, ◌++◌, List, length, get_or, drop, arith, ap, sym, ◌∙◌, map, take}
 use Rattle.std.proofs.lemmas.List.{take_at, take_all, length-map}
 use Rattle.std.specs.List.{fold}
 use Rattle.fixed_math.specs.declared.F2Dot14.{F2Dot14}
