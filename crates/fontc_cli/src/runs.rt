@@ -17,6 +17,10 @@ use whole_files::{ReadWholeError, read_whole, write_whole};
 const SOURCE_LIMIT: usize = 67_108_864;
 
 /// Runs the command that the words are, over these files and this console.
+///
+/// The words are those behind the program's name: `build IN OUT`. The report says how the run ended: the font of what IN held
+/// stands in OUT; or the words are no command, the source is refused, a read of IN or a write of OUT failed, or memory ran out.
+/// Only a font that is whole in memory is begun to be written. Nothing is printed yet.
 pub fn run<F: Files, C: Console, G: Gate + Sync>(
     alloc: Global,
     words: &[String],
@@ -26,11 +30,12 @@ pub fn run<F: Files, C: Console, G: Gate + Sync>(
 ) -> Report
     ensures ends { RunEnds (command_of (map string_bytes words.now)) result.status (outside F.holds F.failed_reads F.failed_writes files.old) (outside F.holds F.failed_reads F.failed_writes files.new) }
     ensures complete { IsComplete (command_of (map string_bytes words.now)) result.status (outside F.holds F.failed_reads F.failed_writes files.old) (outside F.holds F.failed_reads F.failed_writes files.new) }
+    ensures silent { console.new ≡ console.old }
 {
     run_alone(alloc, words, files, console)
 }
 
-/// Runs the command that the words are, over these files and this console. It waits for nobody.
+/// Runs the command that the words are, as `run` does, and waits for nobody.
 pub fn run_alone<F: Files, C: Console>(
     alloc: Global,
     words: &[String],
@@ -39,6 +44,7 @@ pub fn run_alone<F: Files, C: Console>(
 ) -> Report
     ensures ends { RunEnds (command_of (map string_bytes words.now)) result.status (outside F.holds F.failed_reads F.failed_writes files.old) (outside F.holds F.failed_reads F.failed_writes files.new) }
     ensures complete { IsComplete (command_of (map string_bytes words.now)) result.status (outside F.holds F.failed_reads F.failed_writes files.old) (outside F.holds F.failed_reads F.failed_writes files.new) }
+    ensures silent { _console.new ≡ _console.old }
 {
     let status = match read_command(words) {
         None => Status::Usage,
