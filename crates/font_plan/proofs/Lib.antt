@@ -3,3 +3,4 @@ pub mod Names
 pub mod Steps
 pub mod TableLaws
 pub mod TooLarge
+pub mod Examples
