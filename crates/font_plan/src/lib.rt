@@ -7,3 +7,6 @@ mod order;
 mod written;
 
 pub use compile::{Built, compile_one, source_too_large};
+
+#[cfg(test)]
+mod tests;
