@@ -8,7 +8,7 @@ use Rattle.std.specs.Str.{is_utf8, chars}
 use Rattle.std.specs.Str.Lossy.{utf8_valid_len}
 use Rattle.refusal_codes.specs.declared.refusal.Refusal.{Refusal}
 use Rattle.refusal_codes.specs.declared.rule.Rule.{Rule}
-use Rattle.refusal_codes.specs.declared.rule.Rule.TheVariants.{UnexpectedEnd, TrailingText, MissingKey, NotWhole, OutOfRange, DuplicateGlyph, CubicNode, OpenContour, CoordinateTooLarge, DuplicateUnicode}
+use Rattle.refusal_codes.specs.declared.rule.Rule.TheVariants.{NotUtf8, UnexpectedByte, BadEscape, DuplicateKey, TooDeep, UnexpectedEnd, TrailingText, MissingKey, NotWhole, OutOfRange, DuplicateGlyph, CubicNode, OpenContour, CoordinateTooLarge, DuplicateUnicode}
 use Rattle.plist_reader.specs.Characters.{is_space, is_word, octal_value, hex_value, byte_of}
 use Rattle.plist_reader.specs.Escapes.{character_of, escape_begun, escape_unit, escape_digit, escape_next}
 use Rattle.plist_reader.specs.Reading.{start, value_ended, key_ended, text_ended, unexpected_rule, text_begun, bracket_opened, value_begun, list_closed, dictionary_closed, between, in_word, in_quoted, in_bytes, in_half, step, whole, finish, read_of}
@@ -53,6 +53,11 @@ letter_with closed second third more = glyph (codes "A") closed second third mor
 abbrev behind_letter : List (List ℕ) → List (List ℕ)
 behind_letter more = letter ++ codes "," ∷ more
 
+-- a `.notdef` as the made one, with a line behind its layers
+abbrev own_notdef : List ℕ → List (List ℕ)
+own_notdef rest = codes "{" ∷ codes "glyphname = .notdef;" ∷ codes "layers = (" ∷ codes "{" ∷ codes "layerId = m1;" ∷ codes "width = 500;" ∷ codes "}" ∷ codes ");" ∷ rest ∷ codes "}" ∷ []
+
+-- a source of 1000 units per em
 abbrev thousand : List (List ℕ) → List ℕ
 thousand glyphs = source glyphs (codes "unitsPerEm = 1000;" ∷ [])
 
@@ -77,35 +82,64 @@ triangle_font =
     0 ∷ 0 ∷ 0 ∷ 0 ∷ []
 
 -- the source, the same without its last line feed, and with a coordinate that has a fraction of zero. With keys that mean
--- nothing here, a fourth value in a node and a layer of no master. With a `.notdef` behind the letter that is as the made one.
--- And with a glyph that isn't exported, whose contour may be any.
+-- nothing here, a fourth value in a node and a layer of no master. With a `.notdef` behind the letter that is as the made one,
+-- and is exported whatever it says of that. And with a glyph that isn't exported, whose contour may be any.
 pub accepted : map font_of (
     triangle_source
     ∷ take 258 triangle_source
     ∷ thousand (letter_with (codes "1") (codes "(500.0,0,l)") (codes "(250,700,l)") (codes "width = 500;" ∷ []))
     ∷ source (letter_with (codes "1") (codes "(500,0,l)") (codes "(250,700,l,{name = x;})") (codes "width = 500;" ∷ codes "}," ∷ codes "{" ∷ codes "associatedMasterId = m1;" ∷ codes "layerId = backup;" ∷ [])) (codes "unitsPerEm = 1000;" ∷ codes "userData = {" ∷ codes "a = 1;" ∷ codes "};" ∷ codes "note = x;" ∷ codes "settings = {" ∷ codes "};" ∷ [])
-    ∷ thousand (behind_letter (codes "{" ∷ codes "glyphname = .notdef;" ∷ codes "layers = (" ∷ codes "{" ∷ codes "layerId = m1;" ∷ codes "width = 500;" ∷ codes "}" ∷ codes ");" ∷ codes "}" ∷ []))
+    ∷ thousand (behind_letter (own_notdef (codes "export = 1;")))
+    ∷ thousand (behind_letter (own_notdef (codes "export = 0;")))
     ∷ thousand (behind_letter (glyph (codes "B") (codes "1") (codes "(500,0,l)") (codes "(250,700,c)") (codes "width = 900;" ∷ []) (codes "export = 0;")))
-    ∷ []) ≡ replicate 6 (Ok triangle_font)
+    ∷ []) ≡ replicate 7 (Ok triangle_font)
 unfolding is_utf8 chars utf8_valid_len encode is_space is_word octal_value hex_value byte_of character_of escape_begun escape_unit escape_digit escape_next start value_ended key_ended text_ended unexpected_rule text_begun bracket_opened value_begun list_closed dictionary_closed between in_word in_quoted in_bytes in_half step whole finish read_of are_digits digits_value billionths_of fraction_of unsigned_of decimal_of decimal_at whole_failures text_failures name_failures empty_list_failures empty_dictionary_failures natural_in version_failures axis_value_failures dictionary_failures axis_values_failures dictionaries_failures master_parts_failures master_failures masters_failures numbers_failures design_forms_failures feature_forms_failures top_failures header_failures axis_count_failures header_whole_failures units_per_em master_record master_numbers place_under header_record header_of codes_failures glyph_parts_failures glyphs_failures index_failures code_at codes_at glyph_codes glyph_name glyph_text is_exported entry_of glyph_numbers index_of type_failures node_parts_failures node_failures nodes_failures closed_failures other_shape_failures shape_parts_failures shape_failures shapes_failures layer_failures entry_failures entries_failures layer_numbers glyph_failures glyph_whole_failures coordinate_of point_of contour_of shapes_of layer_record glyph_record glyph_of flat_record flat_of total entry_selector directory_head directory_entry unadjusted_file file head_table hhea_table maxp_table drawn_of glyphs_in written tree_font font_of all_glyph_failures
 accepted = refl
 
 abbrev refusal : ℕ → ℕ → List ℕ → Rule → ℕ → Result (List ℕ) Refusal
 refusal stratum kind name rule place = Err (record { stratum = stratum; kind = kind; name = name; rule = rule; place = place })
 
--- a rule that the job of the letter's layers fails
+-- a rule that the text fails
+abbrev of_text : Rule → ℕ → Result (List ℕ) Refusal
+of_text rule place = refusal 0 0 [] rule place
+
+-- a rule that the letter's layers fail
 abbrev of_letter : Rule → ℕ → Result (List ℕ) Refusal
 of_letter rule place = refusal 1 3 (codes "A") rule place
 
 -- no text at all, the source without its last two bytes, and text behind it
-pub texts_refused : map font_of (
+pub fronts_refused : map font_of (
     []
     ∷ take 257 triangle_source
     ∷ (triangle_source ++ codes "end")
     ∷ []) ≡
-    refusal 0 0 [] UnexpectedEnd 0
-    ∷ refusal 0 0 [] UnexpectedEnd 257
-    ∷ refusal 0 0 [] TrailingText 259
+    of_text UnexpectedEnd 0
+    ∷ of_text UnexpectedEnd 257
+    ∷ of_text TrailingText 259
+    ∷ []
+unfolding is_utf8 chars utf8_valid_len encode is_space is_word octal_value hex_value byte_of character_of escape_begun escape_unit escape_digit escape_next start value_ended key_ended text_ended unexpected_rule text_begun bracket_opened value_begun list_closed dictionary_closed between in_word in_quoted in_bytes in_half step whole finish read_of are_digits digits_value billionths_of fraction_of unsigned_of decimal_of decimal_at whole_failures text_failures name_failures empty_list_failures empty_dictionary_failures natural_in version_failures axis_value_failures dictionary_failures axis_values_failures dictionaries_failures master_parts_failures master_failures masters_failures numbers_failures design_forms_failures feature_forms_failures top_failures header_failures axis_count_failures header_whole_failures units_per_em master_record master_numbers place_under header_record header_of codes_failures glyph_parts_failures glyphs_failures index_failures code_at codes_at glyph_codes glyph_name glyph_text is_exported entry_of glyph_numbers index_of type_failures node_parts_failures node_failures nodes_failures closed_failures other_shape_failures shape_parts_failures shape_failures shapes_failures layer_failures entry_failures entries_failures layer_numbers glyph_failures glyph_whole_failures coordinate_of point_of contour_of shapes_of layer_record glyph_record glyph_of flat_record flat_of total entry_selector directory_head directory_entry unadjusted_file file head_table hhea_table maxp_table drawn_of glyphs_in written tree_font font_of all_glyph_failures
+fronts_refused = refl
+
+-- text behind a dictionary, a key that stands twice, an escape that is none, a list without an end, a key without a value, a
+-- byte that isn't UTF-8 and 65 lists in one another. Of a dictionary without keys, the header lacks one.
+pub texts_refused : map font_of (
+    codes "{a = 1;} x"
+    ∷ codes "{a=1;a=2;}"
+    ∷ (codes "{a=" ++ 34 ∷ 92 ∷ codes "q" ++ 34 ∷ codes ";}")
+    ∷ codes "{a=(1,2"
+    ∷ codes "{a=;}"
+    ∷ (255 ∷ [])
+    ∷ replicate 75 40
+    ∷ codes "{}"
+    ∷ []) ≡
+    of_text TrailingText 9
+    ∷ of_text DuplicateKey 5
+    ∷ of_text BadEscape 4
+    ∷ of_text UnexpectedEnd 7
+    ∷ of_text UnexpectedByte 3
+    ∷ of_text NotUtf8 0
+    ∷ of_text TooDeep 64
+    ∷ refusal 0 1 [] MissingKey 0
     ∷ []
 unfolding is_utf8 chars utf8_valid_len encode is_space is_word octal_value hex_value byte_of character_of escape_begun escape_unit escape_digit escape_next start value_ended key_ended text_ended unexpected_rule text_begun bracket_opened value_begun list_closed dictionary_closed between in_word in_quoted in_bytes in_half step whole finish read_of are_digits digits_value billionths_of fraction_of unsigned_of decimal_of decimal_at whole_failures text_failures name_failures empty_list_failures empty_dictionary_failures natural_in version_failures axis_value_failures dictionary_failures axis_values_failures dictionaries_failures master_parts_failures master_failures masters_failures numbers_failures design_forms_failures feature_forms_failures top_failures header_failures axis_count_failures header_whole_failures units_per_em master_record master_numbers place_under header_record header_of codes_failures glyph_parts_failures glyphs_failures index_failures code_at codes_at glyph_codes glyph_name glyph_text is_exported entry_of glyph_numbers index_of type_failures node_parts_failures node_failures nodes_failures closed_failures other_shape_failures shape_parts_failures shape_failures shapes_failures layer_failures entry_failures entries_failures layer_numbers glyph_failures glyph_whole_failures coordinate_of point_of contour_of shapes_of layer_record glyph_record glyph_of flat_record flat_of total entry_selector directory_head directory_entry unadjusted_file file head_table hhea_table maxp_table drawn_of glyphs_in written tree_font font_of all_glyph_failures
 texts_refused = refl
