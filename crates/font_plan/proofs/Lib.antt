@@ -1,3 +1,4 @@
+pub mod AcceptedLaws
 pub mod DrawnLaws
 pub mod Names
 pub mod Steps
