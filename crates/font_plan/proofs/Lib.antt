@@ -1,5 +1,7 @@
+pub mod AcceptedLaws
 pub mod DrawnLaws
 pub mod Names
 pub mod Steps
 pub mod TableLaws
 pub mod TooLarge
+pub mod Examples

@@ -1,0 +1,10 @@
+use Rattle.font_plan.proofs.AcceptedLaws.{accepted_font, font_accepted}
+use Rattle.font_plan.proofs.laws.a_source_is_accepted_with_its_parts.Goals as goal
+
+-- src/laws.rt:9:1
+pub returns-clause-parts : goal.returns-clause-parts
+returns-clause-parts c = accepted_font
+
+-- src/laws.rt:9:1
+pub returns-clause-accepted : goal.returns-clause-accepted
+returns-clause-accepted c = font_accepted

@@ -1,0 +1,26 @@
+-- What it means that a source has a font: each of its parts is read, and the font is the file of their tables.
+use Rattle.std.specs.Prelude.{◌≡◌, ◌≤◌, ℕ, List, length, None, Ok}
+use Rattle.plist_reader.specs.declared.tree.Tree.{Tree}
+use Rattle.plist_reader.specs.Reading.{read_of}
+use Rattle.font_ir.specs.declared.header.Header.{Header}
+use Rattle.font_ir.specs.declared.glyph.FlatGlyph.{FlatGlyph}
+use Rattle.glyphs_source.specs.HeaderReading.{header_of}
+use Rattle.glyphs_source.specs.IndexReading.{index_of}
+use Rattle.glyf_writer.specs.Tables as outlines
+use Rattle.font_assembly.specs.File.{file, file_len}
+use Rattle.font_plan.specs.Font.{Entry, glyphs_in, parts_of, tables_of}
+
+pub record IsFontOf (source font : List ℕ) : Type 0 where
+  pub tree : Tree
+  pub header : Header
+  pub index : List Entry
+  pub glyphs : List FlatGlyph
+  pub few_bytes : length source ≤ 67108864
+  pub read : read_of source ≡ Ok tree
+  pub header_read : header_of tree ≡ Ok header
+  pub index_read : index_of tree ≡ Ok index
+  pub drawn : glyphs_in tree header index ≡ Ok glyphs
+  pub few_glyphs : length glyphs ≤ 65535
+  pub tables_fit : outlines.too_large (parts_of header glyphs) ≡ None
+  pub file_fits : file_len (tables_of header glyphs) ≤ 4294967295
+  pub is_file : font ≡ file (tables_of header glyphs)
