@@ -5,6 +5,8 @@ use Rattle.std.proofs.lemmas.Bool.Decides.{nat_tests}
 use Rattle.refusal_codes.specs.declared.refusal.Refusal.{Refusal}
 use Rattle.refusal_codes.specs.Gives.{◌>>=◌}
 use Rattle.plist_reader.specs.Reading.{read_of}
+use Rattle.plist_reader.proofs.GivenTexts.{given}
+use Rattle.plist_reader.proofs.OneAnswer.{tree-of}
 use Rattle.glyphs_source.specs.HeaderReading.{header_of}
 use Rattle.glyphs_source.specs.IndexReading.{index_of}
 use Rattle.glyf_writer.specs.Tables as outlines
@@ -59,7 +61,7 @@ accepted_font source font e =
       index = index.value;
       glyphs = glyphs.value;
       few_bytes = whole.0;
-      read = tree.is;
+      read = tree-of source tree.value tree.is;
       header_read = header.is;
       index_read = index.is;
       drawn = glyphs.is;
@@ -78,7 +80,7 @@ pub font_accepted : (source font : List ℕ) → IsFontOf source font → font_o
 unfolding font_of tree_font written
 font_accepted source font f =
     below 67108864 (length source) source_too_large (read_of source >>= tree_font) f.few_bytes
-    ∙ ap (λ tree. tree >>= tree_font) f.read
+    ∙ ap (λ tree. tree >>= tree_font) (given source f.tree f.read)
     ∙ ap (λ header. header >>= λ header. (index_of f.tree >>= λ index. (glyphs_in f.tree header index >>= glyphs_font header))) f.header_read
     ∙ ap (λ index. index >>= λ index. (glyphs_in f.tree f.header index >>= glyphs_font f.header)) f.index_read
     ∙ ap (λ glyphs. glyphs >>= glyphs_font f.header) f.drawn

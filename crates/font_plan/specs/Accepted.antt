@@ -1,7 +1,8 @@
--- What it means that a source has a font: each of its parts is read, and the font is the file of their tables.
+-- What it means that a source has a font: the grammar of property lists gives it a tree, each of its parts is read, the limits are
+-- kept, and the font is the file of their tables. fontc's own.
 use Rattle.std.specs.Prelude.{◌≡◌, ◌≤◌, ℕ, List, length, None, Ok}
 use Rattle.plist_reader.specs.declared.tree.Tree.{Tree}
-use Rattle.plist_reader.specs.Reading.{read_of}
+use Rattle.plist_reader.specs.Grammar.{HasTree}
 use Rattle.font_ir.specs.declared.header.Header.{Header}
 use Rattle.font_ir.specs.declared.glyph.FlatGlyph.{FlatGlyph}
 use Rattle.glyphs_source.specs.HeaderReading.{header_of}
@@ -16,7 +17,7 @@ pub record IsFontOf (source font : List ℕ) : Type 0 where
   pub index : List Entry
   pub glyphs : List FlatGlyph
   pub few_bytes : length source ≤ 67108864
-  pub read : read_of source ≡ Ok tree
+  pub read : HasTree source tree
   pub header_read : header_of tree ≡ Ok header
   pub index_read : index_of tree ≡ Ok index
   pub drawn : glyphs_in tree header index ≡ Ok glyphs
