@@ -1,5 +1,6 @@
 -- What holds of each tree of a source: where its values stand, which bytes its texts are, how many brackets are open at a
--- place, and that the keys of a dictionary differ.
+-- place, and that the keys of a dictionary differ. Fontc's own; all of it follows from Grammar, by the law
+-- `trees_stand_in_their_sources`.
 use Rattle.std.specs.Prelude.{◌≡◌, ℕ, ◌+◌, ◌<◌, ◌≤◌, false, List, [], ◌∷◌, ◌++◌, length, map, Option, Some, option_and_then, slice_get, All}
 use Rattle.std.specs.Str.{chars}
 use Rattle.plist_reader.specs.declared.tree.Tree.{Tree}

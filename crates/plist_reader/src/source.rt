@@ -15,12 +15,22 @@ use refusal_codes::{ReadError, Rule};
 use std::alloc::Global;
 use std::str;
 
-/// Reads a property list, of at most 67,108,864 bytes.
+/// Reads a property list, of at most 67,108,864 bytes, in the form in which Glyphs saves its sources. Which texts of that
+/// form are property lists is fontc's own.
 ///
-/// The errors are those of memory, and one refusal for each text that is no property list, at the byte that explains it.
+/// The errors are those of memory, and one refusal for each source that is no property list. Places count its bytes from
+/// 0. A refusal is by one of seven rules:
+///
+/// - `NotUtf8`, at the first byte of the first sequence that is no UTF-8;
+/// - `UnexpectedEnd`, at the length of a text that could go on;
+/// - `BadEscape`, at the backslash of an escape that is none;
+/// - `DuplicateKey`, at a key that its dictionary has already;
+/// - `TooDeep`, at the bracket that would be the sixty-fifth that is open;
+/// - `TrailingText`, at the first character behind the value that is no white space;
+/// - `UnexpectedByte`, at any other character with which no property list goes on.
 pub fn read(alloc: Global, source: &[u8]) -> Result<Tree, ReadError>
     requires { length source.now ≤ source_limit }
-    // A refusal names the end of the longest front with which some text with a tree begins.
+    // A refusal is that of bad UTF-8, or is explained at the longest front with which some text with a tree begins.
     ensures refused { IfErr result (IsErrorOf source.now) }
     // What is a refusal of the source is the refusal, unless memory runs out.
     ensures refusals { (r : Refusal) → IsRefusal source.now r → Gives (λ t. t) result (Err r) }
