@@ -4,7 +4,7 @@ ghost use Rattle.plist_reader.specs.Tree.{IsTree, source_limit};
 ghost use Rattle.plist_reader.specs.Grammar.{HasTree};
 ghost use Rattle.plist_reader.specs.Refusals.{CanGoOn, IsErrorOf, IsRefusal};
 ghost use Rattle.refusal_codes.specs.declared.refusal.Refusal.{Refusal};
-ghost use Rattle.plist_reader.specs.Sources.{StandsInSource};
+ghost use Rattle.plist_reader.specs.Sources.{FindsPairs, StandsInSource};
 ghost use Rattle.plist_reader.specs.declared.tree.Tree.{Tree};
 ghost use Rattle.plist_reader.specs.Reading.{refusal, read_of, run, start};
 ghost use Rattle.std.specs.Str.{chars};
@@ -90,4 +90,9 @@ pub fn fronts_end_where_nothing_goes_on()
 /// most 64 brackets are open at a place, and the keys of a dictionary differ.
 pub fn trees_stand_in_their_sources()
     ensures { (source : List ℕ) (t : Tree) → HasTree source t → StandsInSource source t }
+{}
+
+/// In a dictionary of a source the key of each pair leads to its value: what `Tree::find` gives of the key is the value.
+pub fn keys_lead_to_their_values()
+    ensures { (source : List ℕ) (t : Tree) → HasTree source t → FindsPairs t }
 {}
