@@ -27,7 +27,7 @@ use Rattle.plist_reader.proofs.Keyed.{slice_get-more, slice_get-last}
 
 -- ---- keys of pairs
 
-abbrev HasKeys : List TreeNode → List (ℕ × ℕ) → List (List ℕ) → Type 0
+abbrev pub HasKeys : List TreeNode → List (ℕ × ℕ) → List (List ℕ) → Type 0
 HasKeys nodes pairs keys = map (λ pair. text_at nodes pair.0) pairs ≡ map (λ key. Some key) keys
 
 text_at-more : (nodes more : List TreeNode) (n : ℕ) (key : List ℕ) → text_at nodes n ≡ Some key → text_at (nodes ++ more) n ≡ Some key
@@ -37,7 +37,7 @@ text_at-more nodes more n key h = on (slice_get nodes n) refl h
     on None e k = cc
     on (Some x) e k = rw (slice_get-more nodes more n x e) k
 
-cons_parts : {A : Type 0} (x y : A) (xs ys : List A) → x ∷ xs ≡ y ∷ ys → (x ≡ y) × (xs ≡ ys)
+pub cons_parts : {A : Type 0} (x y : A) (xs ys : List A) → x ∷ xs ≡ y ∷ ys → (x ≡ y) × (xs ≡ ys)
 cons_parts x y xs ys e = (cc, cc)
 
 keys-more : (nodes more : List TreeNode) (pairs : List (ℕ × ℕ)) (keys : List (List ℕ)) → HasKeys nodes pairs keys → HasKeys (nodes ++ more) pairs keys

@@ -1,4 +1,5 @@
--- Worked examples, computed: texts with their refusals, and texts with their trees.
+-- Worked examples, computed: texts with their refusals, and texts with their trees. The outcomes are the same by another
+-- program, written apart from this definition: a recursive descent along the grammar.
 use Rattle.std.proofs.Common.{◌≡◌, ℕ, List, [], ◌∷◌, ◌++◌, map, take, Option, Some, None, Result, Ok, Err, refl}
 use Rattle.std.specs.Prelude.{codes}
 use Rattle.std.specs.List.{range_with_len, flat_map}
@@ -30,13 +31,35 @@ first_refusals : outcomes (([]) ∷ (codes "{a = 1;} x") ∷ (codes "{a=1;a=2;}"
 unfolding read_of is_utf8 chars utf8_valid_len encode is_space is_word octal_value hex_value byte_of character_of escape_begun escape_unit escape_digit escape_next start value_ended key_ended text_ended unexpected_rule text_begun bracket_opened value_begun list_closed dictionary_closed between in_word in_quoted in_bytes in_half step whole finish
 first_refusals = refl
 
--- so each computed outcome is one of the texts, as here of a key that stands twice
+-- each computed refusal is one by the grammar, as here of a key that stands twice
 twice_computed : read_of (codes "{a=1;a=2;}") ≡ Err (refusal DuplicateKey 5)
 unfolding read_of is_utf8 chars utf8_valid_len encode is_space is_word octal_value hex_value byte_of character_of escape_begun escape_unit escape_digit escape_next start value_ended key_ended text_ended unexpected_rule text_begun bracket_opened value_begun list_closed dictionary_closed between in_word in_quoted in_bytes in_half step whole finish
 twice_computed = refl
 
 twice_refused : IsRefusal (codes "{a=1;a=2;}") (refusal DuplicateKey 5)
 twice_refused = refusal-of (codes "{a=1;a=2;}") (refusal DuplicateKey 5) twice_computed
+
+-- of one whose first stands bare and whose second is quoted, with an escape
+abbrev twice_escaped : List ℕ
+twice_escaped = codes "{a=1;" ++ (34 ∷ 92 ∷ (codes "141" ++ (34 ∷ (codes "=2;}"))))
+
+twice_escaped_computed : read_of twice_escaped ≡ Err (refusal DuplicateKey 5)
+unfolding read_of is_utf8 chars utf8_valid_len encode is_space is_word octal_value hex_value byte_of character_of escape_begun escape_unit escape_digit escape_next start value_ended key_ended text_ended unexpected_rule text_begun bracket_opened value_begun list_closed dictionary_closed between in_word in_quoted in_bytes in_half step whole finish
+twice_escaped_computed = refl
+
+twice_escaped_refused : IsRefusal twice_escaped (refusal DuplicateKey 5)
+twice_escaped_refused = refusal-of twice_escaped (refusal DuplicateKey 5) twice_escaped_computed
+
+-- and of the sixty-fifth bracket
+abbrev too_many_brackets : List ℕ
+too_many_brackets = codes "((((((((((((((((((((((((((((((((((((((((((((((((((((((((((((((((("
+
+too_deep_computed : read_of too_many_brackets ≡ Err (refusal TooDeep 64)
+unfolding read_of is_utf8 chars utf8_valid_len encode is_space is_word octal_value hex_value byte_of character_of escape_begun escape_unit escape_digit escape_next start value_ended key_ended text_ended unexpected_rule text_begun bracket_opened value_begun list_closed dictionary_closed between in_word in_quoted in_bytes in_half step whole finish
+too_deep_computed = refl
+
+too_deep_refused : IsRefusal too_many_brackets (refusal TooDeep 64)
+too_deep_refused = refusal-of too_many_brackets (refusal TooDeep 64) too_deep_computed
 
 -- a key stands twice whether it is bare or quoted; a word is known as a key only where it has ended
 keys_twice : outcomes ((codes "{a=1;" ++ (34 ∷ (codes "a" ++ (34 ∷ (codes "=2;}"))))) ∷ (codes "{a=1;a") ∷ (codes "{a=1;a ") ∷ (codes "{a=1;a" ++ (34 ∷ [])) ∷ (codes "{a=1;" ++ (34 ∷ (codes "a"))) ∷ (codes "{a=1;" ++ (34 ∷ (codes "a" ++ (34 ∷ [])))) ∷ (codes "{a=1;aa=2;}") ∷ (codes "{a=1;b={a=2;};}") ∷ (codes "{a=1;b=2;a=3;}") ∷ (codes "{a=1;" ++ (34 ∷ 92 ∷ (codes "141" ++ (34 ∷ (codes "=2;}"))))) ∷ []) ≡ Some (refusal DuplicateKey 5) ∷ Some (refusal UnexpectedEnd 6) ∷ Some (refusal DuplicateKey 5) ∷ Some (refusal DuplicateKey 5) ∷ Some (refusal UnexpectedEnd 7) ∷ Some (refusal DuplicateKey 5) ∷ None ∷ None ∷ Some (refusal DuplicateKey 9) ∷ Some (refusal DuplicateKey 5) ∷ []
@@ -73,7 +96,7 @@ depths : outcomes ((codes "(((((((((((((((((((((((((((((((((((((((((((((((((((((
 unfolding read_of is_utf8 chars utf8_valid_len encode is_space is_word octal_value hex_value byte_of character_of escape_begun escape_unit escape_digit escape_next start value_ended key_ended text_ended unexpected_rule text_begun bracket_opened value_begun list_closed dictionary_closed between in_word in_quoted in_bytes in_half step whole finish
 depths = refl
 
--- texts whose outcomes were found apart from this definition
+-- texts of random characters, compared with that other program
 from_outside : outcomes ((codes "(a1") ∷ (codes "a){;)" ++ (92 ∷ (codes "}1" ++ (92 ∷ 34 ∷ (codes "(" ++ (92 ∷ [])))))) ∷ (codes "()") ∷ (codes "1" ++ (92 ∷ (codes "1"))) ∷ (34 ∷ 92 ∷ (codes "Ud83d" ++ (34 ∷ []))) ∷ (codes "a<,") ∷ (codes "{a=(1,2,);}") ∷ (codes "{a=1;aa=2;}") ∷ (codes "aa=><," ++ (92 ∷ (codes "a" ++ (10 ∷ 10 ∷ (codes ")("))))) ∷ (codes "1, ;} " ++ (9 ∷ 34 ∷ [])) ∷ (codes "a1{" ++ (9 ∷ (codes ";" ++ (9 ∷ (codes "<="))))) ∷ (34 ∷ 92 ∷ (codes "U00g" ++ (34 ∷ []))) ∷ (codes "() " ++ (34 ∷ (codes "}"))) ∷ (codes "a)}") ∷ (34 ∷ 92 ∷ []) ∷ (codes " " ++ (9 ∷ (codes "a}1"))) ∷ (codes " a," ++ (9 ∷ (codes "("))) ∷ (codes "{" ++ (34 ∷ 34 ∷ (codes "=1;}"))) ∷ (codes "<>1") ∷ (34 ∷ (codes "a" ++ (10 ∷ (codes "b" ++ (34 ∷ []))))) ∷ (9 ∷ (codes " {")) ∷ (codes " " ++ (34 ∷ 10 ∷ [])) ∷ (codes "1aa>;" ++ (34 ∷ (codes "a{" ++ (34 ∷ (codes ";" ++ (9 ∷ (codes "<"))))))) ∷ (codes "a<" ++ (9 ∷ [])) ∷ (codes ")((,)<( {,}" ++ (10 ∷ [])) ∷ (codes "{a<") ∷ (codes " ;" ++ (92 ∷ [])) ∷ (codes "<" ++ (9 ∷ 92 ∷ (codes "}a"))) ∷ (codes "< (") ∷ (codes ">a(;;{" ++ (10 ∷ (codes ")" ++ (34 ∷ (codes ");="))))) ∷ (codes "{<)=)=>=") ∷ (codes ";" ++ (92 ∷ (codes "(()"))) ∷ (codes ";}a") ∷ (codes "," ++ (9 ∷ (codes ">{" ++ (10 ∷ [])))) ∷ (codes ">" ++ (10 ∷ 9 ∷ 195 ∷ 169 ∷ 34 ∷ (codes "a>"))) ∷ (codes "(a(") ∷ (92 ∷ (codes "=,")) ∷ (codes ">" ++ (92 ∷ 92 ∷ [])) ∷ (codes "<" ++ (9 ∷ 92 ∷ 9 ∷ (codes ", }" ++ (34 ∷ [])))) ∷ (codes "=} ") ∷ (codes "><a<} ),") ∷ (codes "{={1" ++ (92 ∷ 10 ∷ (codes ")" ++ (34 ∷ (codes ";;a)"))))) ∷ (codes "(," ++ (34 ∷ (codes "}="))) ∷ (codes "<" ++ (92 ∷ (codes ">"))) ∷ (codes "<" ++ (255 ∷ (codes ">" ++ (195 ∷ (codes "," ++ (10 ∷ (codes ",>a()" ++ (92 ∷ [])))))))) ∷ (codes "=<" ++ (255 ∷ (codes "(<a,>"))) ∷ (codes ",;" ++ (195 ∷ (codes ";))" ++ (169 ∷ 169 ∷ [])))) ∷ (34 ∷ 195 ∷ 34 ∷ []) ∷ (255 ∷ (codes ")" ++ (195 ∷ (codes "1" ++ (34 ∷ 9 ∷ (codes "=>")))))) ∷ (34 ∷ (codes "(a" ++ (169 ∷ 9 ∷ (codes ") " ++ (9 ∷ []))))) ∷ (codes " a" ++ (169 ∷ [])) ∷ (34 ∷ (codes "= a(,>" ++ (195 ∷ 195 ∷ (codes "1<a")))) ∷ []) ≡ Some (refusal UnexpectedEnd 3) ∷ Some (refusal TrailingText 1) ∷ None ∷ Some (refusal TrailingText 1) ∷ Some (refusal BadEscape 1) ∷ Some (refusal TrailingText 1) ∷ None ∷ None ∷ Some (refusal TrailingText 2) ∷ Some (refusal TrailingText 1) ∷ Some (refusal TrailingText 2) ∷ Some (refusal BadEscape 1) ∷ Some (refusal TrailingText 3) ∷ Some (refusal TrailingText 1) ∷ Some (refusal UnexpectedEnd 2) ∷ Some (refusal TrailingText 3) ∷ Some (refusal TrailingText 2) ∷ None ∷ Some (refusal TrailingText 2) ∷ None ∷ Some (refusal UnexpectedEnd 3) ∷ Some (refusal UnexpectedEnd 3) ∷ Some (refusal TrailingText 3) ∷ Some (refusal TrailingText 1) ∷ Some (refusal UnexpectedByte 0) ∷ Some (refusal UnexpectedByte 2) ∷ Some (refusal UnexpectedByte 1) ∷ Some (refusal UnexpectedByte 2) ∷ Some (refusal UnexpectedByte 2) ∷ Some (refusal UnexpectedByte 0) ∷ Some (refusal UnexpectedByte 1) ∷ Some (refusal UnexpectedByte 0) ∷ Some (refusal UnexpectedByte 0) ∷ Some (refusal UnexpectedByte 0) ∷ Some (refusal UnexpectedByte 0) ∷ Some (refusal UnexpectedByte 2) ∷ Some (refusal UnexpectedByte 0) ∷ Some (refusal UnexpectedByte 0) ∷ Some (refusal UnexpectedByte 2) ∷ Some (refusal UnexpectedByte 0) ∷ Some (refusal UnexpectedByte 0) ∷ Some (refusal UnexpectedByte 1) ∷ Some (refusal UnexpectedByte 1) ∷ Some (refusal UnexpectedByte 1) ∷ Some (refusal NotUtf8 1) ∷ Some (refusal NotUtf8 2) ∷ Some (refusal NotUtf8 2) ∷ Some (refusal NotUtf8 1) ∷ Some (refusal NotUtf8 0) ∷ Some (refusal NotUtf8 3) ∷ Some (refusal NotUtf8 2) ∷ Some (refusal NotUtf8 7) ∷ []
 unfolding read_of is_utf8 chars utf8_valid_len encode is_space is_word octal_value hex_value byte_of character_of escape_begun escape_unit escape_digit escape_next start value_ended key_ended text_ended unexpected_rule text_begun bracket_opened value_begun list_closed dictionary_closed between in_word in_quoted in_bytes in_half step whole finish
 from_outside = refl

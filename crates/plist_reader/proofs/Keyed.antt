@@ -49,7 +49,7 @@ is_text_of-more nodes more key n h = on (slice_get nodes n) refl h
     on None e k = absurd (false≢true k)
     on (Some x) e k = rw (slice_get-more nodes more n x e) k
 
-either_true : (a b : Bool) → (a ≡ true) ⊎ (b ≡ true) → (a || b) ≡ true
+pub either_true : (a b : Bool) → (a ≡ true) ⊎ (b ≡ true) → (a || b) ≡ true
 either_true a b (inl e) = rw e refl
 either_true true b (inr e) = refl
 either_true false b (inr e) = e
@@ -68,7 +68,7 @@ pub same_bytes : (text : List ℕ) → pointwise nat_eq text text ≡ true
 same_bytes [] = refl
 same_bytes (x ∷ text) = rw (eq-eqb x x refl) (same_bytes text)
 
-bytes_same : (text key : List ℕ) → pointwise nat_eq text key ≡ true → text ≡ key
+pub bytes_same : (text key : List ℕ) → pointwise nat_eq text key ≡ true → text ≡ key
 bytes_same [] [] h = refl
 bytes_same [] (y ∷ key) h = absurd (false≢true h)
 bytes_same (x ∷ text) [] h = absurd (false≢true h)

@@ -28,4 +28,5 @@ pub mod RefusalLemmas
 pub mod Dictionaries
 pub mod Beyond
 pub mod SourceLaws
+pub mod FoundPairs
 pub mod OneAnswer

@@ -70,7 +70,8 @@ abbrev mutual
 
   pub entries_nodes : Entries → ℕ → List TreeNode
   entries_nodes NoEntries first = []
-  entries_nodes (AndEntry place end key v entries) first = node place end (tree.Text key) ∷ (inner_of v (first + 1) ++ own_of v (first + 1) ∷ entries_nodes entries (first + 1 + length (inner_of v (first + 1)) + 1))
+  entries_nodes (AndEntry place end key v entries) first = node place end (tree.Text key)
+      ∷ (inner_of v (first + 1) ++ own_of v (first + 1) ∷ entries_nodes entries (first + 1 + length (inner_of v (first + 1)) + 1))
 
   pub entries_numbers : Entries → ℕ → List (ℕ × ℕ)
   entries_numbers NoEntries first = []
@@ -189,8 +190,10 @@ abbrev mutual
   pub Spells : Value → ℕ → ℕ → List ℕ → Type 0
   Spells (Text at end bytes) depth place cs = (at ≡ place) × (end ≡ place + width cs) × IsText cs bytes
   Spells (Bytes at end bytes) depth place cs = (at ≡ place) × (end ≡ place + width cs) × (inner : List ℕ) × (cs ≡ 60 ∷ (inner ++ 62 ∷ [])) × IsHex inner bytes
-  Spells (Items at end items) depth place cs = (at ≡ place) × (end ≡ place + width cs) × (depth < 64) × (inner : List ℕ) × (cs ≡ 40 ∷ (inner ++ 41 ∷ [])) × SpellItems items (depth + 1) (place + 1) inner
-  Spells (Pairs at end entries) depth place cs = (at ≡ place) × (end ≡ place + width cs) × (depth < 64) × (inner : List ℕ) × (cs ≡ 123 ∷ (inner ++ 125 ∷ [])) × SpellEntries entries (depth + 1) [] (place + 1) inner
+  Spells (Items at end items) depth place cs = (at ≡ place) × (end ≡ place + width cs) × (depth < 64)
+      × (inner : List ℕ) × (cs ≡ 40 ∷ (inner ++ 41 ∷ [])) × SpellItems items (depth + 1) (place + 1) inner
+  Spells (Pairs at end entries) depth place cs = (at ≡ place) × (end ≡ place + width cs) × (depth < 64)
+      × (inner : List ℕ) × (cs ≡ 123 ∷ (inner ++ 125 ∷ [])) × SpellEntries entries (depth + 1) [] (place + 1) inner
 
   -- what stands between ( and )
   pub SpellItems : Values → ℕ → ℕ → List ℕ → Type 0

@@ -1,14 +1,15 @@
 -- What holds of each tree of a source: where its values stand, which bytes its texts are, how many brackets are open at a
--- place, and that the keys of a dictionary differ.
+-- place, that the keys of a dictionary differ, and that each leads to its value. Fontc's own; all of it follows from
+-- Grammar, by the laws `trees_stand_in_their_sources` and `keys_lead_to_their_values`.
 use Rattle.std.specs.Prelude.{◌≡◌, ℕ, ◌+◌, ◌<◌, ◌≤◌, false, List, [], ◌∷◌, ◌++◌, length, map, Option, Some, option_and_then, slice_get, All}
 use Rattle.std.specs.Str.{chars}
 use Rattle.plist_reader.specs.declared.tree.Tree.{Tree}
 use Rattle.plist_reader.specs.declared.tree.TreeNode.{TreeNode}
 use Rattle.plist_reader.specs.declared.tree.TreeValue.{TreeValue}
 use Rattle.plist_reader.specs.declared.tree.TreeValue.TheVariants as tree
-use Rattle.plist_reader.specs.Tree.{text_of}
+use Rattle.plist_reader.specs.Tree.{text_of, node_at, find_in}
 use Rattle.plist_reader.specs.Keys.{is_among}
-use Rattle.plist_reader.specs.Grammar.{width, IsText}
+use Rattle.plist_reader.specs.Grammar.{node, width, IsText}
 use Rattle.plist_reader.specs.Refusals.{open_at}
 
 -- between two places stands a word or a quoted string, which is these bytes after its escapes are undone
@@ -53,6 +54,13 @@ IsDictionaryIn nodes (tree.Text bytes) = Unit {0}
 IsDictionaryIn nodes (tree.Bytes bytes) = Unit {0}
 IsDictionaryIn nodes (tree.Items items) = Unit {0}
 IsDictionaryIn nodes (tree.Pairs pairs) = IsDictionary nodes pairs
+
+-- what is found in a dictionary under the key of one of its pairs is the value of that pair
+abbrev pub FindsPairs : Tree → Type 0
+FindsPairs t = (n place end : ℕ) (earlier : List (ℕ × ℕ)) (number value : ℕ) (later : List (ℕ × ℕ)) (key : List ℕ)
+    → node_at t n ≡ Some (node place end (tree.Pairs (earlier ++ (number, value) ∷ later)))
+    → text_at t.nodes number ≡ Some key
+    → find_in t n key ≡ Some value
 
 -- what holds of each tree of a source
 pub record StandsInSource (source : List ℕ) (t : Tree) : Type 0 where

@@ -10,8 +10,8 @@ mod stack;
 mod tree;
 
 pub use source::{
-    fronts_end_where_nothing_goes_on, read, sources_have_one_answer, trees_are_unique,
-    trees_stand_in_their_sources,
+    fronts_end_where_nothing_goes_on, keys_lead_to_their_values, read, sources_have_one_answer,
+    trees_are_unique, trees_stand_in_their_sources,
 };
 pub use tree::{Tree, TreeNode, TreeValue};
 

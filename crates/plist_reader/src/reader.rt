@@ -105,7 +105,8 @@ pub(crate) fn refusal(alloc: Global, rule: Rule, place: u64) -> ReadError
 }
 
 impl Reader {
-    ghost use Rattle.plist_reader.specs.Reading.{start, Changes, with_node, value_ended, key_ended, text_ended, unexpected_rule, unexpected, text_begun, bracket_opened, value_begun, list_closed, dictionary_closed, between, in_word, in_quoted, after_escape, in_bytes, in_half, step, whole, finish};
+    ghost use Rattle.plist_reader.specs.Reading.{start, Changes, with_node, value_ended, key_ended, text_ended, unexpected_rule, unexpected, text_begun};
+    ghost use Rattle.plist_reader.specs.Reading.{bracket_opened, value_begun, list_closed, dictionary_closed, between, in_word, in_quoted, after_escape, in_bytes, in_half, step, whole, finish};
 
     /// What is known before the first character.
     #[tactic(auto, unfolding(crate::specs::Reading::start))]

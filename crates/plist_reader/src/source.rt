@@ -4,7 +4,7 @@ ghost use Rattle.plist_reader.specs.Tree.{IsTree, source_limit};
 ghost use Rattle.plist_reader.specs.Grammar.{HasTree};
 ghost use Rattle.plist_reader.specs.Refusals.{CanGoOn, IsErrorOf, IsRefusal};
 ghost use Rattle.refusal_codes.specs.declared.refusal.Refusal.{Refusal};
-ghost use Rattle.plist_reader.specs.Sources.{StandsInSource};
+ghost use Rattle.plist_reader.specs.Sources.{FindsPairs, StandsInSource};
 ghost use Rattle.plist_reader.specs.declared.tree.Tree.{Tree};
 ghost use Rattle.plist_reader.specs.Reading.{refusal, read_of, run, start};
 ghost use Rattle.std.specs.Str.{chars};
@@ -15,12 +15,22 @@ use refusal_codes::{ReadError, Rule};
 use std::alloc::Global;
 use std::str;
 
-/// Reads a property list, of at most 67,108,864 bytes.
+/// Reads a property list, of at most 67,108,864 bytes, in the form in which Glyphs saves its sources. Which texts of that
+/// form are property lists is fontc's own.
 ///
-/// The errors are those of memory, and one refusal for each text that is no property list, at the byte that explains it.
+/// The errors are those of memory, and one refusal for each source that is no property list. Places count its bytes from
+/// 0. A refusal is by one of seven rules:
+///
+/// - `NotUtf8`, at the first byte of the first sequence that is no UTF-8;
+/// - `UnexpectedEnd`, at the length of a text that could go on;
+/// - `BadEscape`, at the backslash of an escape that is none;
+/// - `DuplicateKey`, at a key that its dictionary has already;
+/// - `TooDeep`, at the bracket that would be the sixty-fifth that is open;
+/// - `TrailingText`, at the first character behind the value that is no white space;
+/// - `UnexpectedByte`, at any other character with which no property list goes on.
 pub fn read(alloc: Global, source: &[u8]) -> Result<Tree, ReadError>
     requires { length source.now ≤ source_limit }
-    // A refusal names the end of the longest front with which some text with a tree begins.
+    // A refusal is that of bad UTF-8, or is explained at the longest front with which some text with a tree begins.
     ensures refused { IfErr result (IsErrorOf source.now) }
     // What is a refusal of the source is the refusal, unless memory runs out.
     ensures refusals { (r : Refusal) → IsRefusal source.now r → Gives (λ t. t) result (Err r) }
@@ -80,4 +90,9 @@ pub fn fronts_end_where_nothing_goes_on()
 /// most 64 brackets are open at a place, and the keys of a dictionary differ.
 pub fn trees_stand_in_their_sources()
     ensures { (source : List ℕ) (t : Tree) → HasTree source t → StandsInSource source t }
+{}
+
+/// In a dictionary of a source the key of each pair leads to its value: what `Tree::find` gives of the key is the value.
+pub fn keys_lead_to_their_values()
+    ensures { (source : List ℕ) (t : Tree) → HasTree source t → FindsPairs t }
 {}

@@ -7,14 +7,18 @@ use std::test::Fail;
 const TRIANGLE: &[u8] =
     b"{\n.formatVersion = 3;\nfamilyName = Tri;\nfontMaster = (\n{\nid = m1;\n}\n);\nglyphs = (\n{\nglyphname = A;\nlayers = (\n{\nlayerId = m1;\nshapes = (\n{\nclosed = 1;\nnodes = (\n(0,0,l),\n(500,0,l),\n(250,700,l)\n);\n}\n);\nwidth = 500;\n}\n);\nunicode = 65;\n}\n);\nunitsPerEm = 1000;\n}\n";
 
-/// The rule and the place of the refusal; `None` where there is a tree, or no memory.
-fn refused(alloc: Global, source: &[u8]) -> Option<(Rule, u64)> {
+/// A list of a string with a surrogate pair, a line feed and an octal escape, and of a byte string.
+const ESCAPES: &[u8] = b"(\"\\Ud83d\\Ude00\\n\\101\",<0aF f>,\n)";
+
+/// The rule and the place of the refusal; `None` where there is a tree. Want of memory is no answer.
+fn refused(alloc: Global, source: &[u8]) -> Result<Option<(Rule, u64)>, Fail> {
     if source.len() > 67_108_864 {
-        return None;
+        return Err("a source that is too long".into());
     }
     match read(alloc, source) {
-        Err(ReadError::Refused(refusal)) => Some((refusal.rule, refusal.place)),
-        _ => None,
+        Ok(_) => Ok(None),
+        Err(ReadError::Refused(refusal)) => Ok(Some((refusal.rule, refusal.place))),
+        Err(ReadError::NoMemory) => Err("no memory".into()),
     }
 }
 
@@ -48,7 +52,36 @@ fn a_source_is_read_and_its_values_are_found(rt: HostRuntime) -> Result<(), Fail
 }
 
 #[test]
-fn each_rule_refuses_at_its_place(rt: HostRuntime) {
+fn escapes_are_undone_and_hexadecimal_digits_are_bytes(rt: HostRuntime) -> Result<(), Fail> {
+    let tree = read(rt.alloc(), ESCAPES)?;
+    assert_eq!(rt; tree.nodes.len(), 3);
+    assert_eq!(rt; tree.top, 2);
+    let node = tree.nodes.as_slice().get(0).ok_or("no string")?;
+    assert_eq!(rt; node.place, 1);
+    assert_eq!(rt; node.end, 21);
+    match &node.value {
+        TreeValue::Text(text) => assert_eq!(rt; text.as_bytes(), b"\xf0\x9f\x98\x80\nA".as_slice()),
+        _ => return Err("no text".into()),
+    }
+    let node = tree.nodes.as_slice().get(1).ok_or("no byte string")?;
+    assert_eq!(rt; node.place, 22);
+    assert_eq!(rt; node.end, 29);
+    match &node.value {
+        TreeValue::Bytes(bytes) => assert_eq!(rt; bytes.as_slice(), b"\n\xff".as_slice()),
+        _ => return Err("no bytes".into()),
+    }
+    let node = tree.nodes.as_slice().get(2).ok_or("no list")?;
+    assert_eq!(rt; node.place, 0);
+    assert_eq!(rt; node.end, 32);
+    match &node.value {
+        TreeValue::Items(items) => assert_eq!(rt; items.as_slice(), [0, 1].as_slice()),
+        _ => return Err("no values".into()),
+    }
+    Ok(())
+}
+
+#[test]
+fn each_rule_refuses_at_its_place(rt: HostRuntime) -> Result<(), Fail> {
     let cases = [
         (b"".as_slice(), Some((Rule::UnexpectedEnd, 0))),
         (b"{a = 1;} x".as_slice(), Some((Rule::TrailingText, 9))),
@@ -56,7 +89,7 @@ fn each_rule_refuses_at_its_place(rt: HostRuntime) {
         (b"{a=\"\\q\";}".as_slice(), Some((Rule::BadEscape, 4))),
         (b"{a=;}".as_slice(), Some((Rule::UnexpectedByte, 3))),
         (b"\"\xc3".as_slice(), Some((Rule::NotUtf8, 1))),
-        (b"(\"\\Ud83d\\Ude00\\n\\101\",<0aF f>,\n)".as_slice(), None),
+        (ESCAPES, None),
         (b"{a=1;\"a\"=2;}".as_slice(), Some((Rule::DuplicateKey, 5))),
         (b"{a=1;a".as_slice(), Some((Rule::UnexpectedEnd, 6))),
         (b"{a=(1,2".as_slice(), Some((Rule::UnexpectedEnd, 7))),
@@ -71,8 +104,9 @@ fn each_rule_refuses_at_its_place(rt: HostRuntime) {
         (b"\"a\n\xc3\xa9\xf0\x9f\x98\x80\"".as_slice(), None),
     ];
     for (source, outcome) in cases {
-        assert_eq!(rt; refused(rt.alloc(), source), outcome);
+        assert_eq!(rt; refused(rt.alloc(), source)?, outcome);
     }
+    Ok(())
 }
 
 #[test]
@@ -81,7 +115,7 @@ fn a_million_brackets_are_refused_and_a_hundred_thousand_keys_are_read(
 ) -> Result<(), Fail> {
     let brackets = vec![in rt.alloc(); b'('; 1_000_000]?;
     assert_eq!(rt;
-        refused(rt.alloc(), brackets.as_slice()),
+        refused(rt.alloc(), brackets.as_slice())?,
         Some((Rule::TooDeep, 64))
     );
     let keys = many_keys(rt.alloc(), 100_000)?;

@@ -1,0 +1,68 @@
+-- What is found under the key of a pair is its value: no pair in front of it has its key, since the keys of a dictionary
+-- differ.
+use Rattle.std.proofs.Common.{inl, inr, ◌≡◌, ℕ, true, false, List, [], ◌∷◌, ◌++◌, map, Some, if◌then◌else◌, sym, subst, ap, ◌∙◌}
+use Rattle.std.specs.Prelude.{nat_eq, option_and_then, slice_get}
+use Rattle.std.specs.Cmp.Lexicographic.{pointwise}
+use Rattle.std.specs.List.{All}
+use Rattle.std.proofs.lemmas.Bool.{false≢true, cases_Bool}
+use Rattle.std.proofs.lemmas.List.Elements.{All-get_or}
+use Rattle.std.proofs.lemmas.List.Folds.{list_any-append}
+use Rattle.std.proofs.lemmas.Option.{slice_get_within, get_or_from_slice_get}
+use Rattle.plist_reader.specs.declared.tree.Tree.{Tree}
+use Rattle.plist_reader.specs.declared.tree.TreeNode.{TreeNode}
+use Rattle.plist_reader.specs.declared.tree.TreeValue.TheVariants as tree
+use Rattle.plist_reader.specs.Tree.{pairs_of, spells, is_key, value_with, value_in}
+use Rattle.plist_reader.specs.Keys.{is_among}
+use Rattle.plist_reader.specs.Grammar.{HasTree, node}
+use Rattle.plist_reader.specs.Sources.{text_at, AreNew, IsDictionaryIn, FindsPairs}
+use Rattle.plist_reader.proofs.Keyed.{either_true, same_bytes, bytes_same}
+use Rattle.plist_reader.proofs.Dictionaries.{HasKeys, cons_parts}
+use Rattle.plist_reader.proofs.SourceLaws.{stands_in_source}
+
+-- ---- keys that are known
+
+same_key : (x y : List ℕ) → Some x ≡ Some y → x ≡ y
+same_key x y e = cc
+
+known-more : (key : List ℕ) (before more : List (List ℕ)) → is_among key before ≡ true → is_among key (before ++ more) ≡ true
+known-more key before more h = list_any-append (pointwise nat_eq key) before more ∙ either_true (is_among key before) (is_among key more) (inl h)
+
+known-last : (key : List ℕ) (before : List (List ℕ)) → is_among key (before ++ key ∷ []) ≡ true
+known-last key before = list_any-append (pointwise nat_eq key) before (key ∷ [])
+    ∙ either_true (is_among key before) (is_among key (key ∷ [])) (inr (either_true (pointwise nat_eq key key) false (inl (same_bytes key))))
+
+-- a key that is known is that of no pair behind
+known-never : (nodes : List TreeNode) (earlier later : List (ℕ × ℕ)) (number value : ℕ) (key : List ℕ) (before keys : List (List ℕ))
+    → HasKeys nodes (earlier ++ (number, value) ∷ later) keys → AreNew before keys → text_at nodes number ≡ Some key → is_among key before ≡ true → ⊥
+known-never nodes [] later number value key before [] h a e k = cc
+known-never nodes [] later number value key before (x ∷ keys) h a e k =
+    let c = cons_parts (text_at nodes number) (Some x) (map (λ pair. text_at nodes pair.0) later) (map (λ key. Some key) keys) h in
+    let s = same_key x key (sym c.0 ∙ e) in
+    false≢true (sym a.0 ∙ (ap (λ z. is_among z before) s ∙ k))
+known-never nodes (p ∷ earlier) later number value key before [] h a e k = cc
+known-never nodes (p ∷ earlier) later number value key before (x ∷ keys) h a e k =
+    let c = cons_parts (text_at nodes p.0) (Some x) (map (λ pair. text_at nodes pair.0) (earlier ++ (number, value) ∷ later)) (map (λ key. Some key) keys) h in
+    known-never nodes earlier later number value key (before ++ x ∷ []) keys c.1 a.1 e (known-more key before (x ∷ []) k)
+
+-- ---- what is found
+
+found-among : (t : Tree) (earlier later : List (ℕ × ℕ)) (number value : ℕ) (key : List ℕ) (before keys : List (List ℕ))
+    → HasKeys t.nodes (earlier ++ (number, value) ∷ later) keys → AreNew before keys → text_at t.nodes number ≡ Some key
+    → value_with t key (earlier ++ (number, value) ∷ later) ≡ Some value
+found-among t [] later number value key before keys h a e = ap (λ x. if spells key x then Some value else value_with t key later) e ∙ ap (λ x. if x then Some value else value_with t key later) (same_bytes key)
+found-among t (p ∷ earlier) later number value key before [] h a e = cc
+found-among t (p ∷ earlier) later number value key before (x ∷ keys) h a e =
+    let c = cons_parts (text_at t.nodes p.0) (Some x) (map (λ pair. text_at t.nodes pair.0) (earlier ++ (number, value) ∷ later)) (map (λ key. Some key) keys) h in
+    elim (cases_Bool (is_key t key p.0)) [
+      | inl y ↦ (let s = bytes_same x key (ap (λ z. spells key z) (sym c.0) ∙ y) in absurd (known-never t.nodes earlier later number value key (before ++ x ∷ []) keys c.1 a.1 e (ap (λ z. is_among key (before ++ z ∷ [])) s ∙ known-last key before)))
+      | inr n ↦ rw n (found-among t earlier later number value key (before ++ x ∷ []) keys c.1 a.1 e)
+    ]
+
+value-at : (nodes : List TreeNode) (P : TreeNode → Type 0) (n : ℕ) (x : TreeNode) → All P nodes → slice_get nodes n ≡ Some x → P x
+value-at nodes P n x h e = subst P (get_or_from_slice_get nodes n x x e) (All-get_or P nodes n x (slice_get_within nodes n x e) h)
+
+pub finds-pairs : (source : List ℕ) (t : Tree) → HasTree source t → FindsPairs t
+finds-pairs source t h n place end earlier number value later key e k =
+    let all = (stands_in_source source t h).dictionaries in
+    let i : IsDictionaryIn t.nodes (tree.Pairs (earlier ++ (number, value) ∷ later)) = value-at t.nodes (λ x. IsDictionaryIn t.nodes x.value) n (node place end (tree.Pairs (earlier ++ (number, value) ∷ later))) all e in
+    ap (λ o. value_in t key (option_and_then (λ x. pairs_of x.value) o)) e ∙ found-among t earlier later number value key [] i.keys i.texts i.differ k
