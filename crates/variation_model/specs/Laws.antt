@@ -1,4 +1,5 @@
--- What holds of the order and of the supports of any places that a model has.
+-- What holds of the order, of the supports and of the deltas of any places that a model has. Order, supports and rounding are
+-- fontc's own, and so are their laws.
 use Rattle.std.specs.Prelude.{◌≡◌, ◌≢◌, ◌⊎◌, ℕ, ◌<◌, ◌≤◌, Bool, true, false, List, length, replicate, take, ℤ, pos, ◌-ℤ◌, unsigned_abs, All, Contains, EachIndex, FitsSigned, slice_index_or, Result, Ok, Err, Vec}
 use Rattle.std.specs.Int.{w16}
 use Rattle.std.specs.declared.alloc.Global.{Global}
