@@ -2,7 +2,7 @@ ghost use Rattle.std.specs.Prelude.{◌≡◌, ◌≢◌, ℕ, ◌-◌, ◌+◌,
 ghost use Rattle.variation_model.specs.Places.{axis_count, place_at, zero_number, order_of};
 ghost use Rattle.fixed_math.specs.FixedPoint.{half_up};
 ghost use Rattle.fixed_math.specs.declared.Fixed.{Fixed};
-ghost use Rattle.variation_model.specs.Laws.{IsEachWhatIsLacking, IsOrder, IsInOrder, IsZeroFirst, LaterSupportsCountNothing, MeetWithinHalf, OwnSupportsCountWhole, RefusesFirstOutside, comes_before};
+ghost use Rattle.variation_model.specs.Laws.{IsEachWhatIsLacking, IsOrder, IsInOrder, IsWithinHalfOfValues, IsZeroFirst, LaterSupportsCountNothing, MeetWithinHalf, OwnSupportsCountWhole, RefusesFirstOutside, comes_before};
 ghost use Rattle.variation_model.specs.Scalar.{scalar_of};
 ghost use Rattle.variation_model.specs.Supports.{supports_after, supports_of};
 ghost use Rattle.variation_model.specs.Parts.{AreSmall, deltas_by, row_at, rows_from, scalars_at, weighted};
@@ -80,6 +80,8 @@ impl Model {
     /// common table formats", "Variation regions"). How far a region reaches is fontc's own.
     pub fn supports(&self) -> &[Region]
         ensures value { result.now ≡ supports_of self.now }
+        ensures as_many { length result.now ≡ length self.now }
+        ensures sides { EachIndex result.now (λ i. length (region_at result.now i).sides ≡ axis_count self.now) }
         ensures own { OwnSupportsCountWhole self.now }
         ensures later { LaterSupportsCountNothing self.now }
     {
@@ -94,6 +96,7 @@ impl Model {
     pub fn deltas(&self, alloc: Global, values: &[Fixed]) -> Result<Vec<i16>, DeltaError>
         requires { length values.now ≡ length self.now }
         ensures deltas { GivesDeltas result (deltas_of self.now values.now) }
+        ensures as_many { IfOk result (λ deltas. length deltas.items ≡ length self.now) }
         ensures lacking { IfOk result (λ deltas. IsEachWhatIsLacking self.now values.now deltas.items) }
         ensures too_large { RefusesFirstOutside result (deltas_of self.now values.now) }
         ensures within_half { IfOk result (λ deltas. MeetWithinHalf self.now values.now deltas.items) }
@@ -114,7 +117,8 @@ impl Model {
         requires deltas { length deltas.now ≡ length self.now }
         requires axes { length at.now ≡ axis_count self.now }
         ensures value { result ≡ value_of (supports_of self.now) deltas.now at.now }
-        ensures within_half { (values : List Fixed) (i : ℕ) → deltas.now ≡ deltas_of self.now values → i < length self.now → at.now ≡ place_at self.now i → unsigned_abs (result -ℤ value_at_place values i) ≤ 32768 }
+        ensures within { unsigned_abs result ≤ 2147483648 * length deltas.now }
+        ensures within_half { IsWithinHalfOfValues self.now deltas.now at.now result }
     {
         value_of(self.supports.as_slice(), deltas, at)
     }
