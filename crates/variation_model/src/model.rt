@@ -1,7 +1,6 @@
-ghost use Rattle.std.specs.Prelude.{◌≡◌, ◌≢◌, ℕ, ◌-◌, ◌+◌, ◌*◌, ◌^◌, ◌<◌, ◌≤◌, ◌-ℤ◌, ◌*ℤ◌, true, false, List, [], map, unsigned_abs, All, MatchOption, IfOk, length, replicate, EachIndex, Contains};
+ghost use Rattle.std.specs.Prelude.{◌≡◌, ◌≢◌, ℕ, ◌-◌, ◌+◌, ◌*◌, ◌^◌, ◌<◌, ◌≤◌, ◌-ℤ◌, ◌*ℤ◌, true, false, [], map, unsigned_abs, All, MatchOption, IfOk, length, replicate, EachIndex, Contains};
 ghost use Rattle.variation_model.specs.Places.{axis_count, place_at, zero_number, order_of};
 ghost use Rattle.fixed_math.specs.FixedPoint.{half_up};
-ghost use Rattle.fixed_math.specs.declared.Fixed.{Fixed};
 ghost use Rattle.variation_model.specs.Laws.{IsEachWhatIsLacking, IsOrder, IsInOrder, IsWithinHalfOfValues, IsZeroFirst, LaterSupportsCountNothing, MeetWithinHalf, OwnSupportsCountWhole, RefusesFirstOutside, comes_before};
 ghost use Rattle.variation_model.specs.Scalar.{scalar_of};
 ghost use Rattle.variation_model.specs.Supports.{supports_after, supports_of};
