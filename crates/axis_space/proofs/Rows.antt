@@ -3,10 +3,18 @@ use Rattle.std.specs.Prelude.{◌≡◌, List, [], ◌∷◌, map, ℤ, pos, neg
 use Rattle.std.proofs.Common.{refl}
 use Rattle.fixed_math.specs.declared.F2Dot14.{F2Dot14}
 use Rattle.font_ir.specs.declared.header.Master.{Master}
+use Rattle.axis_space.specs.Normal.{normalised}
 use Rattle.axis_space.specs.Coordinates.{normal_on}
 use Rattle.axis_space.specs.AxisPairs.{pair, pairs_of, avar_pairs}
 use Rattle.axis_space.specs.Points.{points_of, user_at}
 use Rattle.axis_space.specs.declared.coordinates.Kind.TheVariants.{Design}
+
+-- half a raw unit goes up, above the default and below it
+half_above : normalised (pos 1) (pos 0) (pos 0) (pos 32768) ≡ pos 1
+half_above = refl
+
+half_below : normalised (negsuc 0) (negsuc 32767) (pos 0) (pos 0) ≡ pos 0
+half_below = refl
 
 -- a master on one axis, by its raw coordinates
 abbrev master : ℤ → ℤ → Master

@@ -1,5 +1,6 @@
--- User coordinates from design coordinates: each master is a point, and between two neighbours the reading is linear. That it
--- is rounded to the nearest in 16.16, a tie going up, and cut to the ends is fontc's own.
+-- User coordinates from design coordinates, which is fontc's own: each master is a point, and of masters at one design
+-- coordinate the first counts; between two neighbours the reading is linear, rounded to the nearest in 16.16, a tie going up;
+-- past the ends it is that of the end.
 use Rattle.std.specs.Prelude.{◌≡◌, ℕ, List, [], ◌∷◌, map, ℤ, pos, ◌+ℤ◌, ◌-ℤ◌, ◌*ℤ◌, ◌≤ℤ◌, ◌<ℤ◌, ◌⊎◌, int_lt, int_le, if◌then◌else◌, Option, Some, None, All}
 use Rattle.std.specs.List.{find}
 use Rattle.std.specs.Ordering.{int_eq}

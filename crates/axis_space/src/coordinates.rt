@@ -1,7 +1,7 @@
 ghost use Rattle.std.specs.Prelude.{◌≡◌, ◌<◌, ◌≤ℤ◌, length, All};
 ghost use Rattle.std.specs.List.{fold};
 ghost use Rattle.std.specs.Int.{int_max, int_min};
-ghost use Rattle.axis_space.specs.Coordinates.{HasAxis, coordinate_on, coordinates_of, coordinates_on, default_on, least as least_number, greatest as greatest_number};
+ghost use Rattle.axis_space.specs.Coordinates.{HasAxis, coordinate_on, coordinates_on, default_on, least as least_number, greatest as greatest_number};
 ghost use Rattle.axis_space.specs.Normal.{normalised};
 
 use crate::normal::normalise;

@@ -1,6 +1,6 @@
 ghost use Rattle.std.specs.Prelude.{◌≡◌, ◌<◌, length, All, IfOk};
 ghost use Rattle.axis_space.specs.Coordinates.{HasAxis};
-ghost use Rattle.axis_space.specs.AxisPairs.{GivesPairs, OrdersPairs, avar_pairs, fixed_pairs, in_order, pairs_of, first_fall as fall_of, fall_after as fall_from, rises as is_rise};
+ghost use Rattle.axis_space.specs.AxisPairs.{GivesPairs, OrdersPairs, avar_pairs, fixed_pairs, in_order, pairs_of, first_fall as fall_of, fall_after as fall_from, rises};
 
 use crate::coordinates::{Kind, normal, scale_of};
 use crate::errors::MapError;
@@ -97,7 +97,7 @@ fn fall_after(first: Pair, pairs: &[Pair]) -> Option<F2Dot14>
 {
     let mut last = first;
     for pair in pairs {
-        if !rises(last, *pair) {
+        if !is_rise(last, *pair) {
             return Some(pair.0);
         }
         last = *pair;
@@ -106,8 +106,8 @@ fn fall_after(first: Pair, pairs: &[Pair]) -> Option<F2Dot14>
 }
 
 /// Whether the second pair is above the first one in both numbers.
-fn rises(first: Pair, second: Pair) -> bool
-    ensures { result ≡ is_rise first second }
+fn is_rise(first: Pair, second: Pair) -> bool
+    ensures { result ≡ rises first second }
 {
     first.0.0 < second.0.0 && first.1.0 < second.1.0
 }

@@ -15,9 +15,9 @@ pub struct Point {
     pub user: Fixed,
 }
 
-/// The user coordinate at a design coordinate, in 16.16: linear between the masters' coordinates on the axis (OpenType 1.9,
-/// "Coordinate scales and normalization"), rounded to the nearest, a tie going up. Before the least and after the greatest
-/// design coordinate it is that of the master there. Of masters with one design coordinate the first counts. It takes no memory.
+/// The user coordinate at a design coordinate, in 16.16, which is fontc's own: linear between the masters' coordinates on the
+/// axis, rounded to the nearest, a tie going up. Before the least and after the greatest design coordinate it is that of the
+/// master there. Of masters with one design coordinate the first counts. It takes no memory.
 pub fn user_of(masters: &[Master], axis: u32, design: Fixed) -> Fixed
     requires master { 0 < length masters.now }
     requires axes { All (HasAxis axis) masters.now }

@@ -51,6 +51,21 @@ fn a_third_of_the_way_is_a_third(rt: HostRuntime) {
 }
 
 #[test]
+fn two_near_numbers_can_lie_at_one_place(rt: HostRuntime) {
+    let greatest = Fixed(1966080000);
+    for v in [655360000, 655366554] {
+        assert_eq!(rt; normalise(Fixed(v), Fixed(0), Fixed(0), greatest).0, 5461);
+    }
+}
+
+#[test]
+fn half_a_unit_goes_up(rt: HostRuntime) {
+    let zero = Fixed(0);
+    assert_eq!(rt; normalise(Fixed(1), zero, zero, Fixed(32768)).0, 1);
+    assert_eq!(rt; normalise(Fixed(-1), Fixed(-32768), zero, zero).0, 0);
+}
+
+#[test]
 fn each_pair_stands_once_in_order(rt: HostRuntime) -> Result<(), Fail> {
     let near = [
         (1966080000, 1966080000),
@@ -61,6 +76,19 @@ fn each_pair_stands_once_in_order(rt: HostRuntime) -> Result<(), Fail> {
     let near = masters(rt.alloc(), &near)?;
     let pairs = avar_map(rt.alloc(), near.as_slice(), 3, 0)?;
     let expected = [-16384, 0, 5461, 16384];
+    assert_eq!(rt; pairs.len(), expected.len());
+    for (i, number) in expected.iter().enumerate() {
+        assert_eq!(rt; pairs[i], (F2Dot14(*number), F2Dot14(*number)));
+    }
+    Ok(())
+}
+
+#[test]
+fn two_masters_give_the_pairs_of_the_ends_and_the_default(rt: HostRuntime) -> Result<(), Fail> {
+    let ends = [(400 * 65536, 400 * 65536), (700 * 65536, 700 * 65536)];
+    let ends = masters(rt.alloc(), &ends)?;
+    let pairs = avar_map(rt.alloc(), ends.as_slice(), 0, 0)?;
+    let expected = [-16384, 0, 16384];
     assert_eq!(rt; pairs.len(), expected.len());
     for (i, number) in expected.iter().enumerate() {
         assert_eq!(rt; pairs[i], (F2Dot14(*number), F2Dot14(*number)));

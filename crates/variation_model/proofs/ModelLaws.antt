@@ -1,14 +1,18 @@
 -- What the laws of places give of a model.
-use Rattle.std.proofs.Common.{◌≡◌, ℕ, ◌<◌, ◌≤◌, List, sym, ap, subst, ◌∙◌, length, ℤ, ◌-ℤ◌}
+use Rattle.std.proofs.Common.{◌≡◌, ℕ, ◌<◌, ◌≤◌, List, [], ◌∷◌, ◌++◌, refl, sym, ap, subst, ◌∙◌, arith, length, map, ℤ, ◌-ℤ◌}
+use Rattle.std.proofs.lemmas.List.{length-map}
 use Rattle.std.specs.Prelude.{unsigned_abs, IfOk, Result, Ok, Err, Vec}
 use Rattle.std.specs.declared.alloc.Global.{Global}
 use Rattle.fixed_math.specs.declared.F2Dot14.{F2Dot14}
 use Rattle.fixed_math.specs.declared.Fixed.{Fixed}
-use Rattle.variation_model.specs.Places.{place_at, order_of, ArePlaces}
+use Rattle.fixed_math.specs.FixedPoint.{half_up}
+use Rattle.font_ir.specs.declared.variation.Region.{Region}
+use Rattle.variation_model.specs.Places.{place_at, order_of, ordered, ArePlaces}
 use Rattle.variation_model.specs.Supports.{supports_of}
-use Rattle.variation_model.specs.Deltas.{GivesDeltas, value_of, deltas_of, value_at_place}
+use Rattle.variation_model.specs.Deltas.{GivesDeltas, value_of, deltas_after, deltas_of, value_at_place}
 use Rattle.variation_model.specs.declared.errors.DeltaError.{DeltaError}
 use Rattle.variation_model.specs.Laws.{IsEachWhatIsLacking, IsInOrder, LaterSupportsCountNothing, MeetWithinHalf}
+use Rattle.variation_model.proofs.ModelLemmas.{length-ordered}
 use Rattle.variation_model.proofs.OwnSupports.{own_supports}
 use Rattle.variation_model.proofs.LaterSupports.{later_supports}
 use Rattle.variation_model.proofs.OrderLaws.{order_IsInOrder}
@@ -43,3 +47,24 @@ given_deltas_lack (Ok deltas) places values given =
     let P : List ℤ → Type 0 = λ ds. IsEachWhatIsLacking places values ds in
     subst P (sym given.0) (deltas_lack places values)
 given_deltas_lack (Err e) places values given = tt
+
+-- there are as many deltas as places
+length-deltas_after : (regions : List Region) (earlier : List ℤ) (places : List (List F2Dot14)) (values : List ℤ) → length values ≡ length places → length (deltas_after regions earlier places values) ≡ length places
+length-deltas_after regions earlier [] values e = refl
+length-deltas_after regions earlier (place ∷ places) [] e = absurd (omega (arith, e))
+length-deltas_after regions earlier (place ∷ places) (value ∷ values) e =
+    let delta = half_up (value -ℤ value_of regions earlier place) in
+    let rest : length values ≡ length places = omega (arith, e) in
+    omega (arith, length-deltas_after regions (earlier ++ delta ∷ []) places values rest)
+
+length-deltas_of : (places : List (List F2Dot14)) (values : List Fixed) → length (deltas_of places values) ≡ length places
+unfolding deltas_of
+length-deltas_of places values =
+    let order = order_of places in
+    let many : length (map (value_at_place values) order) ≡ length (ordered places) =
+    length-map order (value_at_place values) ∙ sym (length-map order (place_at places)) in
+    length-deltas_after (supports_of places) [] (ordered places) (map (value_at_place values) order) many ∙ length-ordered places
+
+pub given_as_many : (result : Result (Vec ℤ Global) DeltaError) (places : List (List F2Dot14)) (values : List Fixed) → GivesDeltas result (deltas_of places values) → IfOk result (λ deltas. length deltas.items ≡ length places)
+given_as_many (Ok deltas) places values given = ap length given.0 ∙ length-deltas_of places values
+given_as_many (Err e) places values given = tt

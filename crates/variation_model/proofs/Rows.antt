@@ -50,6 +50,19 @@ thirds_supports = refl
 thirds_scalar : scalar_of ((region_at thirds_regions 1).sides) (at 4096 ∷ []) ≡ pos 49155
 thirds_scalar = refl
 
+-- the scalars of the axes are multiplied in their order, each product rounded: from the last axis to the first it would be 6311
+abbrev three_sides : List (F2Dot14 × F2Dot14 × F2Dot14)
+three_sides = (at 0, at 16384, at 16384) ∷ (at 0, at 5461, at 16384) ∷ (at 0, at 3, at 16384) ∷ []
+
+three_scalar : scalar_of three_sides (at 4936 ∷ at 12781 ∷ at 509 ∷ []) ≡ pos 6312
+three_scalar = refl
+
+abbrev three_reversed : List (F2Dot14 × F2Dot14 × F2Dot14)
+three_reversed = (at 0, at 3, at 16384) ∷ (at 0, at 5461, at 16384) ∷ (at 0, at 16384, at 16384) ∷ []
+
+three_reversed_scalar : scalar_of three_reversed (at 509 ∷ at 12781 ∷ at 4936 ∷ []) ≡ pos 6311
+three_reversed_scalar = refl
+
 -- two masters: a delta of -32766 can be stored
 abbrev ends : List (List F2Dot14)
 ends = (at 0 ∷ []) ∷ (at 16384 ∷ []) ∷ []
@@ -112,6 +125,23 @@ mixed_minus = refl
 mixed_far : region_at (supports_of mixed) 3 ≡ record { sides = (at 8192, at 16384, at 16384) ∷ (at 0, at 0, at 0) ∷ [] }
 unfolding supports_of order_of
 mixed_far = refl
+
+-- and one whose end a later place on the same axis becomes
+mixed_last : region_at (supports_of mixed) 7 ≡ record { sides = (at 0, at 4096, at 8192) ∷ (at 0, at 16384, at 16384) ∷ [] }
+unfolding supports_of order_of
+mixed_last = refl
+
+-- the thirds on the minus side: there the nearer master becomes the end of the farther one's region
+abbrev minus_thirds : List (List F2Dot14)
+minus_thirds = (at 0 ∷ []) ∷ (minus 5460 ∷ []) ∷ (minus 16383 ∷ []) ∷ []
+
+abbrev minus_regions : List Region
+minus_regions =
+    record { sides = (at 0, at 0, at 0) ∷ [] } ∷ record { sides = (minus 16383, minus 5460, at 0) ∷ [] } ∷ record { sides = (minus 16383, minus 16383, minus 5460) ∷ [] } ∷ []
+
+minus_supports : supports_of minus_thirds ≡ minus_regions
+unfolding supports_of order_of
+minus_supports = refl
 
 -- where the ratios of two axes are the same, both are cut
 abbrev diagonal : List (List F2Dot14)

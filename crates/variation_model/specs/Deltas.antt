@@ -1,6 +1,7 @@
--- The deltas of a value that has a number at each place, and the number that they give at a place. In OpenType a default value and
--- deltas over regions stand for a value at each master; that each delta is formed from the earlier ones as they are stored, and
--- so rounded, is fontc's own.
+-- The deltas of a value that has a number at each place, and the number that they give at a place. A default value and deltas
+-- over regions stand for a value at each master, and their sum by scalars is the value at an instance (OpenType 1.9, "Font
+-- variations common table formats", "Algorithm for interpolation of instance values"). That each delta is formed from the
+-- earlier ones as they are stored, and so rounded, is fontc's own.
 use Rattle.std.specs.Prelude.{◌≡◌, ℕ, ◌+◌, Bool, ◌&&◌, if◌then◌else◌, List, [], ◌∷◌, ◌++◌, map, slice_index_or, ℤ, pos, negsuc, ◌+ℤ◌, ◌-ℤ◌, ◌*ℤ◌, int_le, Option, Some, None, Result, Ok, Err, Vec}
 use Rattle.std.specs.declared.alloc.Global.{Global}
 use Rattle.fixed_math.specs.declared.F2Dot14.{F2Dot14}

@@ -1,4 +1,5 @@
--- What holds of the order and of the supports of any places that a model has.
+-- What holds of the order, of the supports and of the deltas of any places that a model has. Order, supports and rounding are
+-- fontc's own, and so are their laws.
 use Rattle.std.specs.Prelude.{◌≡◌, ◌≢◌, ◌⊎◌, ℕ, ◌<◌, ◌≤◌, Bool, true, false, List, length, replicate, take, ℤ, pos, ◌-ℤ◌, unsigned_abs, All, Contains, EachIndex, FitsSigned, slice_index_or, Result, Ok, Err, Vec}
 use Rattle.std.specs.Int.{w16}
 use Rattle.std.specs.declared.alloc.Global.{Global}
@@ -8,7 +9,7 @@ use Rattle.fixed_math.specs.FixedPoint.{half_up}
 use Rattle.variation_model.specs.Places.{place_at, axis_count, zero_number, ordered, order_of, key, is_less_key}
 use Rattle.variation_model.specs.Supports.{supports_of}
 use Rattle.variation_model.specs.Scalar.{scalar_of}
-use Rattle.variation_model.specs.Deltas.{region_at, value_of, value_at_place}
+use Rattle.variation_model.specs.Deltas.{deltas_of, region_at, value_of, value_at_place}
 use Rattle.variation_model.specs.declared.errors.DeltaError.{DeltaError}
 use Rattle.variation_model.specs.declared.errors.DeltaError.TheVariants as delta_errors
 
@@ -55,6 +56,12 @@ IsEachWhatIsLacking places values deltas =
 abbrev pub MeetWithinHalf : List (List F2Dot14) → List Fixed → List ℤ → Type 0
 MeetWithinHalf places values deltas =
     EachIndex places (λ i. unsigned_abs (value_of (supports_of places) deltas (place_at places i) -ℤ value_at_place values i) ≤ 32768)
+
+-- what is given at a place differs from each value there by at most one half, in 16.16, if the deltas are the value's and the
+-- place is one of these
+abbrev pub IsWithinHalfOfValues : List (List F2Dot14) → List ℤ → List F2Dot14 → ℤ → Type 0
+IsWithinHalfOfValues places deltas at given =
+    (values : List Fixed) (i : ℕ) → deltas ≡ deltas_of places values → i < length places → at ≡ place_at places i → unsigned_abs (given -ℤ value_at_place values i) ≤ 32768
 
 -- the delta at this number is outside an i16, and none before it is
 pub record IsFirstOutside (deltas : List ℤ) (at : ℕ) (value : ℤ) : Type 0 where

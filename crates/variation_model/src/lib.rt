@@ -9,6 +9,7 @@ mod scalars;
 mod supports;
 
 pub use errors::DeltaError;
+pub use font_ir::Region;
 pub use model::Model;
 pub use scalars::scalar;
 

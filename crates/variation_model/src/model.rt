@@ -1,8 +1,7 @@
-ghost use Rattle.std.specs.Prelude.{◌≡◌, ◌≢◌, ℕ, ◌-◌, ◌+◌, ◌*◌, ◌^◌, ◌<◌, ◌≤◌, ◌-ℤ◌, ◌*ℤ◌, true, false, List, [], map, unsigned_abs, All, MatchOption, IfOk, length, replicate, EachIndex, Contains};
+ghost use Rattle.std.specs.Prelude.{◌≡◌, ◌≢◌, ℕ, ◌-◌, ◌+◌, ◌*◌, ◌^◌, ◌<◌, ◌≤◌, ◌-ℤ◌, ◌*ℤ◌, true, false, [], map, unsigned_abs, All, MatchOption, IfOk, length, replicate, EachIndex, Contains};
 ghost use Rattle.variation_model.specs.Places.{axis_count, place_at, zero_number, order_of};
 ghost use Rattle.fixed_math.specs.FixedPoint.{half_up};
-ghost use Rattle.fixed_math.specs.declared.Fixed.{Fixed};
-ghost use Rattle.variation_model.specs.Laws.{IsEachWhatIsLacking, IsOrder, IsInOrder, IsZeroFirst, LaterSupportsCountNothing, MeetWithinHalf, OwnSupportsCountWhole, RefusesFirstOutside, comes_before};
+ghost use Rattle.variation_model.specs.Laws.{IsEachWhatIsLacking, IsOrder, IsInOrder, IsWithinHalfOfValues, IsZeroFirst, LaterSupportsCountNothing, MeetWithinHalf, OwnSupportsCountWhole, RefusesFirstOutside, comes_before};
 ghost use Rattle.variation_model.specs.Scalar.{scalar_of};
 ghost use Rattle.variation_model.specs.Supports.{supports_after, supports_of};
 ghost use Rattle.variation_model.specs.Parts.{AreSmall, deltas_by, row_at, rows_from, scalars_at, weighted};
@@ -41,8 +40,9 @@ impl std::marker::Model for Model {
 }
 
 impl Model {
-    /// The model of these places, which are normalised coordinates. It takes time for at most the square of the number of
-    /// places times the number of axes, and keeps a scalar for each two places.
+    /// The model of these places, which are normalised coordinates: fewer than 4,294,967,296, each with one coordinate per axis,
+    /// all different, and one of them zero on every axis. It takes time for at most the square of the number of places times the
+    /// number of axes, and keeps a scalar for each two places.
     pub fn new(alloc: Global, places: &[Location]) -> Result<Model, NoMemory>
         requires few { length places.now < 2 ^ 32 }
         requires one_length { EachIndex places.now (λ i. length (place_at places.now i) ≡ axis_count places.now) }
@@ -64,7 +64,8 @@ impl Model {
         })
     }
 
-    /// The positions of the places in the model's order.
+    /// The positions of the places in the model's order, which is fontc's own. A position counts from 0 in the caller's order, the
+    /// one in which the model was given the places.
     pub fn order(&self) -> &[u32]
         ensures value { result.now ≡ order_of self.now }
         ensures sorted { IsInOrder self.now result.now }
@@ -74,21 +75,27 @@ impl Model {
         self.order.as_slice()
     }
 
-    /// The region of each place, in the model's order.
+    /// The region of each place, in the model's order: start, peak and end on each axis, in 2.14 (OpenType 1.9, "Font variations
+    /// common table formats", "Variation regions"). How far a region reaches is fontc's own.
     pub fn supports(&self) -> &[Region]
         ensures value { result.now ≡ supports_of self.now }
+        ensures as_many { length result.now ≡ length self.now }
+        ensures sides { EachIndex result.now (λ i. length (region_at result.now i).sides ≡ axis_count self.now) }
         ensures own { OwnSupportsCountWhole self.now }
         ensures later { LaterSupportsCountNothing self.now }
     {
         self.supports.as_slice()
     }
 
-    /// The deltas, in the model's order, of a value that has these numbers at the places, in the order in which the model was
-    /// given them. Each is formed from the earlier ones as they are answered, and rounded to the nearest, a tie going up. It
-    /// takes time for at most the square of the number of places, and memory for its answer alone.
+    /// The deltas of a value, in whole font units and in the model's order. The value's numbers at the places are in 16.16, and
+    /// in the order in which the model was given the places. Each delta is formed from the earlier ones as they are answered, and
+    /// rounded to the nearest, a tie going up. The error is `TooLarge` exactly where a delta is outside an `i16`, and has the first
+    /// such, with its number in the model's order; the later ones are not formed. Else memory can run out. It takes time for at
+    /// most the square of the number of places, and memory for its answer alone.
     pub fn deltas(&self, alloc: Global, values: &[Fixed]) -> Result<Vec<i16>, DeltaError>
         requires { length values.now ≡ length self.now }
         ensures deltas { GivesDeltas result (deltas_of self.now values.now) }
+        ensures as_many { IfOk result (λ deltas. length deltas.items ≡ length self.now) }
         ensures lacking { IfOk result (λ deltas. IsEachWhatIsLacking self.now values.now deltas.items) }
         ensures too_large { RefusesFirstOutside result (deltas_of self.now values.now) }
         ensures within_half { IfOk result (λ deltas. MeetWithinHalf self.now values.now deltas.items) }
@@ -101,12 +108,16 @@ impl Model {
         )
     }
 
-    /// What the deltas, one per place in the model's order, give at a place: a number over 65536. It takes no memory.
+    /// What the deltas, one per place in the model's order, give at a place, which has one coordinate per axis: the sum of the
+    /// deltas, each times its region's scalar there, over 65536 (OpenType 1.9, "Font variations common table formats", "Algorithm
+    /// for interpolation of instance values"). The deltas of a value give at each place of the model its number there, up to one
+    /// half. It takes no memory.
     pub fn value_at(&self, deltas: &[i16], at: &[F2Dot14]) -> i64
         requires deltas { length deltas.now ≡ length self.now }
         requires axes { length at.now ≡ axis_count self.now }
         ensures value { result ≡ value_of (supports_of self.now) deltas.now at.now }
-        ensures within_half { (values : List Fixed) (i : ℕ) → deltas.now ≡ deltas_of self.now values → i < length self.now → at.now ≡ place_at self.now i → unsigned_abs (result -ℤ value_at_place values i) ≤ 32768 }
+        ensures within { unsigned_abs result ≤ 2147483648 * length deltas.now }
+        ensures within_half { IsWithinHalfOfValues self.now deltas.now at.now result }
     {
         value_of(self.supports.as_slice(), deltas, at)
     }

@@ -1,4 +1,4 @@
-ghost use Rattle.std.specs.Prelude.{◌≡◌, ℕ, ◌^◌, ◌<◌, ◌==◌, not, position, IfOk, length, map, count_by, unsigned_abs};
+ghost use Rattle.std.specs.Prelude.{◌≡◌, ◌^◌, ◌<◌, ◌==◌, not, position, IfOk, length, map, count_by, unsigned_abs};
 ghost use Rattle.variation_model.specs.Places as spec;
 
 use fixed_math::F2Dot14;

@@ -1,4 +1,4 @@
-ghost use Rattle.std.specs.Prelude.{◌≡◌, ◌-ℤ◌, length};
+ghost use Rattle.std.specs.Prelude.{◌≡◌, ◌-ℤ◌, ◌≤ℤ◌, pos, length};
 ghost use Rattle.variation_model.specs.Scalar.{axis_scalar, scalar_of};
 
 use fixed_math::{F2Dot14, Fixed, mul, ratio};
@@ -8,7 +8,9 @@ use font_ir::Region;
 /// formats"). The place has one coordinate per axis of the region. It takes no memory.
 pub fn scalar(region: &Region, at: &[F2Dot14]) -> Fixed
     requires { length at.now ≡ length region.now.sides }
-    ensures { result.0 ≡ scalar_of region.now.sides at.now }
+    ensures value { result.0 ≡ scalar_of region.now.sides at.now }
+    ensures low { pos 0 ≤ℤ result.0 }
+    ensures high { result.0 ≤ℤ pos 65536 }
 {
     let sides = region.sides.as_slice();
     let mut product = Fixed(65536);

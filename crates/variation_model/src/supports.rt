@@ -1,4 +1,4 @@
-ghost use Rattle.std.specs.Prelude.{◌≡◌, ℕ, ◌<◌, ◌^◌, ◌≤ℤ◌, IfOk, length, map, EachIndex, All};
+ghost use Rattle.std.specs.Prelude.{◌≡◌, ◌<◌, IfOk, length, map, EachIndex, All};
 ghost use Rattle.variation_model.specs.Places.{axis_count, place_at};
 ghost use Rattle.variation_model.specs.Supports as spec;
 
@@ -104,14 +104,14 @@ fn narrow(sides: &mut [Side], place: &[F2Dot14])
     requires { length sides.old ≡ length place.now }
     ensures { sides.new ≡ spec.narrowed sides.old place.now }
 {
-    if all_inside(sides, place) {
+    if are_all_inside(sides, place) {
         let most = strongest(sides, place);
         cut_strongest(sides, place, most);
     }
 }
 
 /// Whether a place is active where the region is, and inside it or at its peak on each axis.
-fn all_inside(sides: &[Side], place: &[F2Dot14]) -> bool
+fn are_all_inside(sides: &[Side], place: &[F2Dot14]) -> bool
     requires { length sides.now ≡ length place.now }
     ensures { result ≡ spec.all_inside sides.now place.now }
 {

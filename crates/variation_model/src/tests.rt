@@ -1,4 +1,4 @@
-ghost use Rattle.std.specs.Prelude.{◌≡◌, pos, negsuc, [], ◌∷◌, IfOk, length};
+ghost use Rattle.std.specs.Prelude.{◌≡◌, [], ◌∷◌, IfOk, length};
 
 use super::*;
 use fixed_math::{F2Dot14, Fixed};
@@ -25,6 +25,9 @@ fn each_delta_is_formed_from_the_rounded_ones_before(rt: HostRuntime) -> Result<
     let values = [Fixed(0), Fixed(196608), Fixed(655360)];
     let deltas = model.deltas(alloc, values.as_slice())?;
     assert_eq!(rt; deltas.as_slice(), [0, 3, 9].as_slice());
+    let halves = [Fixed(0), Fixed(32768), Fixed(642253)];
+    let from_rounded = model.deltas(alloc, halves.as_slice())?;
+    assert_eq!(rt; from_rounded.as_slice(), [0, 1, 9].as_slice());
     assert_eq!(rt; model.order(), [0, 1, 2].as_slice());
     let third = [F2Dot14(8192), F2Dot14(16384)];
     assert_eq!(rt;
@@ -46,10 +49,38 @@ fn a_scalar_falls_from_the_peak(rt: HostRuntime) -> Result<(), Fail> {
     Ok(())
 }
 
+#[test]
+fn the_scalars_of_the_axes_are_multiplied_in_order(rt: HostRuntime) -> Result<(), Fail> {
+    let zero = F2Dot14(0);
+    let one = F2Dot14(16384);
+    let sides = vec![in rt.alloc();
+        (zero, one, one),
+        (zero, F2Dot14(5461), one),
+        (zero, F2Dot14(3), one),
+    ]?;
+    let region = Region {
+        sides: Sequence::from_vec(sides),
+    };
+    let at = [F2Dot14(4936), F2Dot14(12781), F2Dot14(509)];
+    assert_eq!(rt; scalar(&region, at.as_slice()).0, 6312);
+    Ok(())
+}
+
 fn on_one_axis(alloc: Global, x: i16) -> Result<Location, AllocError>
     ensures { IfOk result (λ l. l ≡ record { 0 = x } ∷ []) }
 {
     Ok(Sequence::from_vec(vec![in alloc; F2Dot14(x)]?))
+}
+
+/// Start, peak and end on each axis of the regions, one region after the other.
+fn told(alloc: Global, regions: &[Region]) -> Result<Vec<(i16, i16, i16)>, AllocError> {
+    let mut told = Vec::new(alloc);
+    for region in regions {
+        for side in region.sides.as_slice() {
+            told.push((side.0.0, side.1.0, side.2.0))?;
+        }
+    }
+    Ok(told)
 }
 
 #[test]
@@ -62,16 +93,40 @@ fn regions_reach_to_their_neighbours(rt: HostRuntime) -> Result<(), Fail> {
     ]?;
     let model = Model::new(alloc, places.as_slice())?;
     assert_eq!(rt; model.order(), [1, 2, 0].as_slice());
-    let mut told = Vec::new(alloc);
-    for region in model.supports() {
-        for side in region.sides.as_slice() {
-            told.push((side.0.0, side.1.0, side.2.0))?;
-        }
-    }
+    let sides = told(alloc, model.supports())?;
     assert_eq!(rt;
-        told.as_slice(),
+        sides.as_slice(),
         [(0, 0, 0), (0, 5461, 16384), (5461, 16384, 16384)].as_slice()
     );
+    Ok(())
+}
+
+#[test]
+fn regions_below_zero_end_at_their_neighbours(rt: HostRuntime) -> Result<(), Fail> {
+    let alloc = rt.alloc();
+    let places = vec![in alloc;
+        on_one_axis(alloc, 0)?,
+        on_one_axis(alloc, -5461)?,
+        on_one_axis(alloc, -16384)?,
+    ]?;
+    let model = Model::new(alloc, places.as_slice())?;
+    assert_eq!(rt; model.order(), [0, 1, 2].as_slice());
+    let sides = told(alloc, model.supports())?;
+    assert_eq!(rt;
+        sides.as_slice(),
+        [(0, 0, 0), (-16384, -5461, 0), (-16384, -16384, -5461)].as_slice()
+    );
+    Ok(())
+}
+
+#[test]
+fn a_delta_can_be_twice_as_far_as_a_value(rt: HostRuntime) -> Result<(), Fail> {
+    let alloc = rt.alloc();
+    let places = vec![in alloc; on_one_axis(alloc, 0)?, on_one_axis(alloc, 16384)?]?;
+    let model = Model::new(alloc, places.as_slice())?;
+    let values = [Fixed(16383 * 65536), Fixed(-16383 * 65536)];
+    let deltas = model.deltas(alloc, values.as_slice())?;
+    assert_eq!(rt; deltas.as_slice(), [16383, -32766].as_slice());
     Ok(())
 }
 

@@ -19,4 +19,8 @@ loop-i-preserved c =
 pub returns : goal.returns
 returns c =
     let past : length c.as_slice-sides.result.now ≤ c.loop-i.i = omega arith in
-    rw (← c.as_slice-sides.ensures) (rw (drop_all c.loop-i.i c.as_slice-sides.result.now past) at c.loop-i.invariant.1)
+    record {
+      value = rw (← c.as_slice-sides.ensures) (rw (drop_all c.loop-i.i c.as_slice-sides.result.now past) at c.loop-i.invariant.1);
+      low = c.loop-i.invariant.0.low;
+      high = c.loop-i.invariant.0.high;
+    }

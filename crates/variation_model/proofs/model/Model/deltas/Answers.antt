@@ -5,7 +5,7 @@ use Rattle.variation_model.specs.Deltas.{GivesDeltas, deltas_of, value_at_place}
 use Rattle.variation_model.specs.Parts.{deltas_by}
 use Rattle.variation_model.proofs.ModelLemmas.{model_few_rows, model_row_each, model_earlier, model_small, model_deltas, order_below}
 use Rattle.variation_model.proofs.RefusalLemmas.{given_refuses_first}
-use Rattle.variation_model.proofs.ModelLaws.{given_deltas_lack, given_deltas_meet}
+use Rattle.variation_model.proofs.ModelLaws.{given_as_many, given_deltas_lack, given_deltas_meet}
 use Rattle.variation_model.proofs.model.Model.deltas.Goals as goal
 
 pub deltas_over-requires-clause-few : goal.deltas_over-requires-clause-few
@@ -34,6 +34,10 @@ returns-clause-deltas c =
     rw (c.as_slice.ensures.value, c.as_slice-2.ensures.value) (model_deltas c.self.inside.places.items values c.self.inside.order.items c.self.inside.supports.items c.self.inside.scalars.items c.self.invariant ∙ ap (λ ps. deltas_of ps values) seen) in
     let P : List ℤ → Type 0 = λ ds. GivesDeltas c.deltas_over.result ds in
     subst P same c.deltas_over.ensures
+
+pub returns-clause-as_many : goal.returns-clause-as_many
+returns-clause-as_many c =
+    given_as_many c.deltas_over.result c.args.self.now c.args.values.now (returns-clause-deltas c)
 
 pub returns-clause-within_half : goal.returns-clause-within_half
 returns-clause-within_half c =

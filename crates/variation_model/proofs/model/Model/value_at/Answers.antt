@@ -28,6 +28,11 @@ returns-clause-value c =
     let fits : FitsSigned w64 c.value_of.result = search rules in
     rw (to_z-of_z fits) (c.value_of.ensures.value ∙ ap (λ rs. value_of rs c.args.deltas.now c.args.at.now) (c.as_slice.ensures.value ∙ c.self.invariant.are_supports ∙ ap supports_of seen))
 
+pub returns-clause-within : goal.returns-clause-within
+returns-clause-within c =
+    let fits : FitsSigned w64 c.value_of.result = search rules in
+    rw (to_z-of_z fits) c.value_of.ensures.within
+
 pub returns-clause-within_half : goal.returns-clause-within_half
 returns-clause-within_half c values i e h f =
     let places = c.self.inside.places.items in
