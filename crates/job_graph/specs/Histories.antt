@@ -1,4 +1,4 @@
--- Histories of workers that claim jobs, finish them and halt.
+-- Histories of workers that claim jobs, finish them and halt: which are legal, and what each comes to. fontc's own.
 use Rattle.std.specs.Prelude.{◌≡◌, ℕ, nat_eq, nat_lt, Bool, true, false, not, ◌&&◌, List, [], ◌∷◌, ◌++◌, fold, find, count_by, replicate, Option, Some, None, is_some, slice_get, slice_set, if◌then◌else◌}
 use Rattle.std.specs.List.{list_any}
 use Rattle.access_context.specs.declared.access.Spec.{Spec}
@@ -86,7 +86,12 @@ module _ {Id V : Type 0} (same : Id → Id → Bool) (plan : Meaning Id V) where
   -- what may come next. A claim: of a ready job that wasn't claimed, by a worker with none out, while nobody halted.
   -- A finish: by the worker that has the job out. A halt: a worker's first.
   abbrev pub is_allowed : ℕ → List (Event Id) → Event Id → Bool
-  is_allowed workers events (event.Claim w id) = nat_lt w workers && (is_ready_id (state_of events) id && (not (was_claimed same events id) && (is_free (slice_get (out_of workers events) w) && not (has_halted events))))
+  is_allowed workers events (event.Claim w id) =
+      nat_lt w workers
+      && (is_ready_id (state_of events) id
+      && (not (was_claimed same events id)
+      && (is_free (slice_get (out_of workers events) w)
+      && not (has_halted events))))
   is_allowed workers events (event.Finish w id) = has_out same id (slice_get (out_of workers events) w)
   is_allowed workers events (event.Halt w) = nat_lt w workers && not (list_any (is_halt_of w) events)
 

@@ -1,3 +1,4 @@
+-- The definitions of a growing graph of jobs and of its board. fontc's own.
 pub mod Meaning
 pub mod Rounds
 pub mod Laws

@@ -1,4 +1,4 @@
--- What stands in a list. These are lemmas; no contract cites them.
+-- What stands in a list. These are lemmas of fontc's own; no contract cites them.
 use Rattle.std.proofs.Common.{◌≡◌, ℕ, zero, suc, ◌<◌, Bool, true, false, cond, ◌⊎◌, inl, inr, List, [], ◌∷◌, ◌++◌, map, length, get_or, drop, ◌+◌, Some, refl, sym, ap, ◌∙◌, subst, arith}
 use Rattle.std.specs.List.{list_all, list_any, flat_map, filter, find, Contains, slice_get}
 use Rattle.std.proofs.Math.Seq.{drop-cons}

@@ -1,4 +1,4 @@
--- A plan that a sound table gives keeps the laws.
+-- A plan that a sound table gives keeps the laws. Plans of tables are fontc's own, for the tests.
 use Rattle.std.proofs.Common.{◌≡◌, ℕ, zero, suc, ◌<◌, ◌≤◌, nat_le, nat_eq, true, false, ◌&&◌, List, [], ◌∷◌, ◌++◌, map, inl, inr, Option, Some, None, refl, sym, ap, ◌∙◌, subst, cond}
 use Rattle.std.specs.Prelude.{slice_get}
 use Rattle.std.specs.List.{list_all, flat_map, filter}
