@@ -2,7 +2,6 @@
 use Rattle.std.proofs.Common.{◌≡◌, ℕ, zero, suc, ◌<◌, nat_eq, true, false, List, [], ◌∷◌, map, length, get_or, inl, inr, Some, is_some, refl, sym, ap, ◌∙◌, subst, cond, unwrap_or, arith}
 use Rattle.std.specs.Prelude.{All, IsSome, slice_get, option_and_then}
 use Rattle.std.proofs.lemmas.Bool.{and_parts, eqb-true, eq-eqb, false≢true}
-use Rattle.access_context.specs.declared.access.Access.{Access}
 use Rattle.access_context.specs.declared.access.Spec.{Spec}
 use Rattle.access_context.specs.Plain.{Plain, Done, Refused, Blocked, is_done, done_value}
 use Rattle.access_context.specs.Read.{read_of, value_read, all_done}

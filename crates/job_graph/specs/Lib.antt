@@ -5,6 +5,7 @@ pub mod Laws
 pub mod Histories
 pub mod Promises
 pub mod BoardView
+pub mod Scan
 pub mod Answers
 pub mod Members
 pub mod Tables

@@ -3,7 +3,6 @@ use Rattle.std.proofs.Common.{◌≡◌, ℕ, zero, suc, ◌<◌, ◌≤◌, nat
 use Rattle.std.specs.Prelude.{slice_get, fold}
 use Rattle.std.specs.List.{list_all, flat_map, filter}
 use Rattle.std.proofs.lemmas.Bool.{and_parts, eqb-true, eq-eqb, leb-true, ltb-true, false≢true}
-use Rattle.access_context.specs.declared.access.Access.{Access}
 use Rattle.access_context.specs.declared.access.Spec.{Spec}
 use Rattle.access_context.specs.Plain.{Plain, PlainOutcome, Done, Refused, is_done}
 use Rattle.access_context.specs.Read.{all_done}
