@@ -1,4 +1,4 @@
--- What came of a job, without the pointer by which a value is shared.
+-- What came of a job, without the pointer by which a value is shared. fontc's own.
 use Rattle.std.specs.Prelude.{List, Option, Some, None, Bool, true, false}
 use Rattle.refusal_codes.specs.declared.refusal.Refusal.{Refusal}
 use Rattle.access_context.specs.declared.access.Spec.{Spec}

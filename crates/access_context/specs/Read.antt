@@ -1,4 +1,4 @@
--- What a job reads.
+-- What a job reads: items by their ids, each with what came of it. fontc's own.
 use Rattle.std.specs.Prelude.{Bool, List, [], ◌∷◌, Option, Some, None, option_and_then, if◌then◌else◌}
 use Rattle.std.specs.List.{list_all}
 use Rattle.access_context.specs.declared.settled.Settled.{Settled}

@@ -29,7 +29,9 @@ impl<Id: Copy> Access<Id> {
 /// A job: its id, which names its item too, and what it waits for.
 #[derive(Debug, PartialEq, Eq, Drop)]
 pub struct Spec<Id> {
+    /// What names the job and its item.
     pub id: Id,
+    /// What it waits for.
     pub access: Access<Id>,
 }
 

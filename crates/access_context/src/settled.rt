@@ -44,6 +44,8 @@ impl<V> Settled<V> {
 /// What came of a job, and the jobs that it adds.
 #[derive(Debug, PartialEq, Eq, Drop)]
 pub struct Outcome<V, Id> {
+    /// What came of it.
     pub value: Settled<V>,
+    /// The jobs that it adds.
     pub added: Sequence<Spec<Id>>,
 }

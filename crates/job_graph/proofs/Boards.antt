@@ -19,11 +19,13 @@ use Rattle.job_graph.specs.declared.event.End.TheVariants.{Running, Ended, Halte
 use Rattle.job_graph.specs.Meaning.{Meaning}
 use Rattle.job_graph.specs.Rounds.{State, state_from, value_in, is_unsettled_job, is_ready, reads_in, outcome_in, limit, IsOutcomeOf}
 use Rattle.job_graph.specs.Laws.{IsLawful}
-use Rattle.job_graph.specs.Histories.{is_halt, is_halt_of, has_halted, out_after, out_of, running, was_claimed, has_out, state_of, is_ready_id, is_allowed, is_run, some_ready, is_claimable, next_of, IsNext, end_of}
+use Rattle.job_graph.specs.Histories.{is_halt, is_halt_of, has_halted, out_after, out_of, running, was_claimed, has_out, state_of, is_ready_id, is_allowed, is_run, some_ready, is_claimable, end_of}
+use Rattle.job_graph.specs.Scan.{next_of, IsNext}
 use Rattle.job_graph.specs.Promises.{IsHistory}
 use Rattle.job_graph.specs.BoardView.{BoardView, IsBoard, halted_after, halted_of}
 use Rattle.job_graph.specs.Answers.{HandsOut, some_claimable}
-use Rattle.job_graph.specs.Members.{In, find-some, find-In, list_any-In, list_any-found, In-from_Contains, Contains-from_In}
+use Rattle.job_graph.specs.Members.{In, In-from_Contains, Contains-from_In}
+use Rattle.job_graph.proofs.Members.{find-some, find-In, list_any-In, list_any-found}
 use Rattle.job_graph.proofs.Growth.{none≢some, Within, reads_agree, all_settled_within, outcome_within, ready_reads, ready_unsettled, settle}
 use Rattle.job_graph.proofs.Confluence.{nil_append}
 use Rattle.job_graph.proofs.Limit.{limit_orderly, below_limit}

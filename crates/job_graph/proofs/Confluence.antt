@@ -7,7 +7,8 @@ use Rattle.access_context.specs.declared.access.Spec.{Spec}
 use Rattle.access_context.specs.Plain.{Plain}
 use Rattle.job_graph.specs.Meaning.{Meaning}
 use Rattle.job_graph.specs.Rounds.{State, value_in, is_settled, is_done_up_to, awaits_nothing, is_ready, outcome_of, outcome_in}
-use Rattle.job_graph.specs.Members.{In, In-append_right, In-append_cases, list_all-In, list_all-from}
+use Rattle.job_graph.specs.Members.{In, In-append_right, In-append_cases, list_all-In}
+use Rattle.job_graph.proofs.Members.{list_all-from}
 use Rattle.job_graph.proofs.Growth.{none≢some, some_of, read_of-push_cases, Within, within_itself, within_through, settled_within, all_settled_within, reads_agree, outcome_within, ready_reads, ready_awaits, settle, within_settle, Grown, begun, grown, opening_in}
 
 pub nil_append : {X : Type 0} (xs : List X) → xs ++ [] ≡ xs

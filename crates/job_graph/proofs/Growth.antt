@@ -7,7 +7,8 @@ use Rattle.access_context.specs.Plain.{Plain, Blocked}
 use Rattle.access_context.specs.Read.{read_of}
 use Rattle.job_graph.specs.Meaning.{Meaning}
 use Rattle.job_graph.specs.Rounds.{State, value_in, is_settled, item_in, reads_in, start, awaits_nothing, is_ready, outcome_of, outcome_in, with_outcomes}
-use Rattle.job_graph.specs.Members.{In, In-append_left, list_all-In, list_all-from, map_agree}
+use Rattle.job_graph.specs.Members.{In, In-append_left, list_all-In}
+use Rattle.job_graph.proofs.Members.{list_all-from, map_agree}
 
 pub none≢some : {X : Type 0} (x : X) (o : Option X) → o ≡ None → o ≡ Some x → ⊥
 none≢some x o p q = cc

@@ -13,7 +13,8 @@ use Rattle.job_graph.specs.Rounds.{State, value_in, is_settled, has_id, is_ready
 use Rattle.job_graph.specs.Laws.{IsLawful}
 use Rattle.job_graph.specs.Histories.{has_halted, out_of, running, was_claimed, state_of, is_allowed, goes_on, is_run, some_ready, end_of}
 use Rattle.job_graph.specs.Promises.{IsReadSettled, IsHistory, IsComplete, AddsNoneBelow, IsFirstOver}
-use Rattle.job_graph.specs.Members.{In, slice_get-In, list_all-In, list_any-In, list_any-found, In-from_Contains, Contains-from_In}
+use Rattle.job_graph.specs.Members.{In, slice_get-In, list_all-In, In-from_Contains, Contains-from_In}
+use Rattle.job_graph.proofs.Members.{list_any-In, list_any-found}
 use Rattle.job_graph.proofs.Growth.{none_of, some_of, Within, settled_within, ready_reads, ready_awaits}
 use Rattle.job_graph.proofs.Confluence.{central, settled_up_to}
 use Rattle.job_graph.proofs.Limit.{filter-from, below_limit, limit_below, limit_orderly, limit_over, limit_first}

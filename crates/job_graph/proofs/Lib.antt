@@ -1,3 +1,4 @@
+pub mod Members
 pub mod Growth
 pub mod Confluence
 pub mod Limit

@@ -8,7 +8,8 @@ use Rattle.job_graph.specs.Meaning.{Meaning}
 use Rattle.job_graph.specs.Rounds.{State, is_settled, is_ready, outcome_in, with_outcomes, round, rounds, limit}
 use Rattle.job_graph.specs.Laws.{IsLawful}
 use Rattle.job_graph.specs.Histories.{some_ready}
-use Rattle.job_graph.specs.Members.{In, In-filter, list_any-In, list_any-found, In-from_Contains, Contains-from_In}
+use Rattle.job_graph.specs.Members.{In, In-from_Contains, Contains-from_In}
+use Rattle.job_graph.proofs.Members.{In-filter, list_any-In, list_any-found}
 use Rattle.job_graph.proofs.Growth.{Within, within_itself, within_through, settled_within, ready_unsettled, settle, within_settle, Grown, begun, grown}
 use Rattle.job_graph.proofs.Confluence.{nil_append, IsOrderly, orderly_within, below}
 

@@ -2,12 +2,11 @@
 use Rattle.std.proofs.Common.{◌≡◌, ℕ, zero, suc, ◌<◌, nat_eq, true, false, List, [], ◌∷◌, map, length, get_or, inl, inr, Some, is_some, refl, sym, ap, ◌∙◌, subst, cond, unwrap_or, arith}
 use Rattle.std.specs.Prelude.{All, IsSome, slice_get, option_and_then}
 use Rattle.std.proofs.lemmas.Bool.{and_parts, eqb-true, eq-eqb, false≢true}
-use Rattle.access_context.specs.declared.access.Access.{Access}
 use Rattle.access_context.specs.declared.access.Spec.{Spec}
 use Rattle.access_context.specs.Plain.{Plain, Done, Refused, Blocked, is_done, done_value}
 use Rattle.access_context.specs.Read.{read_of, value_read, all_done}
 use Rattle.job_graph.specs.Rounds.{value_in, reads_in, limit, IsDue}
-use Rattle.job_graph.specs.Tables.{row_access, table}
+use Rattle.job_graph.specs.Tables.{Row, row_access, table}
 use Rattle.job_graph.specs.Members.{In, In-from_Contains}
 use Rattle.job_graph.specs.TableLaws.{known}
 
@@ -45,7 +44,7 @@ module _ (f : ℕ → Plain ℕ) where
   value_there : (ids : List ℕ) (k : ℕ) → all_done (map (λ id. (id, f id)) ids) ≡ true → In k ids → is_some (value_read nat_eq (map (λ id. (id, f id)) ids) k) ≡ true
   value_there ids k all h = ap (λ o. is_some (option_and_then done_value o)) (read_there ids k h) ∙ has_value (f k) (done_there ids k all h)
 
-pub due_values : (opening : List ℕ) (rows : List (ℕ × Access ℕ × List ℕ)) (id : ℕ) (reads : List (ℕ × Plain ℕ)) → IsDue nat_eq (table opening rows) id reads → all_done reads ≡ true → All (λ k. IsSome (value_read nat_eq reads k)) (row_access (slice_get rows id)).reads
+pub due_values : (opening : List ℕ) (rows : List Row) (id : ℕ) (reads : List (ℕ × Plain ℕ)) → IsDue nat_eq (table opening rows) id reads → all_done reads ≡ true → All (λ k. IsSome (value_read nat_eq reads k)) (row_access (slice_get rows id)).reads
 unfolding limit
 due_values opening rows id reads d all =
     let plan = table opening rows in

@@ -1,4 +1,4 @@
--- What a board answers to a claim.
+-- What a board answers to a claim, and the board after it. fontc's own.
 use Rattle.std.specs.Prelude.{◌≡◌, ℕ, ◌<◌, Bool, true, false, List, [], ◌∷◌, ◌++◌, Contains}
 use Rattle.std.specs.List.{list_any}
 use Rattle.access_context.specs.declared.access.Spec.{Spec}

@@ -1,4 +1,4 @@
--- A board, as its callers see it.
+-- A board, as its callers see it, and what it keeps. fontc's own.
 use Rattle.std.specs.Prelude.{◌≡◌, ℕ, ◌+◌, ◌≤◌, not, true, false, Bool, List, Option, fold, replicate, count_by, slice_set}
 use Rattle.std.specs.Vec.{vec_len, vec_capacity}
 use Rattle.std.specs.declared.vec.Vec.{Vec}

@@ -1,4 +1,4 @@
--- What workers hold between two calls of a board, as the tests keep it.
+-- What workers hold between two calls of a board, as the tests keep it. fontc's own.
 use Rattle.std.specs.Prelude.{◌≡◌, ℕ, Bool, List, map, Option, option_map, IfSome, All}
 use Rattle.access_context.specs.Plain.{Plain}
 use Rattle.job_graph.specs.declared.event.Event.{Event}

@@ -1,10 +1,9 @@
--- Histories of workers that claim jobs, finish them and halt.
-use Rattle.std.specs.Prelude.{◌≡◌, ℕ, nat_eq, nat_lt, Bool, true, false, not, ◌&&◌, List, [], ◌∷◌, ◌++◌, fold, find, count_by, replicate, Option, Some, None, is_some, slice_get, slice_set, if◌then◌else◌}
+-- Histories of workers that claim jobs, finish them and halt: which are legal, and what each comes to. fontc's own.
+use Rattle.std.specs.Prelude.{ℕ, nat_eq, nat_lt, Bool, true, false, not, ◌&&◌, List, [], ◌∷◌, ◌++◌, fold, find, count_by, replicate, Option, Some, None, is_some, slice_get, slice_set, if◌then◌else◌}
 use Rattle.std.specs.List.{list_any}
 use Rattle.access_context.specs.declared.access.Spec.{Spec}
-use Rattle.access_context.specs.Plain.{Plain}
 use Rattle.job_graph.specs.Meaning.{Meaning}
-use Rattle.job_graph.specs.Rounds.{State, start, has_id, is_ready, reads_in, with_outcomes}
+use Rattle.job_graph.specs.Rounds.{State, start, has_id, is_ready, with_outcomes}
 use Rattle.job_graph.specs.declared.event.Event.{Event}
 use Rattle.job_graph.specs.declared.event.Event.TheVariants as event
 use Rattle.job_graph.specs.declared.event.End.{End}
@@ -86,7 +85,12 @@ module _ {Id V : Type 0} (same : Id → Id → Bool) (plan : Meaning Id V) where
   -- what may come next. A claim: of a ready job that wasn't claimed, by a worker with none out, while nobody halted.
   -- A finish: by the worker that has the job out. A halt: a worker's first.
   abbrev pub is_allowed : ℕ → List (Event Id) → Event Id → Bool
-  is_allowed workers events (event.Claim w id) = nat_lt w workers && (is_ready_id (state_of events) id && (not (was_claimed same events id) && (is_free (slice_get (out_of workers events) w) && not (has_halted events))))
+  is_allowed workers events (event.Claim w id) =
+      nat_lt w workers
+      && (is_ready_id (state_of events) id
+      && (not (was_claimed same events id)
+      && (is_free (slice_get (out_of workers events) w)
+      && not (has_halted events))))
   is_allowed workers events (event.Finish w id) = has_out same id (slice_get (out_of workers events) w)
   is_allowed workers events (event.Halt w) = nat_lt w workers && not (list_any (is_halt_of w) events)
 
@@ -112,12 +116,3 @@ module _ {Id V : Type 0} (same : Id → Id → Bool) (plan : Meaning Id V) where
   -- a job is ready and wasn't claimed
   abbrev pub is_claimable : State Id V → List (Event Id) → Spec Id → Bool
   is_claimable state events job = is_ready same plan state job && not (was_claimed same events job.id)
-
-  -- the first of these jobs that is
-  abbrev pub next_of : State Id V → List (Event Id) → List (Spec Id) → Option (Spec Id)
-  next_of state events jobs = find (is_claimable state events) jobs
-
-  -- the next job to run and what it reads
-  abbrev pub IsNext : State Id V → List (Event Id) → Option (Id × List (Id × Plain V)) → Type 0
-  IsNext state events None = next_of state events state.jobs ≡ None
-  IsNext state events (Some next) = (job : Spec Id) × (next_of state events state.jobs ≡ Some job) × (job.id ≡ next.0) × (next.1 ≡ reads_in same state job.access.reads)

@@ -1,4 +1,4 @@
--- What a plan must keep.
+-- What a plan must keep, so that no order of its jobs changes a value. fontc's own.
 use Rattle.std.specs.Prelude.{◌≡◌, ℕ, ◌<◌, ◌≤◌, Bool, false, IsTrue, ◌↔◌, List, [], Contains, Some}
 use Rattle.access_context.specs.declared.access.Spec.{Spec}
 use Rattle.access_context.specs.Plain.{Plain, is_done}
@@ -11,7 +11,11 @@ pub record IsLawful {Id V : Type 0} (same : Id → Id → Bool) (plan : Meaning 
   -- what has no value adds nothing
   pub quiet : (id : Id) (reads : List (Id × Plain V)) → is_done (plan.outcome id reads).value ≡ false → (plan.outcome id reads).added ≡ []
   -- in every state that the rounds reach: an added job's stratum is at least its maker's
-  pub above_maker : (n : ℕ) (maker job : Spec Id) → Contains (rounds same plan n).jobs maker → Contains (outcome_in same plan (rounds same plan n) maker).added job → plan.stratum maker.id ≤ plan.stratum job.id
+  pub above_maker :
+      (n : ℕ) (maker job : Spec Id)
+      → Contains (rounds same plan n).jobs maker
+      → Contains (outcome_in same plan (rounds same plan n) maker).added job
+      → plan.stratum maker.id ≤ plan.stratum job.id
   -- a job that awaits a stratum is of a higher one
   pub above_awaited : (n : ℕ) (job : Spec Id) (stratum : ℕ) → Contains (rounds same plan n).jobs job → job.access.awaits ≡ Some stratum → stratum < plan.stratum job.id
   -- what a job reads is of its stratum or a lower one

@@ -1,4 +1,4 @@
--- What a plan means: its jobs as functions of what they read.
+-- What a plan means: its jobs as functions of what they read. fontc's own.
 use Rattle.std.specs.Prelude.{ℕ, List}
 use Rattle.access_context.specs.declared.access.Spec.{Spec}
 use Rattle.access_context.specs.Plain.{Plain, PlainOutcome}

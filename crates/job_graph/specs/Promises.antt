@@ -1,4 +1,4 @@
--- What holds of every legal history, and of one that has ended.
+-- What holds of every legal history, and of one that has ended. fontc's own.
 use Rattle.std.specs.Prelude.{◌≡◌, ◌↔◌, ℕ, ◌≤◌, Bool, true, false, List, ◌∷◌, ◌++◌, count_by, Some, Contains, if◌then◌else◌}
 use Rattle.access_context.specs.declared.access.Spec.{Spec}
 use Rattle.access_context.specs.Plain.{Plain}
@@ -12,7 +12,12 @@ module _ {Id V : Type 0} (same : Id → Id → Bool) (plan : Meaning Id V) where
   -- before a job was claimed, all that it reads was finished, and every job that it awaits of all that are ever added
   pub record IsReadSettled (before events : List (Event Id)) (job : Spec Id) : Type 0 where
     pub reads : (read : Id) → Contains job.access.reads read → was_finished same before read ≡ true
-    pub awaited : (stratum : ℕ) (other : Spec Id) → job.access.awaits ≡ Some stratum → Contains (state_of same plan events).jobs other → plan.stratum other.id ≤ stratum → was_finished same before other.id ≡ true
+    pub awaited :
+        (stratum : ℕ) (other : Spec Id)
+        → job.access.awaits ≡ Some stratum
+        → Contains (state_of same plan events).jobs other
+        → plan.stratum other.id ≤ stratum
+        → was_finished same before other.id ≡ true
 
   pub record IsHistory (workers : ℕ) (events : List (Event Id)) : Type 0 where
     -- each event was allowed when it came
@@ -24,7 +29,11 @@ module _ {Id V : Type 0} (same : Id → Id → Bool) (plan : Meaning Id V) where
     -- each item is written at most once
     pub written_once : (id : Id) → count_by (is_finish_of same id) events ≤ 1
     -- and read only when it is settled
-    pub read_settled : (before after : List (Event Id)) (worker : ℕ) (job : Spec Id) → events ≡ before ++ event.Claim worker job.id ∷ after → Contains (state_of same plan before).jobs job → IsReadSettled before events job
+    pub read_settled :
+        (before after : List (Event Id)) (worker : ℕ) (job : Spec Id)
+        → events ≡ before ++ event.Claim worker job.id ∷ after
+        → Contains (state_of same plan before).jobs job
+        → IsReadSettled before events job
 
   -- what a history has come to that has ended: the limit, by two events for each job that has a value there, and no others
   pub record IsComplete (events : List (Event Id)) : Type 0 where
@@ -37,7 +46,15 @@ module _ {Id V : Type 0} (same : Id → Id → Bool) (plan : Meaning Id V) where
 
   -- once a job that awaits a stratum is ready, no job of that stratum or a lower one is ever added
   pub record AddsNoneBelow (workers : ℕ) (events more : List (Event Id)) : Type 0 where
-    pub none_below : is_run same plan workers (events ++ more) ≡ true → (job other : Spec Id) (stratum : ℕ) → Contains (state_of same plan events).jobs job → is_ready same plan (state_of same plan events) job ≡ true → job.access.awaits ≡ Some stratum → Contains (state_of same plan (events ++ more)).jobs other → plan.stratum other.id ≤ stratum → Contains (state_of same plan events).jobs other
+    pub none_below :
+        is_run same plan workers (events ++ more) ≡ true
+        → (job other : Spec Id) (stratum : ℕ)
+        → Contains (state_of same plan events).jobs job
+        → is_ready same plan (state_of same plan events) job ≡ true
+        → job.access.awaits ≡ Some stratum
+        → Contains (state_of same plan (events ++ more)).jobs other
+        → plan.stratum other.id ≤ stratum
+        → Contains (state_of same plan events).jobs other
 
   -- the limit is the first state of the rounds in which no job is ready
   pub record IsFirstOver : Type 0 where

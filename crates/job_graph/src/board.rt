@@ -207,7 +207,8 @@ impl<P: Plan> Board<P> {
     pub fn get(&self, id: &P::Id) -> Option<&Settled<P::Value>>
         ensures value { option_map (λ s. plain s.now) result ≡ value_in P.Id.eq (state_of P.Id.eq (P.meaning self.now.plan) self.now.events) id.now }
         ensures in_limit { IfSome result (λ s. value_in P.Id.eq (limit P.Id.eq (P.meaning self.now.plan)) id.now ≡ Some (plain s.now)) }
-        ensures ended { end_of P.Id.eq (P.meaning self.now.plan) self.now.workers self.now.events ≡ End.Ended → option_map (λ s. plain s.now) result ≡ value_in P.Id.eq (limit P.Id.eq (P.meaning self.now.plan)) id.now }
+        ensures ended { end_of P.Id.eq (P.meaning self.now.plan) self.now.workers self.now.events ≡ End.Ended
+            → option_map (λ s. plain s.now) result ≡ value_in P.Id.eq (limit P.Id.eq (P.meaning self.now.plan)) id.now }
     {
         scan::value_of(self.values.as_slice(), id)
     }
@@ -215,7 +216,8 @@ impl<P: Plan> Board<P> {
     /// Whether this is a job that isn't settled; on a board that has ended it never will be. It takes no memory.
     pub fn is_stuck(&self, id: &P::Id) -> bool
         ensures unsettled { result ≡ is_unsettled_job P.Id.eq (state_of P.Id.eq (P.meaning self.now.plan) self.now.events) id.now }
-        ensures ended { end_of P.Id.eq (P.meaning self.now.plan) self.now.workers self.now.events ≡ End.Ended → result ≡ is_unsettled_job P.Id.eq (limit P.Id.eq (P.meaning self.now.plan)) id.now }
+        ensures ended { end_of P.Id.eq (P.meaning self.now.plan) self.now.workers self.now.events ≡ End.Ended
+            → result ≡ is_unsettled_job P.Id.eq (limit P.Id.eq (P.meaning self.now.plan)) id.now }
     {
         scan::has_job(self.jobs.as_slice(), id) && !scan::is_settled(self.values.as_slice(), id)
     }

@@ -55,7 +55,9 @@ pub enum Claim<P: Plan> {
 /// What was to be finished while memory ran out. The board is as before.
 #[derive(Drop)]
 pub struct Unfinished<P: Plan> {
+    /// The right to finish the job.
     pub ticket: Ticket<P::Id>,
+    /// What came of it.
     pub outcome: Outcome<P::Value, P::Id>,
 }
 

@@ -4,7 +4,8 @@ ghost use Rattle.std.specs.List.{list_all, list_any, find};
 ghost use Rattle.access_context.specs.Plain.{plain};
 ghost use Rattle.access_context.specs.Read.{plain_item, read_of};
 ghost use Rattle.job_graph.specs.Rounds.{state_from, is_settled, is_done_up_to, awaits_nothing, is_ready, item_of, has_id};
-ghost use Rattle.job_graph.specs.Histories.{is_claim_of, was_claimed, some_ready, is_claimable, next_of, IsNext};
+ghost use Rattle.job_graph.specs.Histories.{is_claim_of, was_claimed, some_ready, is_claimable};
+ghost use Rattle.job_graph.specs.Scan.{next_of, IsNext};
 
 use crate::event::Event;
 use crate::plan::Plan;

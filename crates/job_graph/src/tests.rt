@@ -6,11 +6,12 @@ ghost use Rattle.std.specs.Prelude.{◌<◌};
 use super::*;
 use access_context::Settled;
 use hands::{Step, begun, calls, halt, played};
-use refusal_codes::NoMemory;
+use plain_lists::Text;
+use refusal_codes::{NoMemory, Refusal, Rule};
 use std::alloc::Global;
 use std::process::Abort;
 use std::test::Fail;
-use table::{Table, row};
+use table::{Table, refused, row};
 
 /// The value of a job that has a value.
 fn value(board: &Board<Table>, id: u32) -> Option<u32> {
@@ -65,6 +66,17 @@ fn thousand(alloc: Global) -> Result<Option<Table>, NoMemory> {
         rows.push(row(alloc, 1, [0].as_slice(), None, [].as_slice())?)?;
     }
     Ok(Table::of(vec![in alloc; 0]?, rows))
+}
+
+/// Job 0 is refused, and would add 3. Job 1 reads 0 and would add 2.
+fn refusing(alloc: Global) -> Result<Option<Table>, NoMemory> {
+    let rows = vec![in alloc;
+        refused(row(alloc, 0, [].as_slice(), None, [3].as_slice())?),
+        row(alloc, 0, [0].as_slice(), None, [2].as_slice())?,
+        row(alloc, 0, [].as_slice(), None, [].as_slice())?,
+        row(alloc, 0, [].as_slice(), None, [].as_slice())?,
+    ]?;
+    Ok(Table::of(vec![in alloc; 0, 1]?, rows))
 }
 
 /// Plays the growing plan in each of so many orders of the first eight calls.
@@ -165,6 +177,41 @@ fn a_job_waits_for_all_that_it_reads(rt: HostRuntime) -> Result<(), Fail> {
 }
 
 #[test]
+fn a_job_that_reads_a_refused_one_is_blocked_and_adds_nothing(rt: HostRuntime) -> Result<(), Fail> {
+    let plan = refusing(rt.alloc())?.ok_or("unsound")?;
+    let (mut board, mut hands) = begun(rt.alloc(), plan, 2)?;
+    let wanted = [
+        (0, Step::Took),
+        (1, Step::Idle(1)),
+        (0, Step::Finished),
+        (1, Step::Took),
+        (0, Step::Idle(1)),
+        (1, Step::Finished),
+        (0, Step::Ended),
+        (1, Step::Ended),
+    ];
+    calls(&rt, rt.alloc(), &mut board, &mut hands, wanted.as_slice())?;
+    let refusal = Refusal {
+        stratum: 0,
+        kind: 0,
+        name: Text::new(rt.alloc()),
+        rule: Rule::OpenContour,
+        place: 0,
+    };
+    assert!(rt; board.get(&0) == Some(&Settled::Refused(refusal)));
+    assert!(rt; board.get(&1) == Some(&Settled::Blocked));
+    for id in 2..4 {
+        assert!(rt; board.get(&id).is_none());
+    }
+    for id in 0..4 {
+        assert!(rt; !board.is_stuck(&id));
+    }
+    assert_eq!(rt; board.result(), End::Ended);
+    assert_eq!(rt; board.events().len(), 4);
+    Ok(())
+}
+
+#[test]
 fn after_a_halt_every_claim_is_halted(rt: HostRuntime) -> Result<(), Fail> {
     let plan = growing(rt.alloc())?.ok_or("unsound")?;
     let (mut board, mut hands) = begun(rt.alloc(), plan, 3)?;
@@ -187,6 +234,28 @@ fn after_a_halt_every_claim_is_halted(rt: HostRuntime) -> Result<(), Fail> {
     calls(&rt, rt.alloc(), &mut board, &mut hands, wanted.as_slice())?;
     halt(&mut board, &mut hands, 0);
     let history = [Event::Claim(1, 0), Event::Halt(0), Event::Finish(1, 0)];
+    assert_eq!(rt; board.events(), history.as_slice());
+    assert_eq!(rt; board.result(), End::Halted);
+    Ok(())
+}
+
+#[test]
+fn a_worker_that_halts_gives_up_its_job(rt: HostRuntime) -> Result<(), Fail> {
+    let plan = growing(rt.alloc())?.ok_or("unsound")?;
+    let (mut board, mut hands) = begun(rt.alloc(), plan, 3)?;
+    calls(
+        &rt,
+        rt.alloc(),
+        &mut board,
+        &mut hands,
+        [(1, Step::Took), (0, Step::Idle(1))].as_slice(),
+    )?;
+    halt(&mut board, &mut hands, 1);
+    let wanted = [(0, Step::Halted), (1, Step::Halted), (2, Step::Halted)];
+    calls(&rt, rt.alloc(), &mut board, &mut hands, wanted.as_slice())?;
+    assert!(rt; board.get(&0).is_none());
+    assert!(rt; board.is_stuck(&0));
+    let history = [Event::Claim(1, 0), Event::Halt(1)];
     assert_eq!(rt; board.events(), history.as_slice());
     assert_eq!(rt; board.result(), End::Halted);
     Ok(())

@@ -2,20 +2,20 @@
 ghost use Rattle.std.specs.Prelude.{◌≡◌, map, fold, All, IsSome, IfOk, true, nat_eq, nat_le, slice_get};
 ghost use Rattle.std.specs.List.{list_all};
 ghost use Rattle.access_context.specs.Read.{value_read};
-ghost use Rattle.job_graph.specs.Tables.{row_access, row_added, is_above, stratum_at, job_at, is_sound_row, is_sound, add_read, table};
+ghost use Rattle.job_graph.specs.Tables.{row_access, row_added, row_refuses, is_above, stratum_at, job_at, is_sound_row, is_sound, add_read, refusal_at, table};
 ghost use Rattle.job_graph.specs.TableLaws.{table_lawful};
 
 use crate::Plan;
 use access_context::{Access, Outcome, Reads, Settled, Spec};
-use plain_lists::Sequence;
-use refusal_codes::NoMemory;
+use plain_lists::{Sequence, Text};
+use refusal_codes::{NoMemory, Refusal, Rule};
 use std::alloc::Global;
 use std::sync::Arc;
 
-/// A job's stratum, what it waits for, and the jobs that it adds.
-pub type Row = (u8, Access<u32>, Sequence<u32>);
+/// A job's stratum, what it waits for, the jobs that it adds, and whether it is refused.
+pub type Row = (u8, Access<u32>, Sequence<u32>, bool);
 
-/// A row of these parts.
+/// A row of these parts, which isn't refused.
 pub fn row(
     alloc: Global,
     stratum: u8,
@@ -25,10 +25,16 @@ pub fn row(
 ) -> Result<Row, NoMemory> {
     let reads = Sequence::from_vec(Vec::from_slice(alloc, reads)?);
     let added = Sequence::from_vec(Vec::from_slice(alloc, added)?);
-    Ok((stratum, Access { reads, awaits }, added))
+    Ok((stratum, Access { reads, awaits }, added, false))
 }
 
-/// A plan by its table. What comes of a job is the sum of its id and of the values that it reads, in 32 bits.
+/// The same row, refused.
+pub fn refused(row: Row) -> Row {
+    (row.0, row.1, row.2, true)
+}
+
+/// A plan by its table. A refused job adds nothing. What comes of any other is the sum of its id and of the values that
+/// it reads, in 32 bits.
 #[derive(Drop)]
 pub struct Table {
     opening: Vec<u32>,
@@ -157,6 +163,29 @@ fn reads_at(rows: &[Row], id: u32) -> &[u32]
     }
 }
 
+/// Whether a job is refused.
+fn is_refused(rows: &[Row], id: u32) -> bool
+    ensures { result ≡ row_refuses (slice_get rows.now id) }
+{
+    match rows.get(id as usize) {
+        Some(row) => row.3,
+        None => false,
+    }
+}
+
+/// The refusal of a job.
+fn refusal_at(alloc: Global, rows: &[Row], id: u32) -> Refusal
+    ensures { result ≡ refusal_at rows.now id }
+{
+    Refusal {
+        stratum: stratum_at(rows, id),
+        kind: 0,
+        name: Text::new(alloc),
+        rule: Rule::OpenContour,
+        place: u64::from(id),
+    }
+}
+
 /// The sum of a number and of the values of these items.
 fn sum_of(reads: &Reads<u32, u32>, start: u32, ids: &[u32]) -> u32
     requires { All (λ id. IsSome (value_read nat_eq reads.now id)) ids.now }
@@ -191,6 +220,12 @@ impl Plan for Table {
         reads: &Reads<u32, u32>,
     ) -> Result<Outcome<u32, u32>, NoMemory> {
         let rows = self.rows.as_slice();
+        if is_refused(rows, *id) {
+            return Ok(Outcome {
+                value: Settled::Refused(refusal_at(alloc, rows, *id)),
+                added: Sequence::new(alloc),
+            });
+        }
         let sum = sum_of(reads, *id, reads_at(rows, *id));
         let added = added_by(alloc, rows, *id)?;
         Ok(Outcome {

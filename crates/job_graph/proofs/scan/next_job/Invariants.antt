@@ -1,6 +1,6 @@
 use Rattle.std.proofs.Common.{◌≡◌, drop}
 use Rattle.job_graph.specs.Rounds.{state_from}
-use Rattle.job_graph.specs.Histories.{next_of}
+use Rattle.job_graph.specs.Scan.{next_of}
 use Rattle.job_graph.proofs.scan.next_job.Given as goal
 
 abbrev pub invariant-loop-job : goal.invariant-loop-job
