@@ -118,21 +118,21 @@ fn notdef_is_the_first_glyph_and_hidden_ones_are_none(rt: HostRuntime) -> Result
     Ok(())
 }
 
-/// The refusal, where there is one.
-fn refusal_of(answer: Result<Built, CompileError>) -> Option<Refusal> {
-    match answer {
-        Ok(_built) => None,
-        Err(error) => match error {
-            CompileError::Refused(refusal) => Some(refusal),
-            CompileError::NoMemory => None,
-        },
+/// The refusal of a source, where it has one and isn't too long.
+fn refusal_of(alloc: Global, source: &[u8]) -> Option<Refusal> {
+    if source.len() > 67_108_864 {
+        return None;
+    }
+    match compile_one(alloc, source) {
+        Err(CompileError::Refused(refusal)) => Some(refusal),
+        _ => None,
     }
 }
 
 #[test]
 fn a_refusal_tells_its_job_its_rule_and_its_place(rt: HostRuntime) -> Result<(), Fail> {
     let cubic = with_cubic_node(rt.alloc())?;
-    let refusal = refusal_of(compile_one(rt.alloc(), cubic.as_slice())).ok_or("no refusal")?;
+    let refusal = refusal_of(rt.alloc(), cubic.as_slice()).ok_or("no refusal")?;
     assert_eq!(rt; (refusal.stratum, refusal.kind), (1, 3));
     assert_eq!(rt; refusal.name.as_str(), "A");
     assert_eq!(rt; (refusal.rule, refusal.place), (Rule::CubicNode, 181));
