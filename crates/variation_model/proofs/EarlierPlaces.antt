@@ -61,29 +61,29 @@ cut_by P false true c side w p f g = f refl
 cut_by P false false true side w p f g = g refl
 cut_by P false false false side w p f g = p
 
-cut_out : (most : ℕ × ℕ) (side : Side) (w v : F2Dot14) → spec.is_inside side w ≡ true → is_out side v ≡ true → is_out (spec.cut_at_least most side w) v ≡ true
-cut_out most side w v f g =
+cut_out : (largest : ℕ × ℕ) (side : Side) (w v : F2Dot14) → spec.is_inside side w ≡ true → is_out side v ≡ true → is_out (spec.cut_at_least largest side w) v ≡ true
+cut_out largest side w v f g =
     let P : Side → Type 0 = λ s. is_out s v ≡ true in
-    cut_by P (spec.is_less (spec.pull side w) most) (int_lt w.0 side.1.0) (int_lt side.1.0 w.0) side w g
+    cut_by P (spec.is_less (spec.axis_ratio side w) largest) (int_lt w.0 side.1.0) (int_lt side.1.0 w.0) side w g
     (λ h. out_of_start side.0.0 side.1.0 side.2.0 v.0 w.0 f g h)
     (λ h. out_of_end side.0.0 side.1.0 side.2.0 v.0 w.0 f g h)
 
-cut_some_out : (most : ℕ × ℕ) (sides : List Side) (ws vs : List F2Dot14) → spec.all_inside sides ws ≡ true → some_out sides vs ≡ true → some_out (spec.cut_strongest most sides ws) vs ≡ true
-cut_some_out most [] ws vs f g = g
-cut_some_out most (side ∷ sides) [] vs f g = g
-cut_some_out most (side ∷ sides) (w ∷ ws) [] f g = cc
-cut_some_out most (side ∷ sides) (w ∷ ws) (v ∷ vs) f g =
+cut_some_out : (largest : ℕ × ℕ) (sides : List Side) (ws vs : List F2Dot14) → spec.all_inside sides ws ≡ true → some_out sides vs ≡ true → some_out (spec.cut_largest largest sides ws) vs ≡ true
+cut_some_out largest [] ws vs f g = g
+cut_some_out largest (side ∷ sides) [] vs f g = g
+cut_some_out largest (side ∷ sides) (w ∷ ws) [] f g = cc
+cut_some_out largest (side ∷ sides) (w ∷ ws) (v ∷ vs) f g =
     let both = and_parts (spec.is_inside side w) (spec.all_inside sides ws) f in
     ⊎_elim
-    (λ h. or_left (is_out (spec.cut_at_least most side w) v) (some_out (spec.cut_strongest most sides ws) vs) (cut_out most side w v both.0 h))
-    (λ h. or_right (is_out (spec.cut_at_least most side w) v) (some_out (spec.cut_strongest most sides ws) vs) (cut_some_out most sides ws vs both.1 h))
+    (λ h. or_left (is_out (spec.cut_at_least largest side w) v) (some_out (spec.cut_largest largest sides ws) vs) (cut_out largest side w v both.0 h))
+    (λ h. or_right (is_out (spec.cut_at_least largest side w) v) (some_out (spec.cut_largest largest sides ws) vs) (cut_some_out largest sides ws vs both.1 h))
     (or_cases (is_out side v) (some_out sides vs) g)
 
 narrowed_some_out : (sides : List Side) (ws vs : List F2Dot14) → some_out sides vs ≡ true → some_out (spec.narrowed sides ws) vs ≡ true
 narrowed_some_out sides ws vs g =
     let P : List Side → Type 0 = λ s. some_out s vs ≡ true in
-    cond_both (spec.all_inside sides ws) (spec.cut_strongest (spec.strongest sides ws) sides ws) sides P
-    (λ f. cut_some_out (spec.strongest sides ws) sides ws vs f g) (λ _. g)
+    cond_both (spec.all_inside sides ws) (spec.cut_largest (spec.largest_ratio sides ws) sides ws) sides P
+    (λ f. cut_some_out (spec.largest_ratio sides ws) sides ws vs f g) (λ _. g)
 
 pub stays_out : (sides : List Side) (earlier : List (List F2Dot14)) (vs : List F2Dot14) → some_out sides vs ≡ true → some_out (fold spec.narrowed sides earlier) vs ≡ true
 stays_out sides [] vs g = g
@@ -119,15 +119,15 @@ out_where_not_inside (side ∷ sides) (q ∷ qs) (v ∷ vs) p a e =
 
 -- an axis on which a place differs from the peak and whose ratio is not less than this one
 abbrev is_hit : ℕ × ℕ → Side → F2Dot14 → Bool
-is_hit most side v = not (int_eq v.0 side.1.0) && not (spec.is_less (spec.pull side v) most)
+is_hit largest side v = not (int_eq v.0 side.1.0) && not (spec.is_less (spec.axis_ratio side v) largest)
 
 abbrev some_hit : ℕ × ℕ → List Side → List F2Dot14 → Bool
-some_hit most [] vs = false
-some_hit most (side ∷ sides) [] = false
-some_hit most (side ∷ sides) (v ∷ vs) = is_hit most side v || some_hit most sides vs
+some_hit largest [] vs = false
+some_hit largest (side ∷ sides) [] = false
+some_hit largest (side ∷ sides) (v ∷ vs) = is_hit largest side v || some_hit largest sides vs
 
 abbrev Reached : ℕ × ℕ → ℕ × ℕ → List Side → List F2Dot14 → Type 0
-Reached final most sides vs = (final ≡ most) ⊎ (some_hit final sides vs ≡ true)
+Reached final largest sides vs = (final ≡ largest) ⊎ (some_hit final sides vs ≡ true)
 
 no_less : (x : ℕ × ℕ) → spec.is_less x x ≡ false
 no_less x = grind (arith, nat_tests)
@@ -143,8 +143,8 @@ neither false false x y z e f = refl
 not_less : (x y : ℤ) → x ≡ y → int_lt x y ≡ false
 not_less x y e = grind (arith, ints)
 
-pull_at_peak : (side : Side) (v : F2Dot14) → v.0 ≡ side.1.0 → spec.pull side v ≡ (0, 1)
-pull_at_peak side v e =
+axis_ratio_at_peak : (side : Side) (v : F2Dot14) → v.0 ≡ side.1.0 → spec.axis_ratio side v ≡ (0, 1)
+axis_ratio_at_peak side v e =
     neither (int_lt v.0 side.1.0) (int_lt side.1.0 v.0) (spec.distance side.1 v, spec.distance side.1 side.0) (spec.distance v side.1, spec.distance side.2 side.1) (0, 1) (not_less v.0 side.1.0 e) (not_less side.1.0 v.0 (sym e))
 
 same_number : (x y : ℤ) → int_eq x y ≡ true → x ≡ y
@@ -156,34 +156,34 @@ both_not false true e f = cc
 both_not false false e f = refl
 
 -- a ratio above another is that of an axis on which the place differs
-own_hit : (most final : ℕ × ℕ) (side : Side) (v : F2Dot14) → spec.is_less most (spec.pull side v) ≡ true → final ≡ spec.pull side v → is_hit final side v ≡ true
-own_hit most final side v e f =
+own_hit : (largest final : ℕ × ℕ) (side : Side) (v : F2Dot14) → spec.is_less largest (spec.axis_ratio side v) ≡ true → final ≡ spec.axis_ratio side v → is_hit final side v ≡ true
+own_hit largest final side v e f =
     let apart : int_eq v.0 side.1.0 ≡ false =
     ⊎_elim
-    (λ h. let at_peak = pull_at_peak side v (same_number v.0 side.1.0 h) in
-    let less : spec.is_less most (0, 1) ≡ true = ap (spec.is_less most) (sym at_peak) ∙ e in
-    let none = not_below_zero most in
+    (λ h. let at_peak = axis_ratio_at_peak side v (same_number v.0 side.1.0 h) in
+    let less : spec.is_less largest (0, 1) ≡ true = ap (spec.is_less largest) (sym at_peak) ∙ e in
+    let none = not_below_zero largest in
     cc)
     (λ h. h) (cases_Bool (int_eq v.0 side.1.0)) in
-    let least : spec.is_less (spec.pull side v) final ≡ false = ap (spec.is_less (spec.pull side v)) f ∙ no_less (spec.pull side v) in
-    both_not (int_eq v.0 side.1.0) (spec.is_less (spec.pull side v) final) apart least
+    let least : spec.is_less (spec.axis_ratio side v) final ≡ false = ap (spec.is_less (spec.axis_ratio side v)) f ∙ no_less (spec.axis_ratio side v) in
+    both_not (int_eq v.0 side.1.0) (spec.is_less (spec.axis_ratio side v) final) apart least
 
-which : (b : Bool) (most x final : ℕ × ℕ) → final ≡ cond b x most → ((b ≡ true) × (final ≡ x)) ⊎ (final ≡ most)
-which true most x final e = inl (refl, e)
-which false most x final e = inr e
+which : (b : Bool) (largest x final : ℕ × ℕ) → final ≡ cond b x largest → ((b ≡ true) × (final ≡ x)) ⊎ (final ≡ largest)
+which true largest x final e = inl (refl, e)
+which false largest x final e = inr e
 
 -- the largest ratio is what was begun with, or that of an axis on which the place differs
-reached : (most : ℕ × ℕ) (sides : List Side) (vs : List F2Dot14) → Reached (spec.strongest_from most sides vs) most sides vs
-reached most [] vs = inl refl
-reached most (side ∷ sides) [] = inl refl
-reached most (side ∷ sides) (v ∷ vs) =
-    let next = spec.larger most (spec.pull side v) in
-    let final = spec.strongest_from next sides vs in
+reached : (largest : ℕ × ℕ) (sides : List Side) (vs : List F2Dot14) → Reached (spec.largest_ratio_from largest sides vs) largest sides vs
+reached largest [] vs = inl refl
+reached largest (side ∷ sides) [] = inl refl
+reached largest (side ∷ sides) (v ∷ vs) =
+    let next = spec.larger largest (spec.axis_ratio side v) in
+    let final = spec.largest_ratio_from next sides vs in
     ⊎_elim
     (λ h. ⊎_elim
-    (λ g. inr (or_left (is_hit final side v) (some_hit final sides vs) (own_hit most final side v g.0 g.1)))
+    (λ g. inr (or_left (is_hit final side v) (some_hit final sides vs) (own_hit largest final side v g.0 g.1)))
     (λ g. inl g)
-    (which (spec.is_less most (spec.pull side v)) most (spec.pull side v) final h))
+    (which (spec.is_less largest (spec.axis_ratio side v)) largest (spec.axis_ratio side v) final h))
     (λ h. inr (or_right (is_hit final side v) (some_hit final sides vs) h))
     (reached next sides vs)
 
@@ -200,13 +200,13 @@ all_hit (side ∷ sides) (q ∷ qs) (v ∷ vs) p d =
     ⊎_elim
     (λ h. let apart : int_eq v.0 side.1.0 ≡ false = ap (int_eq v.0) p.0 ∙ not_same (int_eq v.0 q.0) h in
     or_left (is_hit (0, 1) side v) (some_hit (0, 1) sides vs)
-    (both_not (int_eq v.0 side.1.0) (spec.is_less (spec.pull side v) (0, 1)) apart (not_below_zero (spec.pull side v))))
+    (both_not (int_eq v.0 side.1.0) (spec.is_less (spec.axis_ratio side v) (0, 1)) apart (not_below_zero (spec.axis_ratio side v))))
     (λ h. or_right (is_hit (0, 1) side v) (some_hit (0, 1) sides vs) (all_hit sides qs vs p.1 h))
     (or_cases (not (int_eq v.0 q.0)) (differs qs vs) d)
 
-hit_somewhere : (sides : List Side) (place vs : List F2Dot14) → Peaks sides place → differs place vs ≡ true → some_hit (spec.strongest sides vs) sides vs ≡ true
+hit_somewhere : (sides : List Side) (place vs : List F2Dot14) → Peaks sides place → differs place vs ≡ true → some_hit (spec.largest_ratio sides vs) sides vs ≡ true
 hit_somewhere sides place vs p d =
-    ⊎_elim (λ h. ap (λ most. some_hit most sides vs) h ∙ all_hit sides place vs p d) (λ h. h) (reached (0, 1) sides vs)
+    ⊎_elim (λ h. ap (λ largest. some_hit largest sides vs) h ∙ all_hit sides place vs p d) (λ h. h) (reached (0, 1) sides vs)
 
 -- where it is cut, the region ends
 cut_where : (P : Side → Type 0) (a b c : Bool) (side : Side) (w : F2Dot14) → a ≡ false → (b ≡ true → P (w, side.1, side.2)) → (c ≡ true → P (side.0, side.1, w)) → (b ≡ false → c ≡ false → P side) → P (cond a side (cond b (w, side.1, side.2) (cond c (side.0, side.1, w) side)))
@@ -224,33 +224,33 @@ ends_above s p e v f g = grind (arith, ints)
 one_side : (p v : ℤ) → int_eq v p ≡ false → int_lt v p ≡ false → int_lt p v ≡ false → ⊥
 one_side p v e f g = grind (arith, ints)
 
-hit_out : (most : ℕ × ℕ) (side : Side) (v : F2Dot14) → spec.is_inside side v ≡ true → is_hit most side v ≡ true → is_out (spec.cut_at_least most side v) v ≡ true
-hit_out most side v f g =
+hit_out : (largest : ℕ × ℕ) (side : Side) (v : F2Dot14) → spec.is_inside side v ≡ true → is_hit largest side v ≡ true → is_out (spec.cut_at_least largest side v) v ≡ true
+hit_out largest side v f g =
     let P : Side → Type 0 = λ s. is_out s v ≡ true in
-    let both = and_parts (not (int_eq v.0 side.1.0)) (not (spec.is_less (spec.pull side v) most)) g in
+    let both = and_parts (not (int_eq v.0 side.1.0)) (not (spec.is_less (spec.axis_ratio side v) largest)) g in
     let apart = not_same (int_eq v.0 side.1.0) both.0 in
-    let strong = not_same (spec.is_less (spec.pull side v) most) both.1 in
-    cut_where P (spec.is_less (spec.pull side v) most) (int_lt v.0 side.1.0) (int_lt side.1.0 v.0) side v strong
+    let strong = not_same (spec.is_less (spec.axis_ratio side v) largest) both.1 in
+    cut_where P (spec.is_less (spec.axis_ratio side v) largest) (int_lt v.0 side.1.0) (int_lt side.1.0 v.0) side v strong
     (λ h. ends_below side.0.0 side.1.0 side.2.0 v.0 f h)
     (λ h. ends_above side.0.0 side.1.0 side.2.0 v.0 f h)
     (λ h k. absurd (one_side side.1.0 v.0 apart h k))
 
-hit_some_out : (most : ℕ × ℕ) (sides : List Side) (vs : List F2Dot14) → spec.all_inside sides vs ≡ true → some_hit most sides vs ≡ true → some_out (spec.cut_strongest most sides vs) vs ≡ true
-hit_some_out most [] vs f g = cc
-hit_some_out most (side ∷ sides) [] f g = cc
-hit_some_out most (side ∷ sides) (v ∷ vs) f g =
+hit_some_out : (largest : ℕ × ℕ) (sides : List Side) (vs : List F2Dot14) → spec.all_inside sides vs ≡ true → some_hit largest sides vs ≡ true → some_out (spec.cut_largest largest sides vs) vs ≡ true
+hit_some_out largest [] vs f g = cc
+hit_some_out largest (side ∷ sides) [] f g = cc
+hit_some_out largest (side ∷ sides) (v ∷ vs) f g =
     let both = and_parts (spec.is_inside side v) (spec.all_inside sides vs) f in
     ⊎_elim
-    (λ h. or_left (is_out (spec.cut_at_least most side v) v) (some_out (spec.cut_strongest most sides vs) vs) (hit_out most side v both.0 h))
-    (λ h. or_right (is_out (spec.cut_at_least most side v) v) (some_out (spec.cut_strongest most sides vs) vs) (hit_some_out most sides vs both.1 h))
-    (or_cases (is_hit most side v) (some_hit most sides vs) g)
+    (λ h. or_left (is_out (spec.cut_at_least largest side v) v) (some_out (spec.cut_largest largest sides vs) vs) (hit_out largest side v both.0 h))
+    (λ h. or_right (is_out (spec.cut_at_least largest side v) v) (some_out (spec.cut_largest largest sides vs) vs) (hit_some_out largest sides vs both.1 h))
+    (or_cases (is_hit largest side v) (some_hit largest sides vs) g)
 
 -- a place that takes away from a region is out of it then
 narrowed_out : (sides : List Side) (place vs : List F2Dot14) → Peaks sides place → SameAxes place vs → differs place vs ≡ true → some_out (spec.narrowed sides vs) vs ≡ true
 narrowed_out sides place vs p a d =
     let P : List Side → Type 0 = λ s. some_out s vs ≡ true in
-    cond_both (spec.all_inside sides vs) (spec.cut_strongest (spec.strongest sides vs) sides vs) sides P
-    (λ f. hit_some_out (spec.strongest sides vs) sides vs f (hit_somewhere sides place vs p d))
+    cond_both (spec.all_inside sides vs) (spec.cut_largest (spec.largest_ratio sides vs) sides vs) sides P
+    (λ f. hit_some_out (spec.largest_ratio sides vs) sides vs f (hit_somewhere sides place vs p d))
     (λ f. out_where_not_inside sides place vs p a f)
 
 pub becomes_out : (sides : List Side) (earlier : List (List F2Dot14)) (place : List F2Dot14) (i : ℕ) → i < length earlier → Peaks sides place → SameAxes place (get_or earlier i []) → differs place (get_or earlier i []) ≡ true → some_out (fold spec.narrowed sides earlier) (get_or earlier i []) ≡ true

@@ -133,8 +133,8 @@ same_active n (p ∷ ps) (v ∷ vs) e f =
     cc
 
 -- a key tells the active coordinates
-same_key_among : (lone a b : List (ℕ × F2Dot14)) → spec.key_among lone a ≡ spec.key_among lone b → a ≡ b
-same_key_among lone a b e =
+same_key_among : (on_axis a b : List (ℕ × F2Dot14)) → spec.key_among on_axis a ≡ spec.key_among on_axis b → a ≡ b
+same_key_among on_axis a b e =
     let long : length a ≡ length b = cc in
     let axes_a = map (λ c. c.0) a in let axes_b = map (λ c. c.0) b in
     let signs_a = map spec.sign_of a in let signs_b = map spec.sign_of b in
@@ -145,7 +145,7 @@ same_key_among lone a b e =
     same_coordinates a b by_axes.0 by_signs.0 by_signs.1
 
 pub same_key : (places : List (List F2Dot14)) (x y : List F2Dot14) → length x ≡ length y → spec.key places x ≡ spec.key places y → x ≡ y
-same_key places x y h e = same_active 0 x y h (same_key_among (spec.all_alone places) (spec.active x) (spec.active y) e)
+same_key places x y h e = same_active 0 x y h (same_key_among (spec.all_on_axis places) (spec.active x) (spec.active y) e)
 
 -- what is less has no more active axes
 not_after : (o p : Ordering) → is_lt (ordering_then o p) ≡ true → is_gt o ≡ false
@@ -160,9 +160,9 @@ fewer_first : (x y : ℕ) (xs ys : List ℕ) → spec.is_less_key (x ∷ xs) (y 
 fewer_first x y xs ys e = not_above x y (not_after (nat_cmp x y) (compared xs ys) e)
 
 abbrev rest_of_key : List (ℕ × F2Dot14) → List (ℕ × F2Dot14) → List ℕ
-rest_of_key lone coordinates =
-    count_by (λ c. not (spec.is_on_axis lone c)) coordinates ∷ (map (λ c. c.0) coordinates ++ (map spec.sign_of coordinates ++ map (λ c. unsigned_abs c.1.0) coordinates))
+rest_of_key on_axis coordinates =
+    count_by (λ c. not (spec.is_on_axis on_axis c)) coordinates ∷ (map (λ c. c.0) coordinates ++ (map spec.sign_of coordinates ++ map (λ c. unsigned_abs c.1.0) coordinates))
 
 pub no_more_active : (places : List (List F2Dot14)) (x y : List F2Dot14) → spec.is_less_key (spec.key places x) (spec.key places y) ≡ true → length (spec.active x) ≤ length (spec.active y)
 no_more_active places x y e =
-    fewer_first (length (spec.active x)) (length (spec.active y)) (rest_of_key (spec.all_alone places) (spec.active x)) (rest_of_key (spec.all_alone places) (spec.active y)) e
+    fewer_first (length (spec.active x)) (length (spec.active y)) (rest_of_key (spec.all_on_axis places) (spec.active x)) (rest_of_key (spec.all_on_axis places) (spec.active y)) e

@@ -12,10 +12,10 @@ use Rattle.fixed_math.specs.declared.F2Dot14.{F2Dot14}
 use Rattle.variation_model.specs.Places as spec
 
 -- the loop's step that makes keys
-pub keys_more : (places : List (List F2Dot14)) (i : ℕ) (place slice : List F2Dot14) (coordinates coordinates' lone lone' : List (ℕ × F2Dot14)) (key : Vec ℕ Global) (done next : List (Vec ℕ Global)) → i < length places → place ≡ get_or places i place → slice ≡ place → coordinates ≡ spec.active slice → coordinates' ≡ coordinates → lone ≡ spec.all_alone places → lone' ≡ lone → key.items ≡ spec.key_among lone' coordinates' → map (λ k. k.items) done ≡ map (spec.key places) (take i places) → next ≡ done ++ key ∷ [] → map (λ k. k.items) next ≡ map (spec.key places) (take (i + 1) places)
-keys_more places i place slice coordinates coordinates' lone lone' key done next h at at_slice found same alone same_lone made f g =
+pub keys_more : (places : List (List F2Dot14)) (i : ℕ) (place slice : List F2Dot14) (coordinates coordinates' on_axis on_axis' : List (ℕ × F2Dot14)) (key : Vec ℕ Global) (done next : List (Vec ℕ Global)) → i < length places → place ≡ get_or places i place → slice ≡ place → coordinates ≡ spec.active slice → coordinates' ≡ coordinates → on_axis ≡ spec.all_on_axis places → on_axis' ≡ on_axis → key.items ≡ spec.key_among on_axis' coordinates' → map (λ k. k.items) done ≡ map (spec.key places) (take i places) → next ≡ done ++ key ∷ [] → map (λ k. k.items) next ≡ map (spec.key places) (take (i + 1) places)
+keys_more places i place slice coordinates coordinates' on_axis on_axis' key done next h at at_slice found same on_axis_coordinate same_on_axis made f g =
     let own : key.items ≡ spec.key places (get_or places i place) =
-    made ∙ ap (λ l. spec.key_among l coordinates') (same_lone ∙ alone) ∙ ap (λ cs. spec.key_among (spec.all_alone places) cs) (same ∙ found) ∙ ap (λ v. spec.key places v) (at_slice ∙ at) in
+    made ∙ ap (λ l. spec.key_among l coordinates') (same_on_axis ∙ on_axis_coordinate) ∙ ap (λ cs. spec.key_among (spec.all_on_axis places) cs) (same ∙ found) ∙ ap (λ v. spec.key places v) (at_slice ∙ at) in
     rw (g, map-append (λ k. k.items) done (key ∷ []), take_more places i place h, map-append (spec.key places) (take i places) (get_or places i place ∷ []), f, own)
 
 -- and the one that counts them

@@ -62,15 +62,15 @@ same_peak false true c side v = refl
 same_peak false false true side v = refl
 same_peak false false false side v = refl
 
-cut_peak : (most : ℕ × ℕ) (side : Side) (v : F2Dot14) → (spec.cut_at_least most side v).1.0 ≡ side.1.0
-cut_peak most side v =
-    same_peak (spec.is_less (spec.pull side v) most) (int_lt v.0 side.1.0) (int_lt side.1.0 v.0) side v
+cut_peak : (largest : ℕ × ℕ) (side : Side) (v : F2Dot14) → (spec.cut_at_least largest side v).1.0 ≡ side.1.0
+cut_peak largest side v =
+    same_peak (spec.is_less (spec.axis_ratio side v) largest) (int_lt v.0 side.1.0) (int_lt side.1.0 v.0) side v
 
-pub cut_Peaks : (most : ℕ × ℕ) (sides : List Side) (other place : List F2Dot14) → Peaks sides place → Peaks (spec.cut_strongest most sides other) place
-cut_Peaks most [] other place p = p
-cut_Peaks most (side ∷ sides) [] place p = p
-cut_Peaks most (side ∷ sides) (w ∷ ws) [] p = p
-cut_Peaks most (side ∷ sides) (w ∷ ws) (v ∷ vs) p = (cut_peak most side w ∙ p.0, cut_Peaks most sides ws vs p.1)
+pub cut_Peaks : (largest : ℕ × ℕ) (sides : List Side) (other place : List F2Dot14) → Peaks sides place → Peaks (spec.cut_largest largest sides other) place
+cut_Peaks largest [] other place p = p
+cut_Peaks largest (side ∷ sides) [] place p = p
+cut_Peaks largest (side ∷ sides) (w ∷ ws) [] p = p
+cut_Peaks largest (side ∷ sides) (w ∷ ws) (v ∷ vs) p = (cut_peak largest side w ∙ p.0, cut_Peaks largest sides ws vs p.1)
 
 either_Peaks : (b : Bool) (sides others : List Side) (place : List F2Dot14) → Peaks sides place → Peaks others place → Peaks (cond b sides others) place
 either_Peaks true sides others place p q = p
@@ -78,8 +78,8 @@ either_Peaks false sides others place p q = q
 
 pub narrowed_Peaks : (sides : List Side) (other place : List F2Dot14) → Peaks sides place → Peaks (spec.narrowed sides other) place
 narrowed_Peaks sides other place p =
-    either_Peaks (spec.all_inside sides other) (spec.cut_strongest (spec.strongest sides other) sides other) sides place
-    (cut_Peaks (spec.strongest sides other) sides other place p) p
+    either_Peaks (spec.all_inside sides other) (spec.cut_largest (spec.largest_ratio sides other) sides other) sides place
+    (cut_Peaks (spec.largest_ratio sides other) sides other place p) p
 
 fold_Peaks : (sides : List Side) (earlier : List (List F2Dot14)) (place : List F2Dot14) → Peaks sides place → Peaks (fold spec.narrowed sides earlier) place
 fold_Peaks sides [] place p = p

@@ -12,10 +12,10 @@ pub length-widest_from : (places : List (List F2Dot14)) (axis : ℕ) (place : Li
 length-widest_from places axis [] = refl
 length-widest_from places axis (v ∷ vs) = omega (arith, length-widest_from places (axis + 1) vs)
 
-pub length-cut_strongest : (most : ℕ × ℕ) (sides : List (F2Dot14 × F2Dot14 × F2Dot14)) (place : List F2Dot14) → length (spec.cut_strongest most sides place) ≡ length sides
-length-cut_strongest most [] vs = refl
-length-cut_strongest most (side ∷ sides) [] = refl
-length-cut_strongest most (side ∷ sides) (v ∷ vs) = omega (arith, length-cut_strongest most sides vs)
+pub length-cut_largest : (largest : ℕ × ℕ) (sides : List (F2Dot14 × F2Dot14 × F2Dot14)) (place : List F2Dot14) → length (spec.cut_largest largest sides place) ≡ length sides
+length-cut_largest largest [] vs = refl
+length-cut_largest largest (side ∷ sides) [] = refl
+length-cut_largest largest (side ∷ sides) (v ∷ vs) = omega (arith, length-cut_largest largest sides vs)
 
 length-cond : (b : Bool) (xs ys : List (F2Dot14 × F2Dot14 × F2Dot14)) (n : ℕ) → length xs ≡ n → length ys ≡ n → length (cond b xs ys) ≡ n
 length-cond true xs ys n e g = e
@@ -23,8 +23,8 @@ length-cond false xs ys n e g = g
 
 pub length-narrowed : (sides : List (F2Dot14 × F2Dot14 × F2Dot14)) (place : List F2Dot14) → length (spec.narrowed sides place) ≡ length sides
 length-narrowed sides place =
-    length-cond (spec.all_inside sides place) (spec.cut_strongest (spec.strongest sides place) sides place) sides (length sides)
-    (length-cut_strongest (spec.strongest sides place) sides place) refl
+    length-cond (spec.all_inside sides place) (spec.cut_largest (spec.largest_ratio sides place) sides place) sides (length sides)
+    (length-cut_largest (spec.largest_ratio sides place) sides place) refl
 
 pub length-fold-narrowed : (sides : List (F2Dot14 × F2Dot14 × F2Dot14)) (earlier : List (List F2Dot14)) → length (fold spec.narrowed sides earlier) ≡ length sides
 length-fold-narrowed sides [] = refl

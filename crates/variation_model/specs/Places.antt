@@ -31,19 +31,19 @@ is_active coordinate = not (int_eq coordinate.1.0 (pos 0))
 abbrev pub active : List F2Dot14 → List (ℕ × F2Dot14)
 active place = filter is_active (enumerate_from 0 place)
 
--- the coordinates that are the only active one of some place
-abbrev pub alone : List F2Dot14 → List (ℕ × F2Dot14)
-alone place = if length (active place) == 1 then active place else []
+-- the coordinates of places that are on an axis: the active one of a place that has no other
+abbrev pub on_axis_coordinate : List F2Dot14 → List (ℕ × F2Dot14)
+on_axis_coordinate place = if length (active place) == 1 then active place else []
 
 abbrev pub same_coordinate : ℕ × F2Dot14 → ℕ × F2Dot14 → Bool
 same_coordinate x y = (x.0 == y.0) && int_eq x.1.0 y.1.0
 
-abbrev pub all_alone : List (List F2Dot14) → List (ℕ × F2Dot14)
-all_alone places = flat_map alone places
+abbrev pub all_on_axis : List (List F2Dot14) → List (ℕ × F2Dot14)
+all_on_axis places = flat_map on_axis_coordinate places
 
--- of those coordinates that are alone somewhere, whether this is one
+-- of the coordinates that are on an axis in some place, whether this is one
 abbrev pub is_on_axis : List (ℕ × F2Dot14) → ℕ × F2Dot14 → Bool
-is_on_axis lone coordinate = list_any (λ x. same_coordinate x coordinate) lone
+is_on_axis on_axis coordinate = list_any (λ x. same_coordinate x coordinate) on_axis
 
 abbrev pub sign_of : ℕ × F2Dot14 → ℕ
 sign_of coordinate = if int_lt coordinate.1.0 (pos 0) then 0 else 1
@@ -51,13 +51,13 @@ sign_of coordinate = if int_lt coordinate.1.0 (pos 0) then 0 else 1
 -- what places are compared by, the first difference deciding: how many coordinates are active; how many of them are not on
 -- an axis; the axes of the active ones; their signs, minus first; their absolute values
 abbrev pub key_among : List (ℕ × F2Dot14) → List (ℕ × F2Dot14) → List ℕ
-key_among lone coordinates =
+key_among on_axis coordinates =
     length coordinates
-    ∷ count_by (λ c. not (is_on_axis lone c)) coordinates
+    ∷ count_by (λ c. not (is_on_axis on_axis c)) coordinates
     ∷ (map (λ c. c.0) coordinates ++ (map sign_of coordinates ++ map (λ c. unsigned_abs c.1.0) coordinates))
 
 abbrev pub key : List (List F2Dot14) → List F2Dot14 → List ℕ
-key places place = key_among (all_alone places) (active place)
+key places place = key_among (all_on_axis places) (active place)
 
 abbrev pub keys_of : List (List F2Dot14) → List (List ℕ)
 keys_of places = map (key places) places

@@ -46,9 +46,9 @@ all_inside (side ∷ sides) (v ∷ vs) = is_inside side v && all_inside sides vs
 abbrev pub distance : F2Dot14 → F2Dot14 → ℕ
 distance high low = unsigned_abs (high.0 -ℤ low.0)
 
--- how far a number is from the peak, over how far the side reaches there: a numerator and a denominator
-abbrev pub pull : F2Dot14 × F2Dot14 × F2Dot14 → F2Dot14 → ℕ × ℕ
-pull side v =
+-- the ratio on an axis: how far a number is from the peak, over how far the side reaches there, as numerator and denominator
+abbrev pub axis_ratio : F2Dot14 × F2Dot14 × F2Dot14 → F2Dot14 → ℕ × ℕ
+axis_ratio side v =
     if int_lt v.0 side.1.0 then (distance side.1 v, distance side.1 side.0)
     else (if int_lt side.1.0 v.0 then (distance v side.1, distance side.2 side.1) else (0, 1))
 
@@ -60,14 +60,14 @@ abbrev pub larger : ℕ × ℕ → ℕ × ℕ → ℕ × ℕ
 larger x y = if is_less x y then y else x
 
 -- the largest of a ratio and those on the axes
-abbrev pub strongest_from : ℕ × ℕ → List (F2Dot14 × F2Dot14 × F2Dot14) → List F2Dot14 → ℕ × ℕ
-strongest_from most [] vs = most
-strongest_from most (side ∷ sides) [] = most
-strongest_from most (side ∷ sides) (v ∷ vs) = strongest_from (larger most (pull side v)) sides vs
+abbrev pub largest_ratio_from : ℕ × ℕ → List (F2Dot14 × F2Dot14 × F2Dot14) → List F2Dot14 → ℕ × ℕ
+largest_ratio_from largest [] vs = largest
+largest_ratio_from largest (side ∷ sides) [] = largest
+largest_ratio_from largest (side ∷ sides) (v ∷ vs) = largest_ratio_from (larger largest (axis_ratio side v)) sides vs
 
 -- the largest ratio on the axes
-abbrev pub strongest : List (F2Dot14 × F2Dot14 × F2Dot14) → List F2Dot14 → ℕ × ℕ
-strongest sides place = strongest_from (0, 1) sides place
+abbrev pub largest_ratio : List (F2Dot14 × F2Dot14 × F2Dot14) → List F2Dot14 → ℕ × ℕ
+largest_ratio sides place = largest_ratio_from (0, 1) sides place
 
 -- a side that is cut at a number: it becomes the start or the end
 abbrev pub cut : F2Dot14 × F2Dot14 × F2Dot14 → F2Dot14 → F2Dot14 × F2Dot14 × F2Dot14
@@ -77,18 +77,18 @@ cut side v =
 
 -- a side whose ratio is not less than this one is cut
 abbrev pub cut_at_least : ℕ × ℕ → F2Dot14 × F2Dot14 × F2Dot14 → F2Dot14 → F2Dot14 × F2Dot14 × F2Dot14
-cut_at_least most side v = if is_less (pull side v) most then side else cut side v
+cut_at_least largest side v = if is_less (axis_ratio side v) largest then side else cut side v
 
 -- each side whose ratio is the largest is cut
-abbrev pub cut_strongest : ℕ × ℕ → List (F2Dot14 × F2Dot14 × F2Dot14) → List F2Dot14 → List (F2Dot14 × F2Dot14 × F2Dot14)
-cut_strongest most [] vs = []
-cut_strongest most (side ∷ sides) [] = side ∷ sides
-cut_strongest most (side ∷ sides) (v ∷ vs) = cut_at_least most side v ∷ cut_strongest most sides vs
+abbrev pub cut_largest : ℕ × ℕ → List (F2Dot14 × F2Dot14 × F2Dot14) → List F2Dot14 → List (F2Dot14 × F2Dot14 × F2Dot14)
+cut_largest largest [] vs = []
+cut_largest largest (side ∷ sides) [] = side ∷ sides
+cut_largest largest (side ∷ sides) (v ∷ vs) = cut_at_least largest side v ∷ cut_largest largest sides vs
 
 -- what an earlier place leaves of a region
 abbrev pub narrowed : List (F2Dot14 × F2Dot14 × F2Dot14) → List F2Dot14 → List (F2Dot14 × F2Dot14 × F2Dot14)
 narrowed sides place =
-    if all_inside sides place then cut_strongest (strongest sides place) sides place else sides
+    if all_inside sides place then cut_largest (largest_ratio sides place) sides place else sides
 
 -- the support of a place, after the earlier ones
 abbrev pub support : List (List F2Dot14) → List (List F2Dot14) → List F2Dot14 → Region

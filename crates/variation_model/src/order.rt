@@ -69,30 +69,30 @@ fn rank(keys: &[Vec<usize>], key: &[usize]) -> usize
 fn keys(alloc: Global, places: &[Location]) -> Result<Vec<Vec<usize>>, AllocError>
     ensures { IfOk result (λ keys. map (λ key. key.items) keys.items ≡ map (spec.key places.now) places.now) }
 {
-    let lone = lone_coordinates(alloc, places)?;
+    let on_axis = all_on_axis(alloc, places)?;
     let mut keys = Vec::with_capacity(alloc, places.len())?;
     for place in places {
         let coordinates = active(alloc, place.as_slice())?;
-        keys.push(key(alloc, lone.as_slice(), coordinates.as_slice())?)?;
+        keys.push(key(alloc, on_axis.as_slice(), coordinates.as_slice())?)?;
     }
     Ok(keys)
 }
 
-/// The coordinates that are the only active one of some place.
-fn lone_coordinates(alloc: Global, places: &[Location]) -> Result<Vec<Coordinate>, AllocError>
-    ensures { IfOk result (λ lone. lone.items ≡ spec.all_alone places.now) }
+/// The coordinates of the places that are on an axis.
+fn all_on_axis(alloc: Global, places: &[Location]) -> Result<Vec<Coordinate>, AllocError>
+    ensures { IfOk result (λ on_axis. on_axis.items ≡ spec.all_on_axis places.now) }
 {
-    let mut lone = Vec::new(alloc);
+    let mut on_axis = Vec::new(alloc);
     for place in places {
-        let coordinates = alone(alloc, place.as_slice())?;
-        lone.extend_from_slice(coordinates.as_slice())?;
+        let coordinates = on_axis_coordinate(alloc, place.as_slice())?;
+        on_axis.extend_from_slice(coordinates.as_slice())?;
     }
-    Ok(lone)
+    Ok(on_axis)
 }
 
-/// The active coordinate of a place that has no other.
-fn alone(alloc: Global, place: &[F2Dot14]) -> Result<Vec<Coordinate>, AllocError>
-    ensures { IfOk result (λ lone. lone.items ≡ spec.alone place.now) }
+/// The active coordinate of a place that is on an axis, which has no other.
+fn on_axis_coordinate(alloc: Global, place: &[F2Dot14]) -> Result<Vec<Coordinate>, AllocError>
+    ensures { IfOk result (λ on_axis. on_axis.items ≡ spec.on_axis_coordinate place.now) }
 {
     let mut coordinates = active(alloc, place)?;
     if coordinates.len() != 1 {
@@ -117,14 +117,14 @@ fn active(alloc: Global, place: &[F2Dot14]) -> Result<Vec<Coordinate>, AllocErro
 /// axes, their signs with minus first, and their absolute values.
 fn key(
     alloc: Global,
-    lone: &[Coordinate],
+    on_axis: &[Coordinate],
     coordinates: &[Coordinate],
 ) -> Result<Vec<usize>, AllocError>
-    ensures { IfOk result (λ numbers. numbers.items ≡ spec.key_among lone.now coordinates.now) }
+    ensures { IfOk result (λ numbers. numbers.items ≡ spec.key_among on_axis.now coordinates.now) }
 {
     let mut key = Vec::new(alloc);
     key.push(coordinates.len())?;
-    key.push(off_axis(lone, coordinates))?;
+    key.push(off_axis(on_axis, coordinates))?;
     key.extend_from_slice(axes(alloc, coordinates)?.as_slice())?;
     key.extend_from_slice(signs(alloc, coordinates)?.as_slice())?;
     key.extend_from_slice(sizes(alloc, coordinates)?.as_slice())?;
@@ -132,10 +132,10 @@ fn key(
 }
 
 /// How many of the coordinates are not on an axis.
-fn off_axis(lone: &[Coordinate], coordinates: &[Coordinate]) -> usize
-    ensures { result ≡ count_by (λ c. not (spec.is_on_axis lone.now c)) coordinates.now }
+fn off_axis(on_axis: &[Coordinate], coordinates: &[Coordinate]) -> usize
+    ensures { result ≡ count_by (λ c. not (spec.is_on_axis on_axis.now c)) coordinates.now }
 {
-    coordinates.iter().filter(|c| !lone.contains(c)).count()
+    coordinates.iter().filter(|c| !on_axis.contains(c)).count()
 }
 
 fn axes(alloc: Global, coordinates: &[Coordinate]) -> Result<Vec<usize>, AllocError>

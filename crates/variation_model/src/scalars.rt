@@ -15,13 +15,13 @@ pub fn scalar(region: &Region, at: &[F2Dot14]) -> Fixed
     let sides = region.sides.as_slice();
     let mut product = Fixed(65536);
     for (i, side) in sides.iter().enumerate() {
-        product = mul(product, on_axis(*side, at[i]));
+        product = mul(product, axis_scalar(*side, at[i]));
     }
     product
 }
 
 /// The same on one axis, with its start, peak and end.
-fn on_axis(side: (F2Dot14, F2Dot14, F2Dot14), v: F2Dot14) -> Fixed
+fn axis_scalar(side: (F2Dot14, F2Dot14, F2Dot14), v: F2Dot14) -> Fixed
     ensures { result.0 ≡ axis_scalar side v }
 {
     let (start, peak, end) = side;

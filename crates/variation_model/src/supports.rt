@@ -105,8 +105,8 @@ fn narrow(sides: &mut [Side], place: &[F2Dot14])
     ensures { sides.new ≡ spec.narrowed sides.old place.now }
 {
     if are_all_inside(sides, place) {
-        let most = strongest(sides, place);
-        cut_strongest(sides, place, most);
+        let largest = largest_ratio(sides, place);
+        cut_largest(sides, place, largest);
     }
 }
 
@@ -135,23 +135,23 @@ fn is_inside(side: Side, v: F2Dot14) -> bool
 }
 
 /// The largest of the ratios on the axes.
-fn strongest(sides: &[Side], place: &[F2Dot14]) -> Ratio
+fn largest_ratio(sides: &[Side], place: &[F2Dot14]) -> Ratio
     requires { length sides.now ≡ length place.now }
-    ensures { (result.distance, result.reach) ≡ spec.strongest sides.now place.now }
+    ensures { (result.distance, result.reach) ≡ spec.largest_ratio sides.now place.now }
 {
-    let mut most = Ratio {
+    let mut largest = Ratio {
         distance: 0,
         reach: 1,
     };
     for (i, side) in sides.iter().enumerate() {
-        most = most.max(pull(*side, place[i]));
+        largest = largest.max(axis_ratio(*side, place[i]));
     }
-    most
+    largest
 }
 
-/// How far a number is from the peak, over how far the region reaches there.
-fn pull(side: Side, v: F2Dot14) -> Ratio
-    ensures { (result.distance, result.reach) ≡ spec.pull side v }
+/// The ratio on an axis: how far a number is from the peak, over how far the region reaches there.
+fn axis_ratio(side: Side, v: F2Dot14) -> Ratio
+    ensures { (result.distance, result.reach) ≡ spec.axis_ratio side v }
 {
     let (start, peak, end) = side;
     if v.0 < peak.0 {
@@ -179,21 +179,21 @@ fn distance(high: F2Dot14, low: F2Dot14) -> u32
 }
 
 /// Cuts each side whose ratio is the largest.
-fn cut_strongest(sides: &mut [Side], place: &[F2Dot14], most: Ratio)
+fn cut_largest(sides: &mut [Side], place: &[F2Dot14], largest: Ratio)
     requires { length sides.old ≡ length place.now }
-    ensures { sides.new ≡ spec.cut_strongest (most.distance, most.reach) sides.old place.now }
+    ensures { sides.new ≡ spec.cut_largest (largest.distance, largest.reach) sides.old place.now }
 {
     for (i, v) in place.iter().enumerate() {
-        sides[i] = cut_if(sides[i], *v, most);
+        sides[i] = cut_if(sides[i], *v, largest);
     }
 }
 
 /// The side, cut where its ratio is not less than this one.
-fn cut_if(side: Side, v: F2Dot14, most: Ratio) -> Side
-    ensures { result ≡ spec.cut_at_least (most.distance, most.reach) side v }
+fn cut_if(side: Side, v: F2Dot14, largest: Ratio) -> Side
+    ensures { result ≡ spec.cut_at_least (largest.distance, largest.reach) side v }
 {
     let (start, peak, end) = side;
-    if pull(side, v).is_less(most) {
+    if axis_ratio(side, v).is_less(largest) {
         side
     } else if v.0 < peak.0 {
         (v, peak, end)

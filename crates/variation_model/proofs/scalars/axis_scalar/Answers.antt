@@ -2,7 +2,7 @@ use Rattle.std.proofs.Common.{◌≡◌, arith, ◌-ℤ◌, sym, ◌∙◌}
 use Rattle.std.proofs.lemmas.Int.{ints, to_z-of_z}
 use Rattle.fixed_math.specs.FixedPoint.{ratio_of}
 use Rattle.variation_model.proofs.ScalarLemmas.{falling}
-use Rattle.variation_model.proofs.scalars.on_axis.Goals as goal
+use Rattle.variation_model.proofs.scalars.axis_scalar.Goals as goal
 
 pub returns-else-v-peak-2 : goal.returns-else-v-peak-2
 returns-else-v-peak-2 c =
