@@ -140,7 +140,7 @@ nothing_at_earlier places earlier place i h same_length apart fewer =
     nothing_from (pos 65536) sides other out
 
 -- the support of each place is that after those before it
-support_at : (places earlier rest : List (List F2Dot14)) (k : ℕ) → k < length rest → region_at (spec.supports_after places earlier rest) k ≡ spec.support places (earlier ++ take k rest) (place_at rest k)
+pub support_at : (places earlier rest : List (List F2Dot14)) (k : ℕ) → k < length rest → region_at (spec.supports_after places earlier rest) k ≡ spec.support places (earlier ++ take k rest) (place_at rest k)
 support_at places earlier [] k h = absurd (omega arith)
 support_at places earlier (place ∷ rest) zero h =
     ap (λ (e : List (List F2Dot14)). spec.support places e place) (sym (append-nil earlier))

@@ -17,5 +17,7 @@ pub mod OrderLaws
 pub mod ZeroLemmas
 pub mod LackLemmas
 pub mod HalfLemmas
+pub mod CutLaws
+pub mod CutSupports
 pub mod ModelLaws
 pub mod RefusalLemmas

@@ -8,6 +8,7 @@ use Rattle.fixed_math.specs.declared.Fixed.{Fixed}
 use Rattle.fixed_math.specs.FixedPoint.{half_up}
 use Rattle.variation_model.specs.Places.{place_at, axis_count, zero_number, ordered, order_of, key, is_less_key}
 use Rattle.variation_model.specs.Supports.{supports_of}
+use Rattle.variation_model.specs.Cuts.{IsSupport}
 use Rattle.variation_model.specs.Scalar.{scalar_of}
 use Rattle.variation_model.specs.Deltas.{deltas_of, region_at, value_of, value_at_place}
 use Rattle.variation_model.specs.declared.errors.DeltaError.{DeltaError}
@@ -46,6 +47,11 @@ OwnSupportsCountWhole places = EachIndex places (λ k. scalar_between places k k
 -- a later place's support counts nothing at an earlier place
 abbrev pub LaterSupportsCountNothing : List (List F2Dot14) → Type 0
 LaterSupportsCountNothing places = (j k : ℕ) → j < k → k < length places → scalar_between places k j ≡ pos 0
+
+-- each support is what the places before its own, each in its turn, leave of the widest region
+abbrev pub EarlierPlacesCut : List (List F2Dot14) → Type 0
+EarlierPlacesCut places =
+    EachIndex places (λ k. IsSupport places (take k (ordered places)) (place_at (ordered places) k) ((region_at (supports_of places) k).sides))
 
 -- each delta, in the places' order, is what the earlier ones lack of the value at its place, rounded
 abbrev pub IsEachWhatIsLacking : List (List F2Dot14) → List Fixed → List ℤ → Type 0

@@ -1,5 +1,6 @@
 pub mod Places
 pub mod Supports
+pub mod Cuts
 pub mod Scalar
 pub mod Deltas
 pub mod Parts

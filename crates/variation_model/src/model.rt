@@ -1,7 +1,7 @@
 ghost use Rattle.std.specs.Prelude.{◌≡◌, ◌≢◌, ℕ, ◌-◌, ◌+◌, ◌*◌, ◌^◌, ◌<◌, ◌≤◌, ◌-ℤ◌, ◌*ℤ◌, true, false, [], map, unsigned_abs, All, MatchOption, IfOk, length, replicate, EachIndex, Contains};
 ghost use Rattle.variation_model.specs.Places.{axis_count, place_at, zero_number, order_of};
 ghost use Rattle.fixed_math.specs.FixedPoint.{half_up};
-ghost use Rattle.variation_model.specs.Laws.{IsEachWhatIsLacking, IsOrder, IsInOrder, IsWithinHalfOfValues, IsZeroFirst, LaterSupportsCountNothing, MeetWithinHalf, OwnSupportsCountWhole, RefusesFirstOutside, comes_before};
+ghost use Rattle.variation_model.specs.Laws.{EarlierPlacesCut, IsEachWhatIsLacking, IsOrder, IsInOrder, IsWithinHalfOfValues, IsZeroFirst, LaterSupportsCountNothing, MeetWithinHalf, OwnSupportsCountWhole, RefusesFirstOutside, comes_before};
 ghost use Rattle.variation_model.specs.Scalar.{scalar_of};
 ghost use Rattle.variation_model.specs.Supports.{supports_after, supports_of};
 ghost use Rattle.variation_model.specs.Parts.{AreSmall, deltas_by, row_at, rows_from, scalars_at, weighted};
@@ -51,6 +51,7 @@ impl Model {
         ensures places { IfOk result (λ model. model ≡ places.now) }
         ensures own { IfOk result (λ model. OwnSupportsCountWhole model) }
         ensures later { IfOk result (λ model. LaterSupportsCountNothing model) }
+        ensures earlier { IfOk result (λ model. EarlierPlacesCut model) }
     {
         let order = positions(alloc, places)?;
         let supports = supports_in_order(alloc, places, order.as_slice())?;
@@ -76,13 +77,15 @@ impl Model {
     }
 
     /// The region of each place, in the model's order: start, peak and end on each axis, in 2.14 (OpenType 1.9, "Font variations
-    /// common table formats", "Variation regions"). How far a region reaches is fontc's own.
+    /// common table formats", "Variation regions"). How far a region reaches is fontc's own: each earlier place that is inside it
+    /// cuts it, on the axes on which the place is farthest from the peak for how far the region reaches there.
     pub fn supports(&self) -> &[Region]
         ensures value { result.now ≡ supports_of self.now }
         ensures as_many { length result.now ≡ length self.now }
         ensures sides { EachIndex result.now (λ i. length (region_at result.now i).sides ≡ axis_count self.now) }
         ensures own { OwnSupportsCountWhole self.now }
         ensures later { LaterSupportsCountNothing self.now }
+        ensures earlier { EarlierPlacesCut self.now }
     {
         self.supports.as_slice()
     }

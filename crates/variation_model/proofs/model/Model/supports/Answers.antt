@@ -4,9 +4,10 @@ use Rattle.fixed_math.specs.declared.F2Dot14.{F2Dot14}
 use Rattle.font_ir.specs.declared.variation.Region.{Region}
 use Rattle.variation_model.specs.Places.{axis_count}
 use Rattle.variation_model.specs.Deltas.{region_at}
-use Rattle.variation_model.specs.Laws.{LaterSupportsCountNothing}
+use Rattle.variation_model.specs.Laws.{LaterSupportsCountNothing, EarlierPlacesCut}
 use Rattle.variation_model.proofs.OwnSupports.{own_supports}
 use Rattle.variation_model.proofs.ModelLaws.{places_later}
+use Rattle.variation_model.proofs.CutSupports.{earlier_places_cut}
 use Rattle.variation_model.proofs.ModelLemmas.{model_as_many, model_sides}
 use Rattle.variation_model.proofs.model.Model.supports.Goals as goal
 
@@ -31,3 +32,9 @@ pub returns-clause-later : goal.returns-clause-later
 returns-clause-later c =
     let P : List (List F2Dot14) → Type 0 = λ places. LaterSupportsCountNothing places in
     subst P c.self.view_is (places_later c.self.inside.places.items c.self.invariant.are_places)
+
+pub returns-clause-earlier : goal.returns-clause-earlier
+returns-clause-earlier c =
+    let P : List (List F2Dot14) → Type 0 = λ places. EarlierPlacesCut places in
+    let are = c.self.invariant.are_places in
+    subst P c.self.view_is (earlier_places_cut c.self.inside.places.items are.one_length are.has_zero)
