@@ -8,7 +8,7 @@ use Rattle.std.specs.Prelude.{int_lt, unsigned_abs}
 use Rattle.std.specs.Ordering.{int_eq}
 use Rattle.fixed_math.specs.declared.F2Dot14.{F2Dot14}
 use Rattle.variation_model.specs.Supports as spec
-use Rattle.variation_model.specs.Cuts.{Side, side_on, coordinate_on, IsWithin, HasRatio, IsAtMost, HasLargestRatio, IsCutAt, IsLeft}
+use Rattle.variation_model.specs.Cuts.{Side, side_on, coordinate_on, IsWithin, IsInside, HasRatio, IsAtMost, HasLargestRatio, IsCutAt, IsNarrowed}
 use Rattle.variation_model.proofs.SupportLengths.{length-cut_largest}
 
 -- being inside, as a test and as a relation
@@ -52,7 +52,7 @@ tests_inside side v w =
     (λ e. beside_the_peak side.0.0 side.1.0 side.2.0 v.0 w.inactive w.active e.0 e.1)
     w.between
 
-within_at : (sides : List Side) (vs : List F2Dot14) → length sides ≡ length vs → spec.all_inside sides vs ≡ true → (axis : ℕ) → axis < length sides → spec.is_inside (side_on axis sides) (coordinate_on axis vs) ≡ true
+pub within_at : (sides : List Side) (vs : List F2Dot14) → length sides ≡ length vs → spec.all_inside sides vs ≡ true → (axis : ℕ) → axis < length sides → spec.is_inside (side_on axis sides) (coordinate_on axis vs) ≡ true
 within_at [] vs e f axis h = absurd (omega arith)
 within_at (side ∷ sides) [] e f axis h = absurd (omega arith)
 within_at (side ∷ sides) (v ∷ vs) e f zero h = (and_parts (spec.is_inside side v) (spec.all_inside sides vs) f).0
@@ -70,6 +70,14 @@ tests_all_inside (side ∷ sides) [] e f = absurd (omega arith)
 tests_all_inside (side ∷ sides) (v ∷ vs) e f =
     both (spec.is_inside side v) (spec.all_inside sides vs) (f 0 (omega arith))
     (tests_all_inside sides vs (omega arith) (λ axis h. f (suc axis) (omega arith)))
+
+pub are_inside : (sides : List Side) (vs : List F2Dot14) → length sides ≡ length vs → spec.all_inside sides vs ≡ true → IsInside sides vs
+are_inside sides vs e f axis h = is_within (side_on axis sides) (coordinate_on axis vs) (within_at sides vs e f axis h)
+
+pub not_inside : (sides : List Side) (vs : List F2Dot14) → length sides ≡ length vs → spec.all_inside sides vs ≡ false → IsInside sides vs → ⊥
+not_inside sides vs e f inside =
+    let test = tests_all_inside sides vs e (λ axis h. tests_inside (side_on axis sides) (coordinate_on axis vs) (inside axis h)) in
+    cc
 
 -- ratios of natural numbers
 abbrev Below : ℕ × ℕ → ℕ × ℕ → Type 0
@@ -137,7 +145,7 @@ positive_reach side v f =
     (λ e. abs_positive (side.2.0 -ℤ side.1.0) (reach_above side.0.0 side.1.0 side.2.0 v.0 f e))
     (λ _ _. omega arith)
 
-abbrev ratio_on : ℕ → List Side → List F2Dot14 → ℕ × ℕ
+abbrev pub ratio_on : ℕ → List Side → List F2Dot14 → ℕ × ℕ
 ratio_on axis sides vs = spec.axis_ratio (side_on axis sides) (coordinate_on axis vs)
 
 -- the largest ratio is that of some axis, or what it began with, and no ratio is above it
@@ -181,7 +189,7 @@ abs_of : (z : ℤ) → pos 0 <ℤ z → z ≡ pos (unsigned_abs z)
 abs_of (pos n) h = refl
 abs_of (negsuc n) h = absurd (omega (arith, ints))
 
-abbrev as_signed : ℕ × ℕ → ℤ × ℤ
+abbrev pub as_signed : ℕ × ℕ → ℤ × ℤ
 as_signed x = (pos x.0, pos x.1)
 
 pair : {A B : Type 0} {a c : A} {b d : B} → a ≡ c → b ≡ d → ◌≡◌ {A = A × B} (a, b) (c, d)
@@ -232,10 +240,10 @@ below_of x y h = omega (arith, ints)
 pub less_of : (x y : ℤ) → int_lt x y ≡ true → x <ℤ y
 less_of x y e = grind (arith, ints)
 
-has_below : (side : Side) (v : F2Dot14) → spec.is_inside side v ≡ true → int_lt v.0 side.1.0 ≡ true → HasRatio side v (as_signed (spec.axis_ratio side v))
+pub has_below : (side : Side) (v : F2Dot14) → spec.is_inside side v ≡ true → int_lt v.0 side.1.0 ≡ true → HasRatio side v (as_signed (spec.axis_ratio side v))
 has_below side v f e = let h = less_of v.0 side.1.0 e in inl (h, sym (ratio_below side v f h))
 
-has_above : (side : Side) (v : F2Dot14) → spec.is_inside side v ≡ true → int_lt side.1.0 v.0 ≡ true → HasRatio side v (as_signed (spec.axis_ratio side v))
+pub has_above : (side : Side) (v : F2Dot14) → spec.is_inside side v ≡ true → int_lt side.1.0 v.0 ≡ true → HasRatio side v (as_signed (spec.axis_ratio side v))
 has_above side v f e = let h = less_of side.1.0 v.0 e in inr (h, sym (ratio_above side v f h))
 
 -- a ratio is above none that an axis has, so it is above what is computed on the axis
@@ -260,7 +268,7 @@ below_own side v own f at_most =
 one_positive : 0 < 1
 one_positive = omega arith
 
-not_less : (sides : List Side) (vs : List F2Dot14) → length sides ≡ length vs → spec.all_inside sides vs ≡ true → (axis : ℕ) (ratio : ℤ × ℤ) → axis < length sides → HasLargestRatio sides vs axis ratio → spec.is_less (ratio_on axis sides vs) (spec.largest_ratio sides vs) ≡ false
+pub not_less : (sides : List Side) (vs : List F2Dot14) → length sides ≡ length vs → spec.all_inside sides vs ≡ true → (axis : ℕ) (ratio : ℤ × ℤ) → axis < length sides → HasLargestRatio sides vs axis ratio → spec.is_less (ratio_on axis sides vs) (spec.largest_ratio sides vs) ≡ false
 not_less sides vs e f axis ratio h has =
     let own = ratio_on axis sides vs in
     let all = largest (0, 1) sides vs e f one_positive in
@@ -275,7 +283,7 @@ not_less sides vs e f axis ratio h has =
     ap (spec.is_less own) found.2 ∙ below_not_less own other below)
     all.reached
 
-has_largest : (sides : List Side) (vs : List F2Dot14) → length sides ≡ length vs → spec.all_inside sides vs ≡ true → (axis : ℕ) → spec.is_less (ratio_on axis sides vs) (spec.largest_ratio sides vs) ≡ false → HasRatio (side_on axis sides) (coordinate_on axis vs) (as_signed (ratio_on axis sides vs)) → HasLargestRatio sides vs axis (as_signed (ratio_on axis sides vs))
+pub has_largest : (sides : List Side) (vs : List F2Dot14) → length sides ≡ length vs → spec.all_inside sides vs ≡ true → (axis : ℕ) → spec.is_less (ratio_on axis sides vs) (spec.largest_ratio sides vs) ≡ false → HasRatio (side_on axis sides) (coordinate_on axis vs) (as_signed (ratio_on axis sides vs)) → HasLargestRatio sides vs axis (as_signed (ratio_on axis sides vs))
 has_largest sides vs e f axis g has =
     let own = ratio_on axis sides vs in
     let final = spec.largest_ratio sides vs in
@@ -291,7 +299,7 @@ has_largest sides vs e f axis g has =
     }
 
 -- what is left on an axis
-cut_on : (most : ℕ × ℕ) (sides : List Side) (vs : List F2Dot14) → length sides ≡ length vs → (axis : ℕ) → axis < length sides → side_on axis (spec.cut_largest most sides vs) ≡ spec.cut_at_least most (side_on axis sides) (coordinate_on axis vs)
+pub cut_on : (most : ℕ × ℕ) (sides : List Side) (vs : List F2Dot14) → length sides ≡ length vs → (axis : ℕ) → axis < length sides → side_on axis (spec.cut_largest most sides vs) ≡ spec.cut_at_least most (side_on axis sides) (coordinate_on axis vs)
 cut_on most [] vs e axis h = absurd (omega arith)
 cut_on most (side ∷ sides) [] e axis h = absurd (omega arith)
 cut_on most (side ∷ sides) (v ∷ vs) e zero h = refl
@@ -320,12 +328,12 @@ kept_on sides vs e f axis h none =
     (λ _ _. refl))
 
 -- what an earlier place leaves of a region
-inside_left : (sides : List Side) (vs : List F2Dot14) → length sides ≡ length vs → spec.all_inside sides vs ≡ true → IsLeft sides vs (spec.cut_largest (spec.largest_ratio sides vs) sides vs)
-inside_left sides vs e f =
+inside_narrowed : (sides : List Side) (vs : List F2Dot14) → length sides ≡ length vs → spec.all_inside sides vs ≡ true → IsNarrowed sides vs (spec.cut_largest (spec.largest_ratio sides vs) sides vs)
+inside_narrowed sides vs e f =
     let most = spec.largest_ratio sides vs in
     record {
       as_many = length-cut_largest most sides vs;
-      outside = λ out. absurd (out (λ axis h. is_within (side_on axis sides) (coordinate_on axis vs) (within_at sides vs e f axis h)));
+      outside = λ out. absurd (out (are_inside sides vs e f));
       cut =
           λ _ axis ratio h has. let side = side_on axis sides in
           let v = coordinate_on axis vs in
@@ -335,17 +343,15 @@ inside_left sides vs e f =
       kept = λ _ axis h none. cut_on most sides vs e axis h ∙ kept_on sides vs e f axis h none;
     }
 
-outside_left : (sides : List Side) (vs : List F2Dot14) → length sides ≡ length vs → spec.all_inside sides vs ≡ false → IsLeft sides vs sides
-outside_left sides vs e f =
+outside_narrowed : (sides : List Side) (vs : List F2Dot14) → length sides ≡ length vs → spec.all_inside sides vs ≡ false → IsNarrowed sides vs sides
+outside_narrowed sides vs e f =
     record {
       as_many = refl;
       outside = λ _. refl;
-      cut =
-          λ inside. let test = tests_all_inside sides vs e (λ axis h. tests_inside (side_on axis sides) (coordinate_on axis vs) (inside axis h)) in
-          absurd (cc);
+      cut = λ inside. absurd (not_inside sides vs e f inside);
       kept = λ _ _ _ _. refl;
     }
 
-pub narrowed_left : (sides : List Side) (vs : List F2Dot14) → length sides ≡ length vs → IsLeft sides vs (spec.narrowed sides vs)
-narrowed_left sides vs e =
-    cond_both (spec.all_inside sides vs) (spec.cut_largest (spec.largest_ratio sides vs) sides vs) sides (λ (left : List Side). IsLeft sides vs left) (λ f. inside_left sides vs e f) (λ f. outside_left sides vs e f)
+pub narrowed_IsNarrowed : (sides : List Side) (vs : List F2Dot14) → length sides ≡ length vs → IsNarrowed sides vs (spec.narrowed sides vs)
+narrowed_IsNarrowed sides vs e =
+    cond_both (spec.all_inside sides vs) (spec.cut_largest (spec.largest_ratio sides vs) sides vs) sides (λ (left : List Side). IsNarrowed sides vs left) (λ f. inside_narrowed sides vs e f) (λ f. outside_narrowed sides vs e f)

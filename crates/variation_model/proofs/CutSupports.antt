@@ -11,13 +11,13 @@ use Rattle.fixed_math.specs.declared.F2Dot14.{F2Dot14}
 use Rattle.font_ir.specs.declared.variation.Region.{Region}
 use Rattle.variation_model.specs.Places.{zero_number, place_at, axis_count, ordered, order_of}
 use Rattle.variation_model.specs.Supports as spec
-use Rattle.variation_model.specs.Cuts.{Side, side_on, coordinate_on, IsGreatestOn, IsLeastOn, IsWidestOn, IsWidest, IsLeft, IsSupport}
+use Rattle.variation_model.specs.Cuts.{Side, side_on, coordinate_on, IsGreatestOn, IsLeastOn, IsWidestOn, IsWidest, IsNarrowed, IsSupport}
 use Rattle.variation_model.specs.Deltas.{region_at}
 use Rattle.variation_model.specs.Laws.{EarlierPlacesCut}
 use Rattle.variation_model.proofs.ModelLemmas.{length-order_of, ordered_length}
 use Rattle.variation_model.proofs.SupportLengths.{length-widest_from, length-fold-narrowed}
 use Rattle.variation_model.proofs.LaterSupports.{support_at}
-use Rattle.variation_model.proofs.CutLaws.{narrowed_left, of_three, less_of}
+use Rattle.variation_model.proofs.CutLaws.{narrowed_IsNarrowed, of_three, less_of}
 
 -- the greatest of a number and those of places on an axis
 abbrev greatest_from : ℤ → ℕ → List (List F2Dot14) → ℤ
@@ -128,7 +128,7 @@ zero_reached places n axis has =
     let is : place_at places has.0 ≡ zeros = get_or_default places has.0 [] zeros has.1 ∙ has.2 in
     (has.0, has.1, ap (λ (v : List F2Dot14). (coordinate_on axis v).0) is ∙ zero_on n axis)
 
-greatest_is : (places : List (List F2Dot14)) (n axis : ℕ) → Contains places (replicate n zero_number) → IsGreatestOn axis places (spec.greatest places axis)
+pub greatest_is : (places : List (List F2Dot14)) (n axis : ℕ) → Contains places (replicate n zero_number) → IsGreatestOn axis places (spec.greatest places axis)
 greatest_is places n axis has =
     record {
       none_above = λ i h. greatest_each (pos 0) axis places i h;
@@ -136,7 +136,7 @@ greatest_is places n axis has =
           ⊎_elim (λ e. subst (λ (z : ℤ). IsReached axis places z) (sym e) (zero_reached places n axis has)) (λ r. r) (greatest_reached (pos 0) axis places);
     }
 
-least_is : (places : List (List F2Dot14)) (n axis : ℕ) → Contains places (replicate n zero_number) → IsLeastOn axis places (spec.least places axis)
+pub least_is : (places : List (List F2Dot14)) (n axis : ℕ) → Contains places (replicate n zero_number) → IsLeastOn axis places (spec.least places axis)
 least_is places n axis has =
     record {
       none_below = λ i h. least_each (pos 0) axis places i h;
@@ -179,10 +179,10 @@ widest_is places n axis peak has =
       inactive = λ _. (refl, refl);
     })
 
-abbrev widest_at : List (List F2Dot14) → ℕ → F2Dot14 → Side
+abbrev pub widest_at : List (List F2Dot14) → ℕ → F2Dot14 → Side
 widest_at places axis peak = spec.widest_side (spec.least places axis) peak (spec.greatest places axis)
 
-widest_on : (places : List (List F2Dot14)) (from : ℕ) (place : List F2Dot14) (axis : ℕ) → axis < length place → side_on axis (spec.widest_from places from place) ≡ widest_at places (from + axis) (coordinate_on axis place)
+pub widest_on : (places : List (List F2Dot14)) (from : ℕ) (place : List F2Dot14) (axis : ℕ) → axis < length place → side_on axis (spec.widest_from places from place) ≡ widest_at places (from + axis) (coordinate_on axis place)
 widest_on places from [] axis h = absurd (omega arith)
 widest_on places from (peak ∷ peaks) zero h =
     let same : from ≡ from + 0 = omega arith in
@@ -217,21 +217,27 @@ fold_IsSupport places n earlier place has fits =
           length-fold-narrowed widest (take k earlier) ∙ length-widest_from places 0 place ∙ sym (fits k h) in
           let is : fold spec.narrowed widest (take (k + 1) earlier) ≡ spec.narrowed before other =
           fold_more spec.narrowed widest earlier k [] h in
-          subst (λ (s : List Side). IsLeft before other s) (sym is) (narrowed_left before other long);
+          subst (λ (s : List Side). IsNarrowed before other s) (sym is) (narrowed_IsNarrowed before other long);
       last = ap (λ (l : List (List F2Dot14)). fold spec.narrowed widest l) (take_all (length earlier) earlier (omega arith));
     }
 
-pub earlier_places_cut : (places : List (List F2Dot14)) → EachIndex places (λ i. length (place_at places i) ≡ axis_count places) → Contains places (replicate (axis_count places) zero_number) → EarlierPlacesCut places
-unfolding spec.supports_of
-earlier_places_cut places one_length has_zero k h =
+-- each place's earlier ones have a coordinate for each of its own
+pub earlier_fit : (places : List (List F2Dot14)) (k : ℕ) → EachIndex places (λ i. length (place_at places i) ≡ axis_count places) → k < length places → EachIndex (take k (ordered places)) (λ j. length (place_at (take k (ordered places)) j) ≡ length (place_at (ordered places) k))
+earlier_fit places k one_length h j l =
     let in_order = ordered places in
     let as_many : length in_order ≡ length places = length-map (order_of places) (place_at places) ∙ length-order_of places in
-    let place = place_at in_order k in
-    let earlier = take k in_order in
-    let fits : EachIndex earlier (λ j. length (place_at earlier j) ≡ length place) =
-    λ j l. let before : j < k = omega (arith, length-take-le k in_order) in
-    ap length (get_or-take k in_order j [] before) ∙ ordered_length places one_length j (omega arith) ∙ sym (ordered_length places one_length k (omega arith)) in
-    let is : region_at (spec.supports_after places [] in_order) k ≡ spec.support places earlier place =
-    support_at places [] in_order k (omega arith) in
-    subst (λ (r : Region). IsSupport places earlier place r.sides) (sym is)
-    (fold_IsSupport places (axis_count places) earlier place has_zero fits)
+    let before : j < k = omega (arith, length-take-le k in_order) in
+    ap length (get_or-take k in_order j [] before) ∙ ordered_length places one_length j (omega arith) ∙ sym (ordered_length places one_length k (omega arith))
+
+pub support_in_order : (places : List (List F2Dot14)) (k : ℕ) → k < length places → region_at (spec.supports_of places) k ≡ spec.support places (take k (ordered places)) (place_at (ordered places) k)
+unfolding spec.supports_of
+support_in_order places k h =
+    let as_many : length (ordered places) ≡ length places = length-map (order_of places) (place_at places) ∙ length-order_of places in
+    support_at places [] (ordered places) k (omega arith)
+
+pub earlier_places_cut : (places : List (List F2Dot14)) → EachIndex places (λ i. length (place_at places i) ≡ axis_count places) → Contains places (replicate (axis_count places) zero_number) → EarlierPlacesCut places
+earlier_places_cut places one_length has_zero k h =
+    let earlier = take k (ordered places) in
+    let place = place_at (ordered places) k in
+    subst (λ (r : Region). IsSupport places earlier place r.sides) (sym (support_in_order places k h))
+    (fold_IsSupport places (axis_count places) earlier place has_zero (earlier_fit places k one_length h))

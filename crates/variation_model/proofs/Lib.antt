@@ -19,5 +19,6 @@ pub mod LackLemmas
 pub mod HalfLemmas
 pub mod CutLaws
 pub mod CutSupports
+pub mod CutOnly
 pub mod ModelLaws
 pub mod RefusalLemmas

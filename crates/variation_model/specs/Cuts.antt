@@ -9,6 +9,7 @@ use Rattle.variation_model.specs.Places.{zero_number, place_at}
 abbrev pub Side : Type 0
 Side = F2Dot14 × F2Dot14 × F2Dot14
 
+-- an axis's side in a region, and its coordinate in a place
 abbrev pub side_on : ℕ → List Side → Side
 side_on axis sides = slice_index_or sides axis (zero_number, zero_number, zero_number)
 
@@ -47,11 +48,11 @@ pub record IsCutAt (side : Side) (v : F2Dot14) (cut : Side) : Type 0 where
   pub above : side.1.0 <ℤ v.0 → cut ≡ (side.0, side.1, v)
 
 -- what an earlier place leaves of a region
-pub record IsLeft (sides : List Side) (place : List F2Dot14) (left : List Side) : Type 0 where
-  pub as_many : length left ≡ length sides
-  pub outside : (IsInside sides place → ⊥) → left ≡ sides
-  pub cut : IsInside sides place → (axis : ℕ) (ratio : ℤ × ℤ) → axis < length sides → HasLargestRatio sides place axis ratio → IsCutAt (side_on axis sides) (coordinate_on axis place) (side_on axis left)
-  pub kept : IsInside sides place → (axis : ℕ) → axis < length sides → ((ratio : ℤ × ℤ) → HasLargestRatio sides place axis ratio → ⊥) → side_on axis left ≡ side_on axis sides
+pub record IsNarrowed (sides : List Side) (place : List F2Dot14) (narrowed : List Side) : Type 0 where
+  pub as_many : length narrowed ≡ length sides
+  pub outside : (IsInside sides place → ⊥) → narrowed ≡ sides
+  pub cut : IsInside sides place → (axis : ℕ) (ratio : ℤ × ℤ) → axis < length sides → HasLargestRatio sides place axis ratio → IsCutAt (side_on axis sides) (coordinate_on axis place) (side_on axis narrowed)
+  pub kept : IsInside sides place → (axis : ℕ) → axis < length sides → ((ratio : ℤ × ℤ) → HasLargestRatio sides place axis ratio → ⊥) → side_on axis narrowed ≡ side_on axis sides
 
 -- a number is the greatest, or the least, that places have on an axis
 pub record IsGreatestOn (axis : ℕ) (places : List (List F2Dot14)) (z : ℤ) : Type 0 where
@@ -69,6 +70,7 @@ pub record IsWidestOn (axis : ℕ) (places : List (List F2Dot14)) (peak : F2Dot1
   pub below : peak.0 <ℤ pos 0 → IsLeastOn axis places side.0.0 × (side.2.0 ≡ pos 0)
   pub inactive : peak.0 ≡ pos 0 → (side.0.0 ≡ pos 0) × (side.2.0 ≡ pos 0)
 
+-- the region of a place before earlier places are looked at
 pub record IsWidest (places : List (List F2Dot14)) (place : List F2Dot14) (sides : List Side) : Type 0 where
   pub as_many : length sides ≡ length place
   pub each : EachIndex place (λ axis. IsWidestOn axis places (coordinate_on axis place) (side_on axis sides))
@@ -77,5 +79,5 @@ pub record IsWidest (places : List (List F2Dot14)) (place : List F2Dot14) (sides
 pub record IsSupport (places earlier : List (List F2Dot14)) (place : List F2Dot14) (sides : List Side) : Type 0 where
   pub after : ℕ → List Side
   pub first : IsWidest places place (after 0)
-  pub each : (k : ℕ) → k < length earlier → IsLeft (after k) (place_at earlier k) (after (k + 1))
+  pub each : (k : ℕ) → k < length earlier → IsNarrowed (after k) (place_at earlier k) (after (k + 1))
   pub last : after (length earlier) ≡ sides

@@ -8,7 +8,7 @@ use Rattle.fixed_math.specs.declared.Fixed.{Fixed}
 use Rattle.fixed_math.specs.FixedPoint.{half_up}
 use Rattle.variation_model.specs.Places.{place_at, axis_count, zero_number, ordered, order_of, key, is_less_key}
 use Rattle.variation_model.specs.Supports.{supports_of}
-use Rattle.variation_model.specs.Cuts.{IsSupport}
+use Rattle.variation_model.specs.Cuts.{Side, IsSupport}
 use Rattle.variation_model.specs.Scalar.{scalar_of}
 use Rattle.variation_model.specs.Deltas.{deltas_of, region_at, value_of, value_at_place}
 use Rattle.variation_model.specs.declared.errors.DeltaError.{DeltaError}
@@ -52,6 +52,11 @@ LaterSupportsCountNothing places = (j k : ℕ) → j < k → k < length places �
 abbrev pub EarlierPlacesCut : List (List F2Dot14) → Type 0
 EarlierPlacesCut places =
     EachIndex places (λ k. IsSupport places (take k (ordered places)) (place_at (ordered places) k) ((region_at (supports_of places) k).sides))
+
+-- and no other region is
+abbrev pub NoOtherSupports : List (List F2Dot14) → Type 0
+NoOtherSupports places =
+    (k : ℕ) (sides : List Side) → k < length places → IsSupport places (take k (ordered places)) (place_at (ordered places) k) sides → sides ≡ (region_at (supports_of places) k).sides
 
 -- each delta, in the places' order, is what the earlier ones lack of the value at its place, rounded
 abbrev pub IsEachWhatIsLacking : List (List F2Dot14) → List Fixed → List ℤ → Type 0

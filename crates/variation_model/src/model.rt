@@ -1,7 +1,7 @@
 ghost use Rattle.std.specs.Prelude.{◌≡◌, ◌≢◌, ℕ, ◌-◌, ◌+◌, ◌*◌, ◌^◌, ◌<◌, ◌≤◌, ◌-ℤ◌, ◌*ℤ◌, true, false, [], map, unsigned_abs, All, MatchOption, IfOk, length, replicate, EachIndex, Contains};
 ghost use Rattle.variation_model.specs.Places.{axis_count, place_at, zero_number, order_of};
 ghost use Rattle.fixed_math.specs.FixedPoint.{half_up};
-ghost use Rattle.variation_model.specs.Laws.{EarlierPlacesCut, IsEachWhatIsLacking, IsOrder, IsInOrder, IsWithinHalfOfValues, IsZeroFirst, LaterSupportsCountNothing, MeetWithinHalf, OwnSupportsCountWhole, RefusesFirstOutside, comes_before};
+ghost use Rattle.variation_model.specs.Laws.{EarlierPlacesCut, IsEachWhatIsLacking, IsOrder, IsInOrder, IsWithinHalfOfValues, IsZeroFirst, LaterSupportsCountNothing, MeetWithinHalf, NoOtherSupports, OwnSupportsCountWhole, RefusesFirstOutside, comes_before};
 ghost use Rattle.variation_model.specs.Scalar.{scalar_of};
 ghost use Rattle.variation_model.specs.Supports.{supports_after, supports_of};
 ghost use Rattle.variation_model.specs.Parts.{AreSmall, deltas_by, row_at, rows_from, scalars_at, weighted};
@@ -51,7 +51,6 @@ impl Model {
         ensures places { IfOk result (λ model. model ≡ places.now) }
         ensures own { IfOk result (λ model. OwnSupportsCountWhole model) }
         ensures later { IfOk result (λ model. LaterSupportsCountNothing model) }
-        ensures earlier { IfOk result (λ model. EarlierPlacesCut model) }
     {
         let order = positions(alloc, places)?;
         let supports = supports_in_order(alloc, places, order.as_slice())?;
@@ -86,6 +85,7 @@ impl Model {
         ensures own { OwnSupportsCountWhole self.now }
         ensures later { LaterSupportsCountNothing self.now }
         ensures earlier { EarlierPlacesCut self.now }
+        ensures no_other { NoOtherSupports self.now }
     {
         self.supports.as_slice()
     }

@@ -1,9 +1,8 @@
 use Rattle.std.proofs.Common.{List, sym, subst}
 use Rattle.fixed_math.specs.declared.F2Dot14.{F2Dot14}
-use Rattle.variation_model.specs.Laws.{LaterSupportsCountNothing, EarlierPlacesCut}
+use Rattle.variation_model.specs.Laws.{LaterSupportsCountNothing}
 use Rattle.variation_model.proofs.OwnSupports.{own_supports}
 use Rattle.variation_model.proofs.LaterSupports.{later_supports}
-use Rattle.variation_model.proofs.CutSupports.{earlier_places_cut}
 use Rattle.variation_model.proofs.ModelLemmas.{order_within, parts_one_each, parts_sides, rows_of-parts, supports_of-parts}
 use Rattle.variation_model.proofs.model.Model.new.Goals as goal
 
@@ -42,8 +41,3 @@ pub returns-clause-later : goal.returns-clause-later
 returns-clause-later c =
     let P : List (List F2Dot14) → Type 0 = λ places. LaterSupportsCountNothing places in
     subst P (sym c.in_ok-places.ensures) (later_supports c.args.places.now c.requires.one_length c.requires.different)
-
-pub returns-clause-earlier : goal.returns-clause-earlier
-returns-clause-earlier c =
-    let P : List (List F2Dot14) → Type 0 = λ places. EarlierPlacesCut places in
-    subst P (sym c.in_ok-places.ensures) (earlier_places_cut c.args.places.now c.requires.one_length c.requires.has_zero)

@@ -4,10 +4,11 @@ use Rattle.fixed_math.specs.declared.F2Dot14.{F2Dot14}
 use Rattle.font_ir.specs.declared.variation.Region.{Region}
 use Rattle.variation_model.specs.Places.{axis_count}
 use Rattle.variation_model.specs.Deltas.{region_at}
-use Rattle.variation_model.specs.Laws.{LaterSupportsCountNothing, EarlierPlacesCut}
+use Rattle.variation_model.specs.Laws.{LaterSupportsCountNothing, EarlierPlacesCut, NoOtherSupports}
 use Rattle.variation_model.proofs.OwnSupports.{own_supports}
 use Rattle.variation_model.proofs.ModelLaws.{places_later}
 use Rattle.variation_model.proofs.CutSupports.{earlier_places_cut}
+use Rattle.variation_model.proofs.CutOnly.{no_other_supports}
 use Rattle.variation_model.proofs.ModelLemmas.{model_as_many, model_sides}
 use Rattle.variation_model.proofs.model.Model.supports.Goals as goal
 
@@ -38,3 +39,9 @@ returns-clause-earlier c =
     let P : List (List F2Dot14) → Type 0 = λ places. EarlierPlacesCut places in
     let are = c.self.invariant.are_places in
     subst P c.self.view_is (earlier_places_cut c.self.inside.places.items are.one_length are.has_zero)
+
+pub returns-clause-no_other : goal.returns-clause-no_other
+returns-clause-no_other c =
+    let P : List (List F2Dot14) → Type 0 = λ places. NoOtherSupports places in
+    let are = c.self.invariant.are_places in
+    subst P c.self.view_is (no_other_supports c.self.inside.places.items are.one_length are.has_zero)
