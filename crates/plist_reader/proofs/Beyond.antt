@@ -1,8 +1,7 @@
 -- Characters beyond ASCII stand in strings alone, and there each may stand.
-use Rattle.std.proofs.Common.{inl, inr, cond, ◌*◌, ◌≡◌, ℕ, ◌+◌, ◌<◌, ◌≤◌, Bool, false, eqb, leb, List, [], ◌∷◌, ◌++◌, Option, Some, None, Result, Ok, Err, refl, subst, arith, append_assoc, IfOk}
+use Rattle.std.proofs.Common.{cond, ◌*◌, ◌≡◌, ℕ, ◌+◌, ◌≤◌, Bool, false, eqb, List, [], ◌∷◌, ◌++◌, Option, Some, None, Result, Ok, Err, refl, subst, arith, append_assoc, IfOk}
 use Rattle.std.specs.Prelude.{option_and_then, encode_utf8}
-use Rattle.std.proofs.lemmas.Bool.{ne_eqb, leb-true, and_parts, cases_Bool}
-use Rattle.std.specs.Char.{len_utf8}
+use Rattle.std.specs.Char.{IsScalar, len_utf8}
 use Rattle.refusal_codes.specs.declared.refusal.Refusal.{Refusal}
 use Rattle.plist_reader.specs.declared.reader.Reader.{Reader}
 use Rattle.plist_reader.specs.declared.reader.Phase.{Phase}
@@ -12,47 +11,20 @@ use Rattle.plist_reader.specs.declared.reader.Token.TheVariants.{Between, Word, 
 use Rattle.plist_reader.specs.declared.escape.Escape.{Escape as EscapeState}
 use Rattle.plist_reader.specs.declared.escape.Escape.TheVariants.{Begun, Octal, Octals, Unit0, Unit1, Unit2, Unit3, High, HighBackslash, Low, Low1, Low2, Low3}
 use Rattle.plist_reader.specs.declared.escape.Escaped.TheVariants.{Wrong}
-use Rattle.plist_reader.specs.Characters.{is_space, is_word, is_between, octal_value, hex_value, byte_of}
+use Rattle.plist_reader.specs.Characters.{is_space, is_word, hex_value, byte_of}
 use Rattle.plist_reader.specs.Escapes.{escape_begun, escape_next}
 use Rattle.plist_reader.specs.Grammar.{width, tree_of, IsTextOf}
 use Rattle.plist_reader.specs.Refusals.{CanGoOn}
-use Rattle.plist_reader.specs.Reading.{◌>>=◌, is_bracket, start, text_ended, text_begun, value_begun, awaited, between, in_word, in_quoted, in_bytes, in_half, step_in, step, run}
-use Rattle.plist_reader.proofs.GivenTexts.{run-text_of}
-use Rattle.plist_reader.proofs.Reached.{at_start, onward, at_ok, reached-goes_on, reached-tree}
+use Rattle.plist_reader.specs.Reading.{◌>>=◌, is_bracket, text_ended, text_begun, value_begun, awaited, between, in_word, in_quoted, in_bytes, in_half, step_in, step, run}
+use Rattle.plist_reader.proofs.Scalars.{no_char, no_space, no_word, no_octal, no_hex}
+use Rattle.plist_reader.proofs.Reached.{onward, at_ok, reached-goes_on, reached-tree}
 use Rattle.plist_reader.proofs.Depths.{ok_bind}
-use Rattle.plist_reader.proofs.InEscapes.{reached-part}
+use Rattle.plist_reader.proofs.InEscapes.{reached-front}
 
--- ---- what such a character is not
-
-no_char : (c k : ℕ) → 128 ≤ c → k < 128 → eqb c k ≡ false
-no_char c k h l = ne_eqb c k (λ e. absurd (omega arith))
-
-no_between : (low high c : ℕ) → 128 ≤ c → high < 128 → is_between low high c ≡ false
-no_between low high c h l = elim (cases_Bool (is_between low high c)) [
-  | inl e ↦ (let p = and_parts (leb low c) (leb c high) e in absurd (omega (arith, leb-true c high p.1)))
-  | inr e ↦ e
-]
-
-no_space : (c : ℕ) → 128 ≤ c → is_space c ≡ false
-unfolding is_space
-no_space c h = rw (no_char c 32 h (omega arith), no_char c 9 h (omega arith), no_char c 13 h (omega arith), no_char c 10 h (omega arith)) refl
-
-no_word : (c : ℕ) → 128 ≤ c → is_word c ≡ false
-unfolding is_word
-no_word c h = rw (no_between 33 126 c h (omega arith)) refl
-
-no_octal : (c : ℕ) → 128 ≤ c → octal_value c ≡ None
-unfolding octal_value
-no_octal c h = rw (no_between 48 55 c h (omega arith)) refl
-
-no_hex : (c : ℕ) → 128 ≤ c → hex_value c ≡ None
-unfolding hex_value
-no_hex c h = rw (no_between 48 57 c h (omega arith), no_between 65 70 c h (omega arith), no_between 97 102 c h (omega arith)) refl
+-- ---- nothing takes it but a string
 
 no_bracket : (c : ℕ) → 128 ≤ c → is_bracket c ≡ false
 no_bracket c h = rw (no_char c 40 h (omega arith), no_char c 123 h (omega arith)) refl
-
--- ---- nothing takes it but a string
 
 never_ok : {A : Type 0} (P : A → Type 0) (b : Bool) (x y : Result A Refusal) → b ≡ false → IfOk y P → IfOk (cond b x y) P
 never_ok P b x y e h = rw e h
@@ -133,10 +105,10 @@ unfolding step
 beyond-step r s place c d h k e = at_ok (λ u. TakesAll r.token r place) (step_in r place c r.token) s e (beyond-step_in r place c r.token h) d k
 
 -- a front goes on with each character beyond ASCII, or with none
-pub beyond-alike : (front : List ℕ) (c d : ℕ) → 128 ≤ c → 128 ≤ d → CanGoOn (front ++ c ∷ []) → CanGoOn (front ++ d ∷ [])
-beyond-alike front c d h k g =
+pub beyond-alike : (front : List ℕ) (c d : ℕ) → 128 ≤ c → 128 ≤ d → IsScalar d → CanGoOn (front ++ c ∷ []) → CanGoOn (front ++ d ∷ [])
+beyond-alike front c d h k i g =
     let text : IsTextOf g.1 (front ++ c ∷ g.0) = subst (λ (x : List ℕ). IsTextOf g.1 x) (append_assoc front (c ∷ []) g.0) g.2 in
-    let r = reached-part front [] (c ∷ g.0) start (tree_of g.1) at_start (run-text_of g.1 (front ++ c ∷ g.0) text) in
+    let r = reached-front front (c ∷ g.0) g.1 text in
     let s = ok_bind (step r.0 (width front) c) (λ u. run u (width front + len_utf8 c) g.0) (tree_of g.1) (reached-tree front (c ∷ g.0) r.0 g.1 r.1 text) in
     let u = beyond-step r.0 s.0 (width front) c d h k s.1 in
-    reached-goes_on (front ++ d ∷ []) u.0 (onward front r.0 u.0 d r.1 u.1)
+    reached-goes_on (front ++ d ∷ []) u.0 (onward front r.0 u.0 d i r.1 u.1)

@@ -19,6 +19,7 @@ use Rattle.plist_reader.specs.Refusals.{is_container, is_open_at, open_at, IsDee
 use Rattle.plist_reader.specs.Reading.{◌>>=◌, is_end, start, step, finish, run}
 use Rattle.plist_reader.proofs.GivenTokens.{ready, in_token, settled, run_same}
 use Rattle.plist_reader.proofs.Moves.{TextEnds, as_value, as_key, Moves, space_between, string_begins, word_begins, bytes_begin, list_begins, dictionary_begins, comma, equals, semicolon, list_ends, dictionary_ends, word_more, word_ends, string_more, string_ends, escape_begins, escape_more, escape_ends, space_in_bytes, first_digit, space_in_half, second_digit, bytes_end, Closes, closes_between, closes_word, closes}
+use Rattle.plist_reader.proofs.Scalars.{AreScalars, front-scalars}
 use Rattle.plist_reader.proofs.Reached.{Reached, at_start, onward, at_ok, reached-good, reached-moves, reached-tree, width-push}
 use Rattle.plist_reader.proofs.GivenTexts.{opened}
 
@@ -139,7 +140,7 @@ start-placed = record { outside = λ e. refl; nodes = λ q l. refl; brackets = t
 
 pub reached-placed : (front : List ℕ) (r : Reader) → Reached front r → Placed r (width front)
 reached-placed _ _ at_start = start-placed
-reached-placed _ _ (onward front r s c h e) = moves-placed (width front) c (width (front ++ c ∷ [])) r s (omega (arith, width-push front c, len_utf8_bounds c)) (reached-moves front r s c h e) (reached-placed front r h)
+reached-placed _ _ (onward front r s c i h e) = moves-placed (width front) c (width (front ++ c ∷ [])) r s (omega (arith, width-push front c, len_utf8_bounds c)) (reached-moves front r s c h e) (reached-placed front r h)
 
 -- ---- the count stays the same
 
@@ -214,11 +215,11 @@ ok_bind (Err x) f t e = absurd (never_ok x t e)
 -- what holds of a tree that is read from a reader on, if the readers on the way keep it
 pub runs-keep : (J : Reader → Type 0) (K : Tree → Type 0) (from : ℕ) → ((front : List ℕ) (r s : Reader) (c : ℕ) → from ≤ width front → Reached front r → Moves (width front) c r s → J r → J s)
     → ((front : List ℕ) (r : Reader) (t : Tree) → Reached front r → Closes (width front) r t → J r → K t)
-    → (cs front : List ℕ) (r : Reader) (t : Tree) → from ≤ width front → Reached front r → run r (width front) cs ≡ Ok t → J r → K t
-runs-keep J K from k z [] front r t l h e j = z front r t h (at_ok (Closes (width front) r) (finish r (width front)) t e (closes r (width front) (reached-good front r h))) j
-runs-keep J K from k z (c ∷ cs) front r t l h e j =
+    → (cs front : List ℕ) (r : Reader) (t : Tree) → AreScalars cs → from ≤ width front → Reached front r → run r (width front) cs ≡ Ok t → J r → K t
+runs-keep J K from k z [] front r t i l h e j = z front r t h (at_ok (Closes (width front) r) (finish r (width front)) t e (closes r (width front) (reached-good front r h))) j
+runs-keep J K from k z (c ∷ cs) front r t i l h e j =
     let u = ok_bind (step r (width front) c) (λ s. run s (width front + len_utf8 c) cs) t e in
-    runs-keep J K from k z cs (front ++ c ∷ []) u.0 t (omega (arith, width-push front c)) (onward front r u.0 c h u.1) (run_same u.0 u.0 (width (front ++ c ∷ [])) (width front + len_utf8 c) cs refl (width-push front c) ∙ u.2)
+    runs-keep J K from k z cs (front ++ c ∷ []) u.0 t i.1 (omega (arith, width-push front c)) (onward front r u.0 c i.0 h u.1) (run_same u.0 u.0 (width (front ++ c ∷ [])) (width front + len_utf8 c) cs refl (width-push front c) ∙ u.2)
     (k front r u.0 c l h (reached-moves front r u.0 c h u.1) j)
 
 pub reached-deep : (front : List ℕ) (r : Reader) → Reached front r → IsDeep front (length r.brackets)
@@ -229,4 +230,4 @@ reached-deep front r h rest v s =
     runs-keep (λ u. Count p u ≡ length r.brackets) (λ t. open_at p t.nodes ≡ length r.brackets) p
     (λ f u w c l k m j. moves-count p (width f) c u w l m ∙ j)
     (λ f u t k m j. closes-count p (width f) u t m (reached-placed f u k).outside ∙ j)
-    rest front r (tree_of v) (omega arith) h (reached-tree front rest r v h s) here
+    rest front r (tree_of v) (front-scalars v front rest s).1 (omega arith) h (reached-tree front rest r v h s) here

@@ -21,6 +21,7 @@ use Rattle.plist_reader.specs.Sources.{text_at, AreNew, IsDictionaryIn}
 use Rattle.plist_reader.specs.Reading.{start, run}
 use Rattle.plist_reader.proofs.GivenTokens.{in_token, settled, IsAwaiting}
 use Rattle.plist_reader.proofs.Moves.{TextEnds, as_value, as_key, Moves, space_between, string_begins, word_begins, bytes_begin, list_begins, dictionary_begins, comma, equals, semicolon, list_ends, dictionary_ends, word_more, word_ends, string_more, string_ends, escape_begins, escape_more, escape_ends, space_in_bytes, first_digit, space_in_half, second_digit, bytes_end, Closes, closes_between, closes_word}
+use Rattle.plist_reader.proofs.Scalars.{AreScalars}
 use Rattle.plist_reader.proofs.Reached.{at_start}
 use Rattle.plist_reader.proofs.Depths.{runs-keep}
 use Rattle.plist_reader.proofs.Keyed.{slice_get-more, slice_get-last}
@@ -189,5 +190,5 @@ start-listed : Listed start
 unfolding start
 start-listed = record { keys = tt; new_keys = tt; done = All-nil (λ n. IsDictionaryIn [] n.value) }
 
-pub tree-dictionaries : (cs : List ℕ) (t : Tree) → run start 0 cs ≡ Ok t → Done t.nodes
-tree-dictionaries cs t e = runs-keep Listed (λ x. Done x.nodes) 0 (λ f r s c l h m j. moves-listed (width f) c r s m j) (λ f r x h k j. closes-listed (width f) r x k j) cs [] start t (omega arith) at_start e start-listed
+pub tree-dictionaries : (cs : List ℕ) (t : Tree) → AreScalars cs → run start 0 cs ≡ Ok t → Done t.nodes
+tree-dictionaries cs t i e = runs-keep Listed (λ x. Done x.nodes) 0 (λ f r s c l h m j. moves-listed (width f) c r s m j) (λ f r x h k j. closes-listed (width f) r x k j) cs [] start t i (omega arith) at_start e start-listed

@@ -1,6 +1,6 @@
 -- What a reader knows of the characters that led to it: which token is open at their end, and what stands in it.
 use Rattle.std.proofs.Common.{◌≡◌, ℕ, ◌+◌, ◌<◌, true, List, [], ◌∷◌, ◌++◌, length, Some, refl, sym, ap, subst, ◌∙◌, arith, append_assoc}
-use Rattle.std.specs.List.{AllByRecursion}
+use Rattle.std.specs.Char.{IsScalar}
 use Rattle.std.proofs.lemmas.List.{append-nil, length_push}
 use Rattle.std.proofs.lemmas.Str.{len_utf8_bounds}
 use lib.Utf8.{encode}
@@ -19,6 +19,7 @@ use Rattle.plist_reader.specs.Characters.{is_word, hex_value}
 use Rattle.plist_reader.specs.Escapes.{escape_next}
 use Rattle.plist_reader.specs.Grammar.{node, width, IsWord, IsQuoted, no_more, plain, escaped, IsEscape}
 use Rattle.plist_reader.proofs.GivenTokens.{settled, settled-between, width-append}
+use Rattle.plist_reader.proofs.Scalars.{all-append}
 use Rattle.plist_reader.proofs.SpelledEscapes.{Front, begun, Means, means-next}
 use Rattle.plist_reader.proofs.Moves.{TextEnds, as_value, as_key, Moves, space_between, string_begins, word_begins, bytes_begin, list_begins, dictionary_begins, comma, equals, semicolon, list_ends, dictionary_ends, word_more, word_ends, string_more, string_ends, escape_begins, escape_more, escape_ends, space_in_bytes, first_digit, space_in_half, second_digit, bytes_end}
 use Rattle.plist_reader.proofs.CanGoOn.{IsLively}
@@ -73,22 +74,18 @@ settled-in nodes brackets number front = between-in (settled nodes brackets numb
 
 -- ---- one more character
 
-pub all-append : (P : ℕ → Type 0) (xs ys : List ℕ) → AllByRecursion P xs → AllByRecursion P ys → AllByRecursion P (xs ++ ys)
-all-append P [] ys h k = k
-all-append P (x ∷ xs) ys h k = (h.0, all-append P xs ys h.1 k)
-
 quoted-append : (xs a ys b : List ℕ) → IsQuoted xs a → IsQuoted ys b → IsQuoted (xs ++ ys) (a ++ b)
 quoted-append _ _ ys b no_more k = k
-quoted-append _ _ ys b (plain c cs bytes n m q) k =
+quoted-append _ _ ys b (plain c cs bytes i n m q) k =
     let P : List ℕ → Type 0 = λ x. IsQuoted ((c ∷ cs) ++ ys) x in
-    subst P (sym (append_assoc (encode c) bytes b)) (plain c (cs ++ ys) (bytes ++ b) n m (quoted-append cs bytes ys b q k))
+    subst P (sym (append_assoc (encode c) bytes b)) (plain c (cs ++ ys) (bytes ++ b) i n m (quoted-append cs bytes ys b q k))
 quoted-append _ _ ys b (escaped c escape cs bytes e q) k =
     let P : List ℕ → List ℕ → Type 0 = λ x y. IsQuoted (92 ∷ x) y in
     subst (λ (y : List ℕ). P ((escape ++ cs) ++ ys) y) (sym (append_assoc (encode c) bytes b))
     (subst (λ (x : List ℕ). P x (encode c ++ (bytes ++ b))) (sym (append_assoc escape cs ys)) (escaped c escape (cs ++ ys) (bytes ++ b) e (quoted-append cs bytes ys b q k)))
 
-one-plain : (c : ℕ) → ¬ (c ≡ 34) → ¬ (c ≡ 92) → IsQuoted (c ∷ []) (encode c)
-one-plain c n m = let P : List ℕ → Type 0 = λ x. IsQuoted (c ∷ []) x in subst P (append-nil (encode c)) (plain c [] [] n m no_more)
+one-plain : (c : ℕ) → IsScalar c → ¬ (c ≡ 34) → ¬ (c ≡ 92) → IsQuoted (c ∷ []) (encode c)
+one-plain c i n m = let P : List ℕ → Type 0 = λ x. IsQuoted (c ∷ []) x in subst P (append-nil (encode c)) (plain c [] [] i n m no_more)
 
 one-escaped : (c : ℕ) (escape : List ℕ) → IsEscape escape c → IsQuoted (92 ∷ escape) (encode c)
 one-escaped c escape e =
@@ -116,13 +113,13 @@ word_more-in front text at c w h = record {
 string_begun-in : (front : List ℕ) (place c : ℕ) → place ≡ width front → c ≡ 34 → StringIn (front ++ c ∷ []) place []
 string_begun-in front place c e f = record { before = front; inner = []; parts = ap (λ x. front ++ x ∷ []) f; place = e; quoted = no_more }
 
-string_more-in : (front text : List ℕ) (at c : ℕ) → ¬ (c ≡ 34) → ¬ (c ≡ 92) → StringIn front at text → StringIn (front ++ c ∷ []) at (text ++ encode c)
-string_more-in front text at c n m h = record {
+string_more-in : (front text : List ℕ) (at c : ℕ) → IsScalar c → ¬ (c ≡ 34) → ¬ (c ≡ 92) → StringIn front at text → StringIn (front ++ c ∷ []) at (text ++ encode c)
+string_more-in front text at c i n m h = record {
   before = h.before;
   inner = h.inner ++ c ∷ [];
   parts = ap (λ x. x ++ c ∷ []) h.parts ∙ append_assoc h.before (34 ∷ h.inner) (c ∷ []);
   place = h.place;
-  quoted = quoted-append h.inner text (c ∷ []) (encode c) h.quoted (one-plain c n m);
+  quoted = quoted-append h.inner text (c ∷ []) (encode c) h.quoted (one-plain c i n m);
 }
 
 escape_begun-in : (front text : List ℕ) (at place c : ℕ) → place ≡ width front → c ≡ 92 → StringIn front at text → EscapeIn (front ++ c ∷ []) at place Begun text
@@ -167,27 +164,27 @@ pub ends-between : (nodes : List TreeNode) (brackets : List Open) (phase : Phase
 ends-between nodes _ _ _ _ _ _ (as_value brackets phase at end text a) = settled-between _ brackets (length nodes)
 ends-between nodes _ _ _ _ _ _ (as_key d outer at end text e) = refl
 
-pub moves-token : (front : List ℕ) (place c : ℕ) (r s : Reader) → place ≡ width front → Moves place c r s → TokenIn r.token front r.text → TokenIn s.token (front ++ c ∷ []) s.text
-moves-token front place c _ _ e (space_between nodes brackets phase h) k = tt
-moves-token front place c _ _ e (string_begins nodes brackets phase b h) k = string_begun-in front place c e h
-moves-token front place c _ _ e (word_begins nodes brackets phase b w) k = word_begun-in front place c e w
-moves-token front place c _ _ e (bytes_begin nodes brackets phase a) k = omega (arith, e, wider front c)
-moves-token front place c _ _ e (list_begins nodes brackets phase a l) k = tt
-moves-token front place c _ _ e (dictionary_begins nodes brackets phase a l) k = tt
-moves-token front place c _ _ e (comma nodes brackets) k = tt
-moves-token front place c _ _ e (equals nodes brackets) k = tt
-moves-token front place c _ _ e (semicolon nodes brackets) k = tt
-moves-token front place c _ _ e (list_ends nodes at done outer phase) k = settled-in (nodes ++ node at (place + 1) (tree.Items done) ∷ []) outer (length nodes) (front ++ c ∷ [])
-moves-token front place c _ _ e (dictionary_ends nodes d outer) k = settled-in (nodes ++ node d.place (place + 1) (tree.Pairs d.pairs) ∷ []) outer (length nodes) (front ++ c ∷ [])
-moves-token front place c _ _ e (word_more nodes brackets phase at text b w) k = word_more-in front text at c w k
-moves-token front place c _ _ e (word_ends nodes brackets phase at text u s w t m) k = moves-token front place c u s e m (between-in u front (ends-between nodes brackets phase at place text u t))
-moves-token front place c _ _ e (string_more nodes brackets phase at text b n m) k = string_more-in front text at c n m k
-moves-token front place c _ _ e (string_ends nodes brackets phase at text s h t) k = between-in s (front ++ c ∷ []) (ends-between nodes brackets phase at (place + 1) text s t)
-moves-token front place c _ _ e (escape_begins nodes brackets phase at text b h) k = escape_begun-in front text at place c e h k
-moves-token front place c _ _ e (escape_more nodes brackets phase at backslash text escape next b h) k = escape_more-in front text at backslash c escape next h k
-moves-token front place c _ _ e (escape_ends nodes brackets phase at backslash text escape character b h) k = escape_end-in front text at backslash c character escape h k
-moves-token front place c _ _ e (space_in_bytes nodes brackets phase at bytes) k = still_wider front c at k
-moves-token front place c _ _ e (first_digit nodes brackets phase at x bytes h) k = (still_wider front c at k, x, h)
-moves-token front place c _ _ e (space_in_half nodes brackets phase at high bytes) k = (still_wider front c at k.0, k.1, k.2)
-moves-token front place c _ _ e (second_digit nodes brackets phase at high byte bytes) k = still_wider front c at k.0
-moves-token front place c _ _ e (bytes_end nodes brackets phase at bytes a) k = settled-in (nodes ++ node at (place + 1) (tree.Bytes bytes) ∷ []) brackets (length nodes) (front ++ c ∷ [])
+pub moves-token : (front : List ℕ) (place c : ℕ) (r s : Reader) → place ≡ width front → IsScalar c → Moves place c r s → TokenIn r.token front r.text → TokenIn s.token (front ++ c ∷ []) s.text
+moves-token front place c _ _ e i (space_between nodes brackets phase h) k = tt
+moves-token front place c _ _ e i (string_begins nodes brackets phase b h) k = string_begun-in front place c e h
+moves-token front place c _ _ e i (word_begins nodes brackets phase b w) k = word_begun-in front place c e w
+moves-token front place c _ _ e i (bytes_begin nodes brackets phase a) k = omega (arith, e, wider front c)
+moves-token front place c _ _ e i (list_begins nodes brackets phase a l) k = tt
+moves-token front place c _ _ e i (dictionary_begins nodes brackets phase a l) k = tt
+moves-token front place c _ _ e i (comma nodes brackets) k = tt
+moves-token front place c _ _ e i (equals nodes brackets) k = tt
+moves-token front place c _ _ e i (semicolon nodes brackets) k = tt
+moves-token front place c _ _ e i (list_ends nodes at done outer phase) k = settled-in (nodes ++ node at (place + 1) (tree.Items done) ∷ []) outer (length nodes) (front ++ c ∷ [])
+moves-token front place c _ _ e i (dictionary_ends nodes d outer) k = settled-in (nodes ++ node d.place (place + 1) (tree.Pairs d.pairs) ∷ []) outer (length nodes) (front ++ c ∷ [])
+moves-token front place c _ _ e i (word_more nodes brackets phase at text b w) k = word_more-in front text at c w k
+moves-token front place c _ _ e i (word_ends nodes brackets phase at text u s w t m) k = moves-token front place c u s e i m (between-in u front (ends-between nodes brackets phase at place text u t))
+moves-token front place c _ _ e i (string_more nodes brackets phase at text b n m) k = string_more-in front text at c i n m k
+moves-token front place c _ _ e i (string_ends nodes brackets phase at text s h t) k = between-in s (front ++ c ∷ []) (ends-between nodes brackets phase at (place + 1) text s t)
+moves-token front place c _ _ e i (escape_begins nodes brackets phase at text b h) k = escape_begun-in front text at place c e h k
+moves-token front place c _ _ e i (escape_more nodes brackets phase at backslash text escape next b h) k = escape_more-in front text at backslash c escape next h k
+moves-token front place c _ _ e i (escape_ends nodes brackets phase at backslash text escape character b h) k = escape_end-in front text at backslash c character escape h k
+moves-token front place c _ _ e i (space_in_bytes nodes brackets phase at bytes) k = still_wider front c at k
+moves-token front place c _ _ e i (first_digit nodes brackets phase at x bytes h) k = (still_wider front c at k, x, h)
+moves-token front place c _ _ e i (space_in_half nodes brackets phase at high bytes) k = (still_wider front c at k.0, k.1, k.2)
+moves-token front place c _ _ e i (second_digit nodes brackets phase at high byte bytes) k = still_wider front c at k.0
+moves-token front place c _ _ e i (bytes_end nodes brackets phase at bytes a) k = settled-in (nodes ++ node at (place + 1) (tree.Bytes bytes) ∷ []) brackets (length nodes) (front ++ c ∷ [])

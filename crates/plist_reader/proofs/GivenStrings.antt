@@ -46,7 +46,7 @@ step-backslash nodes brackets phase at place text = refl
 pub run-quoted : (cs bytes : List ℕ) → IsQuoted cs bytes → (nodes : List TreeNode) (brackets : List Open) (phase : Phase) (at place : ℕ) (text rest : List ℕ)
     → run (in_token nodes brackets phase (Quoted at) text []) place (cs ++ rest) ≡ run (in_token nodes brackets phase (Quoted at) (text ++ bytes) []) (place + width cs) rest
 run-quoted _ _ no_more nodes brackets phase at place text rest = run_same _ _ place (place + 0) rest (ap (λ t. in_token nodes brackets phase (Quoted at) t []) (sym (append-nil text))) (omega arith)
-run-quoted _ _ (plain c cs bytes h g q) nodes brackets phase at place text rest =
+run-quoted _ _ (plain c cs bytes i h g q) nodes brackets phase at place text rest =
     run_step _ _ place c (cs ++ rest) (step-plain nodes brackets phase at place c text h g)
     ∙ run-quoted cs bytes q nodes brackets phase at (place + len_utf8 c) (text ++ encode c) rest
     ∙ run_same _ _ (place + len_utf8 c + width cs) (place + (len_utf8 c + width cs)) rest (ap (λ t. in_token nodes brackets phase (Quoted at) t []) (append_assoc text (encode c) bytes)) (omega arith)

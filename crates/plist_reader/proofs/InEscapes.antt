@@ -16,28 +16,33 @@ use Rattle.plist_reader.specs.declared.escape.Escape.TheVariants.{Begun}
 use Rattle.plist_reader.specs.declared.escape.Escaped.{Escaped}
 use Rattle.plist_reader.specs.declared.escape.Escaped.TheVariants.{More, Whole, Wrong}
 use Rattle.plist_reader.specs.Escapes.{escape_next}
-use Rattle.plist_reader.specs.Grammar.{width, tree_of, IsQuoted}
+use Rattle.plist_reader.specs.Grammar.{Value, width, tree_of, IsQuoted, IsTextOf}
 use Rattle.plist_reader.specs.Refusals.{IsInEscape, NotInEscape}
 use Rattle.plist_reader.specs.Reading.{refusal, ◌>>=◌, start, after_escape, step, finish, run}
 use Rattle.plist_reader.proofs.RunLemmas.{run_step}
+use Rattle.plist_reader.proofs.Scalars.{AreScalars, front-scalars}
 use Rattle.plist_reader.proofs.GivenTokens.{in_token, run_same, width-append}
 use Rattle.plist_reader.proofs.GivenEscapes.{Reads, reads-escape, step-escape_more}
 use Rattle.plist_reader.proofs.GivenStrings.{step-quote_begun, step-backslash, run-quoted}
 use Rattle.plist_reader.proofs.GivenTexts.{run-text_of}
-use Rattle.plist_reader.proofs.Reached.{Reached, at_start, onward, reached-goes_on, reached-run, width-push}
+use Rattle.plist_reader.proofs.Reached.{Reached, at_start, onward, reached-goes_on, reached-run, reached-tree, width-push}
 use Rattle.plist_reader.proofs.Depths.{ok_bind}
 use Rattle.plist_reader.proofs.Texts.{Begins, text-begun}
 
 -- ---- readers on the way to a tree
 
-pub reached-part : (cs front rest : List ℕ) (r : Reader) (t : Tree) → Reached front r → run r (width front) (cs ++ rest) ≡ Ok t → (b : Reader) × Reached (front ++ cs) b
-reached-part [] front rest r t h e = let R : List ℕ → Type 0 = λ x. Reached x r in (r, subst R (sym (append-nil front)) h)
-reached-part (c ∷ cs) front rest r t h e =
+pub reached-part : (cs front rest : List ℕ) (r : Reader) (t : Tree) → AreScalars cs → Reached front r → run r (width front) (cs ++ rest) ≡ Ok t → (b : Reader) × Reached (front ++ cs) b
+reached-part [] front rest r t i h e = let R : List ℕ → Type 0 = λ x. Reached x r in (r, subst R (sym (append-nil front)) h)
+reached-part (c ∷ cs) front rest r t i h e =
     let u = ok_bind (step r (width front) c) (λ s. run s (width front + len_utf8 c) (cs ++ rest)) t e in
     let w = width-push front c in
-    let k = reached-part cs (front ++ c ∷ []) rest u.0 t (onward front r u.0 c h u.1) (run_same u.0 u.0 (width (front ++ c ∷ [])) (width front + len_utf8 c) (cs ++ rest) refl w ∙ u.2) in
+    let k = reached-part cs (front ++ c ∷ []) rest u.0 t i.1 (onward front r u.0 c i.0 h u.1) (run_same u.0 u.0 (width (front ++ c ∷ [])) (width front + len_utf8 c) (cs ++ rest) refl w ∙ u.2) in
     let R : List ℕ → Type 0 = λ x. Reached x k.0 in
     (k.0, subst R (append_assoc front (c ∷ []) cs) k.1)
+
+-- the reader behind a front of a text with a tree
+pub reached-front : (front rest : List ℕ) (v : Value) → IsTextOf v (front ++ rest) → (b : Reader) × Reached front b
+reached-front front rest v s = reached-part front [] rest start (tree_of v) (front-scalars v front rest s).0 at_start (run-text_of v (front ++ rest) s)
 
 -- ---- the first characters of an escape
 
@@ -106,9 +111,9 @@ begun-string front r place h i =
     let g = reached-goes_on front r h in
     let behind = i.inner ++ 92 ∷ (i.escape ++ g.0) in
     let same : front ++ g.0 ≡ i.before ++ 34 ∷ behind = ap (λ x. x ++ g.0) i.parts ∙ escape_parts i.before i.inner i.escape g.0 in
-    let all : run start 0 (i.before ++ 34 ∷ behind) ≡ Ok (tree_of g.1) = ap (λ x. run start 0 x) (sym same) ∙ run-text_of g.1 (front ++ g.0) g.2 in
-    let b = reached-part i.before [] (34 ∷ behind) start (tree_of g.1) at_start all in
-    (b.0, b.1, text-begun i.before 34 behind b.0 (tree_of g.1) b.1 (sym (reached-run i.before b.0 b.1 (34 ∷ behind)) ∙ all) (i.string g.0 g.1 g.2))
+    let text : IsTextOf g.1 (i.before ++ 34 ∷ behind) = subst (λ (x : List ℕ). IsTextOf g.1 x) same g.2 in
+    let b = reached-front i.before (34 ∷ behind) g.1 text in
+    (b.0, b.1, text-begun i.before 34 behind b.0 (tree_of g.1) (front-scalars g.1 i.before (34 ∷ behind) text).1 b.1 (reached-tree i.before (34 ∷ behind) b.0 g.1 b.1 text) (i.string g.0 g.1 g.2))
 
 pub escape-refuses : (front : List ℕ) (r : Reader) (c place : ℕ) (e : Refusal) → Reached front r → IsInEscape front place → step r (width front) c ≡ Err e → (e.rule ≡ UnexpectedEnd → ⊥) → e ≡ refusal BadEscape place
 escape-refuses front r c place e h i s n = on (begun-string front r place h i)

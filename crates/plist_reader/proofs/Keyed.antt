@@ -187,7 +187,7 @@ start-keyed = record { open_keys = tt; top = tt }
 
 pub reached-keyed : (front : List ℕ) (r : Reader) → Reached front r → Keyed r
 reached-keyed _ _ at_start = start-keyed
-reached-keyed _ _ (onward front r s c h e) = moves-keyed (width front) c r s (reached-moves front r s c h e) (reached-keyed front r h)
+reached-keyed _ _ (onward front r s c i h e) = moves-keyed (width front) c r s (reached-moves front r s c h e) (reached-keyed front r h)
 
 -- a text that is among the keys is that of a pair
 pub strong-has : (nodes : List TreeNode) (pairs : List (ℕ × ℕ)) (text : List ℕ) (keys : List (List ℕ)) → AllByRecursion (λ k. has_key nodes k pairs ≡ true) keys → is_among text keys ≡ true → has_key nodes text pairs ≡ true

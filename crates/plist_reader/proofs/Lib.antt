@@ -2,6 +2,7 @@ pub mod RunLemmas
 pub mod Examples
 pub mod SoundLemmas
 pub mod SoundSteps
+pub mod Scalars
 pub mod GivenTokens
 pub mod GivenEscapes
 pub mod GivenStrings

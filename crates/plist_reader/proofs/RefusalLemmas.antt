@@ -25,6 +25,7 @@ use Rattle.refusal_codes.specs.declared.errors.ReadError.TheVariants as read_err
 use Rattle.refusal_codes.specs.Gives.{Gives}
 use Rattle.plist_reader.specs.Reading.{refusal, ◌>>=◌, start, is_bracket, is_end, text_ended, step, whole_in, whole, finish_in, finish, run, read_of}
 use Rattle.plist_reader.proofs.RunLemmas.{read_of-text}
+use Rattle.plist_reader.proofs.Scalars.{AreScalars, source-scalars}
 use Rattle.plist_reader.proofs.GivenTokens.{width-append, width-long, ready, in_token, IsAwaiting}
 use Rattle.plist_reader.proofs.GivenEscapes.{Reads}
 use Rattle.plist_reader.proofs.GivenStrings.{finish-word}
@@ -313,13 +314,13 @@ reason_of front (c ∷ cs) r e h stop = (
 )
 
 -- a text that is refused stops so
-pub run-refused : (cs : List ℕ) (e : Refusal) → run start 0 cs ≡ Err e → StopsIn cs e
-run-refused cs e h =
-    let k = stopped cs e h in
+pub run-refused : (cs : List ℕ) (e : Refusal) → AreScalars cs → run start 0 cs ≡ Err e → StopsIn cs e
+run-refused cs e i h =
+    let k = stopped cs e i h in
     record { front = k.front; rest = k.rest; parts = k.parts; reason = reason_of k.front k.rest k.state e k.reached k.stop }
 
 -- each refusal that is answered is one of the source
 pub error-from_Gives : (source : List ℕ) (result : Result Tree ReadError) → IsUtf8 source → Gives (λ t. t) result (read_of source) → IfErr result (IsErrorOf source)
 error-from_Gives source (Ok t) u h = tt
-error-from_Gives source (Err (read_errors.Refused r)) u h = inr (u, run-refused (chars source) r (sym (read_of-text source u) ∙ h))
+error-from_Gives source (Err (read_errors.Refused r)) u h = inr (u, run-refused (chars source) r (source-scalars source u) (sym (read_of-text source u) ∙ h))
 error-from_Gives source (Err read_errors.NoMemory) u h = tt

@@ -21,6 +21,7 @@ use Rattle.plist_reader.specs.Refusals.{open_at}
 use Rattle.plist_reader.specs.Sources.{SaysText, StandsIn, StandsInSource}
 use Rattle.plist_reader.specs.Reading.{start, run}
 use Rattle.plist_reader.proofs.RunLemmas.{read_of-text}
+use Rattle.plist_reader.proofs.Scalars.{AreScalars, source-scalars}
 use Rattle.plist_reader.proofs.GivenTokens.{settled, width-append, width-long}
 use Rattle.plist_reader.proofs.GivenTexts.{given}
 use Rattle.plist_reader.proofs.Moves.{TextEnds, as_value, as_key, Moves, space_between, string_begins, word_begins, bytes_begin, list_begins, dictionary_begins, comma, equals, semicolon, list_ends, dictionary_ends, word_more, word_ends, string_more, string_ends, escape_begins, escape_more, escape_ends, space_in_bytes, first_digit, space_in_half, second_digit, bytes_end, Closes, closes_between, closes_word, closes}
@@ -50,11 +51,11 @@ start-few : (p : ℕ) → Count p start ≤ 64
 unfolding start
 start-few p = omega arith
 
-tree-few : (cs : List ℕ) (t : Tree) (p : ℕ) → run start 0 cs ≡ Ok t → open_at p t.nodes ≤ 64
-tree-few cs t p e = runs-keep (λ u. Count p u ≤ 64) (λ x. open_at p x.nodes ≤ 64) 0
+tree-few : (cs : List ℕ) (t : Tree) (p : ℕ) → AreScalars cs → run start 0 cs ≡ Ok t → open_at p t.nodes ≤ 64
+tree-few cs t p i e = runs-keep (λ u. Count p u ≤ 64) (λ x. open_at p x.nodes ≤ 64) 0
     (λ f r s c l h m j. few-kept p (width f) c r s m (reached-placed f r h) j)
     (λ f r x h k j. omega (arith, closes-count p (width f) r x k (reached-placed f r h).outside, j))
-    cs [] start t (omega arith) at_start e (start-few p)
+    cs [] start t i (omega arith) at_start e (start-few p)
 
 -- ---- values stand in the text
 
@@ -155,17 +156,17 @@ start-stand = All-nil (StandsIn [])
 
 reached-stand : (front : List ℕ) (r : Reader) → Reached front r → Stand front r.nodes
 reached-stand _ _ at_start = start-stand
-reached-stand _ _ (onward front r s c h e) = moves-stand front (width front) c r s refl (reached-moves front r s c h e) (reached-token front r h) (reached-placed front r h).brackets (reached-stand front r h)
+reached-stand _ _ (onward front r s c i h e) = moves-stand front (width front) c r s refl (reached-moves front r s c h e) (reached-token front r h) (reached-placed front r h).brackets (reached-stand front r h)
 
 closes-stand : (front : List ℕ) (r : Reader) (t : Tree) → Closes (width front) r t → TokenIn r.token front r.text → Stand front r.nodes → Stand front t.nodes
 closes-stand front _ _ (closes_between nodes brackets number) k h = h
 closes-stand front _ _ (closes_word nodes phase at text a) k h = All-push (StandsIn front) nodes (node at (width front) (tree.Text text)) h (stands-word front text at k)
 
 -- a text with a tree leads to a reader at which it may end
-tree-stand : (cs : List ℕ) (t : Tree) → run start 0 cs ≡ Ok t → Stand cs t.nodes
-tree-stand cs t e =
+tree-stand : (cs : List ℕ) (t : Tree) → AreScalars cs → run start 0 cs ≡ Ok t → Stand cs t.nodes
+tree-stand cs t i e =
     let all : run start 0 (cs ++ []) ≡ Ok t = ap (λ x. run start 0 x) (append-nil cs) ∙ e in
-    let b = reached-part cs [] [] start t at_start all in
+    let b = reached-part cs [] [] start t i at_start all in
     let f = sym (reached-run cs b.0 b.1 []) ∙ all in
     closes-stand cs b.0 t (at_ok (Closes (width cs) b.0) (run b.0 (width cs) []) t f (closes b.0 (width cs) (reached-good cs b.0 b.1))) (reached-token cs b.0 b.1) (reached-stand cs b.0 b.1)
 
@@ -178,10 +179,11 @@ width-bytes (c ∷ cs) = omega (arith, width-bytes cs, length-append (encode c) 
 pub stands_in_source : (source : List ℕ) (t : Tree) (h : HasTree source t) → StandsInSource source t
 stands_in_source source t h =
     let cs = chars source in
+    let i = source-scalars source h.utf8 in
     let reads : run start 0 cs ≡ Ok t = sym (read_of-text source h.utf8) ∙ given source t h in
     record {
       bytes = width-bytes cs ∙ ap length (encodes-chars source h.utf8);
-      values = tree-stand cs t reads;
-      depth = λ p. tree-few cs t p reads;
-      dictionaries = tree-dictionaries cs t reads;
+      values = tree-stand cs t i reads;
+      depth = λ p. tree-few cs t p i reads;
+      dictionaries = tree-dictionaries cs t i reads;
     }

@@ -5,7 +5,7 @@ use Rattle.std.proofs.lemmas.Bool.{eqb-false}
 use Rattle.std.proofs.lemmas.List.{append-nil}
 use Rattle.std.proofs.lemmas.Result.{IfOk-weaker}
 use Rattle.std.proofs.lemmas.Str.{encode_ascii, IsUtf8-from_is_utf8}
-use Rattle.std.specs.Char.{len_utf8}
+use Rattle.std.specs.Char.{IsScalar, len_utf8}
 use Rattle.std.specs.Str.{is_utf8, chars}
 use Rattle.std.specs.Str.Lossy.{utf8_valid_len}
 use lib.Utf8.{encode}
@@ -33,6 +33,7 @@ use Rattle.plist_reader.specs.Grammar.{Spells, inner_of, own_of, node, width, Ar
 use Rattle.plist_reader.specs.Reading.{refusal, ◌>>=◌, start, value_ended, key_ended, text_ended, between, in_word, in_quoted, after_escape, after_hex, after_half, in_bytes, in_half, step_in, step, whole_in, whole, finish_in, finish, run, read_of}
 use Rattle.plist_reader.proofs.GivenTokens.{ready, in_token, settled, settled_any, settled-between, width-append, word-ascii, CanBegin, IsAwaiting}
 use Rattle.plist_reader.proofs.GivenStrings.{text-ended}
+use Rattle.plist_reader.proofs.Scalars.{AreScalars, source-scalars}
 use Rattle.plist_reader.proofs.SpelledEscapes.{Front, begun, Means, means-next}
 use Rattle.plist_reader.proofs.SpelledRests.{After}
 use Rattle.plist_reader.proofs.SpelledSteps.{RestIn, RestOf, AfterText, InWord, InQuoted, EscapeRest, Rest, Agrees, GoodIn, Good, Back, if_ok-known, settled-good, settled-rest}
@@ -115,9 +116,9 @@ back-in_word nodes brackets phase at place c text b g =
 
 -- ---- quoted strings
 
-back-in_quoted : (nodes : List TreeNode) (brackets : List Open) (phase : Phase) (at place c : ℕ) (text : List ℕ) → CanBegin phase → Agrees phase brackets → IfOk (in_quoted (in_token nodes brackets phase (Quoted at) text []) at place c) (Back (in_token nodes brackets phase (Quoted at) text []) place c)
+back-in_quoted : (nodes : List TreeNode) (brackets : List Open) (phase : Phase) (at place c : ℕ) (text : List ℕ) → IsScalar c → CanBegin phase → Agrees phase brackets → IfOk (in_quoted (in_token nodes brackets phase (Quoted at) text []) at place c) (Back (in_token nodes brackets phase (Quoted at) text []) place c)
 unfolding in_quoted
-back-in_quoted nodes brackets phase at place c text b g =
+back-in_quoted nodes brackets phase at place c text i b g =
     let r = in_token nodes brackets phase (Quoted at) text [] in
     if_ok-known (Back r place c) (eqb c 34) _ _
     (λ e. IfOk-weaker (text_ended r at (place + 1)) (EndsText nodes brackets phase at (place + 1) text) (Back r place c) (λ s k. (k.0, at_char r s place c 34 e (λ t cs h. string_end t cs (k.2 t cs h)))) (back-text_ended nodes brackets phase (Quoted at) at (place + 1) text b g))
@@ -149,7 +150,7 @@ back-in_quoted nodes brackets phase at place c text b g =
       bytes = encode c ++ h.bytes;
       rest = h.rest;
       parts = ap (λ x. c ∷ x) h.parts;
-      quoted = plain c h.more h.bytes (eqb-false c 34 n) (eqb-false c 92 m) h.quoted;
+      quoted = plain c h.more h.bytes i (eqb-false c 34 n) (eqb-false c 92 m) h.quoted;
       onward = after_text_same phase brackets t nodes at ((text ++ encode c) ++ h.bytes) (text ++ (encode c ++ h.bytes)) (place + len_utf8 c + width h.more + 1) (place + (len_utf8 c + width h.more) + 1) h.rest
           (append_assoc text (encode c) h.bytes) (omega arith) h.onward;
     }
@@ -286,18 +287,18 @@ with_no_bytes nodes brackets phase token text bytes place c e h = let P : List �
 with_no_text : (nodes : List TreeNode) (brackets : List Open) (phase : Phase) (token : Token) (text bytes : List ℕ) (place c : ℕ) → text ≡ [] → IfOk (step_in (in_token nodes brackets phase token [] bytes) place c token) (Back (in_token nodes brackets phase token [] bytes) place c) → IfOk (step_in (in_token nodes brackets phase token text bytes) place c token) (Back (in_token nodes brackets phase token text bytes) place c)
 with_no_text nodes brackets phase token text bytes place c e h = let P : List ℕ → Type 0 = λ x. IfOk (step_in (in_token nodes brackets phase token x bytes) place c token) (Back (in_token nodes brackets phase token x bytes) place c) in subst P (sym e) h
 
-back-step_in : (nodes : List TreeNode) (brackets : List Open) (phase : Phase) (token : Token) (text bytes : List ℕ) (place c : ℕ) → Good (in_token nodes brackets phase token text bytes) → IfOk (step_in (in_token nodes brackets phase token text bytes) place c token) (Back (in_token nodes brackets phase token text bytes) place c)
-back-step_in nodes brackets phase Between text bytes place c g = back-between_any (in_token nodes brackets phase Between text bytes) place c g refl
-back-step_in nodes brackets phase (Word at) text bytes place c g = with_no_bytes nodes brackets phase (Word at) text bytes place c g.2 (back-in_word nodes brackets phase at place c text g.1 g.0)
-back-step_in nodes brackets phase (Quoted at) text bytes place c g = with_no_bytes nodes brackets phase (Quoted at) text bytes place c g.2 (back-in_quoted nodes brackets phase at place c text g.1 g.0)
-back-step_in nodes brackets phase (Escape at backslash escape) text bytes place c g = with_no_bytes nodes brackets phase (Escape at backslash escape) text bytes place c g.2
+back-step_in : (nodes : List TreeNode) (brackets : List Open) (phase : Phase) (token : Token) (text bytes : List ℕ) (place c : ℕ) → IsScalar c → Good (in_token nodes brackets phase token text bytes) → IfOk (step_in (in_token nodes brackets phase token text bytes) place c token) (Back (in_token nodes brackets phase token text bytes) place c)
+back-step_in nodes brackets phase Between text bytes place c i g = back-between_any (in_token nodes brackets phase Between text bytes) place c g refl
+back-step_in nodes brackets phase (Word at) text bytes place c i g = with_no_bytes nodes brackets phase (Word at) text bytes place c g.2 (back-in_word nodes brackets phase at place c text g.1 g.0)
+back-step_in nodes brackets phase (Quoted at) text bytes place c i g = with_no_bytes nodes brackets phase (Quoted at) text bytes place c g.2 (back-in_quoted nodes brackets phase at place c text i g.1 g.0)
+back-step_in nodes brackets phase (Escape at backslash escape) text bytes place c i g = with_no_bytes nodes brackets phase (Escape at backslash escape) text bytes place c g.2
     (back-after_escape nodes brackets phase at backslash place c escape text (escape_next escape c) g.1 g.0 (λ front f. means-next escape front f c))
-back-step_in nodes brackets phase (Bytes at) text bytes place c g = with_no_text nodes brackets phase (Bytes at) text bytes place c g.2 (back-in_bytes nodes brackets phase at place c bytes g.1 g.0)
-back-step_in nodes brackets phase (Half at high) text bytes place c g = with_no_text nodes brackets phase (Half at high) text bytes place c g.2 (back-in_half nodes brackets phase at high place c bytes g.1 g.0)
+back-step_in nodes brackets phase (Bytes at) text bytes place c i g = with_no_text nodes brackets phase (Bytes at) text bytes place c g.2 (back-in_bytes nodes brackets phase at place c bytes g.1 g.0)
+back-step_in nodes brackets phase (Half at high) text bytes place c i g = with_no_text nodes brackets phase (Half at high) text bytes place c g.2 (back-in_half nodes brackets phase at high place c bytes g.1 g.0)
 
-pub back-step : (r : Reader) (place c : ℕ) → Good r → IfOk (step r place c) (Back r place c)
+pub back-step : (r : Reader) (place c : ℕ) → IsScalar c → Good r → IfOk (step r place c) (Back r place c)
 unfolding step
-back-step r place c g = back-step_in r.nodes r.brackets r.phase r.token r.text r.bytes place c g
+back-step r place c i g = back-step_in r.nodes r.brackets r.phase r.token r.text r.bytes place c i g
 
 -- ---- whole texts
 
@@ -340,10 +341,10 @@ finish-rest : (r : Reader) (place : ℕ) → Good r → IfOk (finish r place) (�
 unfolding finish
 finish-rest r place g = finish_in-rest r.nodes r.brackets r.phase r.token r.text r.bytes place g
 
-run-rest : (cs : List ℕ) (r : Reader) (place : ℕ) → Good r → IfOk (run r place cs) (λ t. Rest r t place cs)
-run-rest [] r place g = finish-rest r place g
-run-rest (c ∷ cs) r place g = if_ok-bind (Back r place c) (λ t. Rest r t place (c ∷ cs)) (step r place c) (λ s. run s (place + len_utf8 c) cs) (back-step r place c g)
-    (λ s b. IfOk-weaker (run s (place + len_utf8 c) cs) (λ t. Rest s t (place + len_utf8 c) cs) (λ t. Rest r t place (c ∷ cs)) (λ t h. b.1 t cs h) (run-rest cs s (place + len_utf8 c) b.0))
+run-rest : (cs : List ℕ) (r : Reader) (place : ℕ) → AreScalars cs → Good r → IfOk (run r place cs) (λ t. Rest r t place cs)
+run-rest [] r place i g = finish-rest r place g
+run-rest (c ∷ cs) r place i g = if_ok-bind (Back r place c) (λ t. Rest r t place (c ∷ cs)) (step r place c) (λ s. run s (place + len_utf8 c) cs) (back-step r place c i.0 g)
+    (λ s b. IfOk-weaker (run s (place + len_utf8 c) cs) (λ t. Rest s t (place + len_utf8 c) cs) (λ t. Rest r t place (c ∷ cs)) (λ t h. b.1 t cs h) (run-rest cs s (place + len_utf8 c) i.1 b.0))
 
 -- a text with a tree
 abbrev pub Spelled : List ℕ → Tree → Type 0
@@ -352,14 +353,14 @@ Spelled cs t = (v : grammar.Value) × IsTextOf v cs × (t ≡ tree_of v)
 from_zero : (v : grammar.Value) (gap text : List ℕ) → Spells v 0 (0 + width gap) text → Spells v 0 (width gap) text
 from_zero v gap text h = let P : ℕ → Type 0 = λ x. Spells v 0 x text in let e : 0 + width gap ≡ width gap = omega arith in subst P e h
 
-pub run-spelled : (cs : List ℕ) → IfOk (run start 0 cs) (Spelled cs)
+pub run-spelled : (cs : List ℕ) → AreScalars cs → IfOk (run start 0 cs) (Spelled cs)
 unfolding start
-run-spelled cs = IfOk-weaker (run (ready [] [] Value) 0 cs) (λ t. Rest (ready [] [] Value) t 0 cs) (Spelled cs)
+run-spelled cs i = IfOk-weaker (run (ready [] [] Value) 0 cs) (λ t. Rest (ready [] [] Value) t 0 cs) (Spelled cs)
     (λ t h. (h.value, record { gap = h.gap; text = h.text; after = h.rest; parts = h.parts; gap_spaces = h.spaces; spelled = from_zero h.value h.gap h.text h.spelled; after_spaces = h.onward.0 }, h.onward.1 ∙ ap (λ n. record { nodes = inner_of h.value 0 ++ own_of h.value 0 ∷ []; top = n }) (omega arith)))
-    (run-rest cs (ready [] [] Value) 0 (tt, refl, refl))
+    (run-rest cs (ready [] [] Value) 0 i (tt, refl, refl))
 
 read_of-spelled_if : (source : List ℕ) (b : Bool) → is_utf8 source ≡ b → IfOk (cond b (run start 0 (chars source)) (Err (refusal NotUtf8 (utf8_valid_len source)))) (HasTree source)
-read_of-spelled_if source true e = IfOk-weaker (run start 0 (chars source)) (Spelled (chars source)) (HasTree source) (λ t h. record { utf8 = IsUtf8-from_is_utf8 source e; value = h.0; spelled = h.1; numbered = h.2 }) (run-spelled (chars source))
+read_of-spelled_if source true e = IfOk-weaker (run start 0 (chars source)) (Spelled (chars source)) (HasTree source) (λ t h. record { utf8 = IsUtf8-from_is_utf8 source e; value = h.0; spelled = h.1; numbered = h.2 }) (run-spelled (chars source) (source-scalars source (IsUtf8-from_is_utf8 source e)))
 read_of-spelled_if source false e = tt
 
 -- what a source gives is spelled so

@@ -86,7 +86,7 @@ start-started = tt
 
 pub reached-started : (front : List ℕ) (r : Reader) → Reached front r → StartOf r front
 reached-started _ _ at_start = start-started
-reached-started _ _ (onward front r s c h e) = moves-started front (width front) c r s refl (reached-moves front r s c h e) (λ b. h) (reached-started front r h)
+reached-started _ _ (onward front r s c i h e) = moves-started front (width front) c r s refl (reached-moves front r s c h e) (λ b. h) (reached-started front r h)
 
 -- two beginnings of one text that take as many bytes are one
 same_tail : (x y : ℕ) (xs ys : List ℕ) → x ∷ xs ≡ y ∷ ys → (x ≡ y) × (xs ≡ ys)

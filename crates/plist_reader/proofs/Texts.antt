@@ -19,6 +19,7 @@ use Rattle.plist_reader.specs.Refusals.{is_text, texts_at, HasText}
 use Rattle.plist_reader.specs.Reading.{start, step, run}
 use Rattle.plist_reader.proofs.GivenTokens.{ready, in_token, settled, run_same, CanBegin}
 use Rattle.plist_reader.proofs.Moves.{TextEnds, as_value, as_key, Moves, space_between, string_begins, word_begins, bytes_begin, list_begins, dictionary_begins, comma, equals, semicolon, list_ends, dictionary_ends, word_more, word_ends, string_more, string_ends, escape_begins, escape_more, escape_ends, space_in_bytes, first_digit, space_in_half, second_digit, bytes_end, Closes, closes_between, closes_word}
+use Rattle.plist_reader.proofs.Scalars.{AreScalars, front-scalars}
 use Rattle.plist_reader.proofs.Reached.{Reached, at_start, onward, reached-moves, reached-tree, width-push}
 use Rattle.plist_reader.proofs.Depths.{runs-keep, ok_bind}
 
@@ -130,31 +131,31 @@ start-texts q = refl
 -- behind a front no text has begun yet
 reached-texts : (front : List ℕ) (r : Reader) (q : ℕ) → Reached front r → width front ≤ q → Texts q r ≡ 0
 reached-texts _ _ q at_start l = start-texts q
-reached-texts _ _ q (onward front r s c h e) l =
+reached-texts _ _ q (onward front r s c i h e) l =
     let w = width-push front c in
     elsewhere-texts q (width front) c r s (λ n. absurd (omega (arith, w, n, l, len_utf8_bounds c))) (reached-moves front r s c h e) ∙ reached-texts front r q h (omega (arith, w, l))
 
 -- the texts that have begun behind a front are those of each tree of a text that begins so
-tree-texts : (front rest : List ℕ) (r : Reader) (t : Tree) (q n : ℕ) → Reached front r → q < width front → run r (width front) rest ≡ Ok t → Texts q r ≡ n → texts_at q t.nodes ≡ n
-tree-texts front rest r t q n h l e f = runs-keep (λ u. Texts q u ≡ n) (λ x. texts_at q x.nodes ≡ n) (width front)
+tree-texts : (front rest : List ℕ) (r : Reader) (t : Tree) (q n : ℕ) → AreScalars rest → Reached front r → q < width front → run r (width front) rest ≡ Ok t → Texts q r ≡ n → texts_at q t.nodes ≡ n
+tree-texts front rest r t q n a h l e f = runs-keep (λ u. Texts q u ≡ n) (λ x. texts_at q x.nodes ≡ n) (width front)
     (λ k u w c b i m j. elsewhere-texts q (width k) c u w (λ z. absurd (omega (arith, z, b, l))) m ∙ j) (λ k u x i m j. closes-texts q (width k) u x m ∙ j)
-    rest front r t (omega arith) h e f
+    rest front r t a (omega arith) h e f
 
 -- a text that is open begins there
 pub open-text : (front before : List ℕ) (r : Reader) → Reached front r → width before < width front → begun_at (width before) r.token ≡ 1 → HasText front before
 open-text front before r h l e rest v s =
     let q = width before in
     let n = Texts q r in
-    let k = tree-texts front rest r (tree_of v) q n h l (reached-tree front rest r v h s) refl in
+    let k = tree-texts front rest r (tree_of v) q n (front-scalars v front rest s).1 h l (reached-tree front rest r v h s) refl in
     omega (arith, k, e)
 
 -- and where a text begins, its first character has begun it
-pub text-begun : (before : List ℕ) (c : ℕ) (rest : List ℕ) (r : Reader) (t : Tree) → Reached before r → run r (width before) (c ∷ rest) ≡ Ok t → 0 < texts_at (width before) t.nodes → Begins r c
-text-begun before c rest r t h e l =
+pub text-begun : (before : List ℕ) (c : ℕ) (rest : List ℕ) (r : Reader) (t : Tree) → AreScalars (c ∷ rest) → Reached before r → run r (width before) (c ∷ rest) ≡ Ok t → 0 < texts_at (width before) t.nodes → Begins r c
+text-begun before c rest r t a h e l =
     let q = width before in
     let u = ok_bind (step r q c) (λ s. run s (q + len_utf8 c) rest) t e in
     let w = width-push before c in
-    let k = tree-texts (before ++ c ∷ []) rest u.0 t q (Texts q u.0) (onward before r u.0 c h u.1) (omega (arith, w, len_utf8_bounds c)) (run_same u.0 u.0 (width (before ++ c ∷ [])) (q + len_utf8 c) rest refl w ∙ u.2) refl in
+    let k = tree-texts (before ++ c ∷ []) rest u.0 t q (Texts q u.0) a.1 (onward before r u.0 c a.0 h u.1) (omega (arith, w, len_utf8_bounds c)) (run_same u.0 u.0 (width (before ++ c ∷ [])) (q + len_utf8 c) rest refl w ∙ u.2) refl in
     elim (moves-texts q q c r u.0 (reached-moves before r u.0 c h u.1)) [
       | inl x ↦ (let none = reached-texts before r q h (omega arith) in absurd (omega (arith, none, x, k, l)))
       | inr b ↦ b.1

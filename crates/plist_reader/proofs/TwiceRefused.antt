@@ -1,8 +1,8 @@
 -- A key that stands twice is refused, and nothing else is where one does.
-use Rattle.std.proofs.Common.{inl, inr, ◌≡◌, ℕ, zero, suc, ◌+◌, true, false, List, [], ◌∷◌, ◌++◌, length, Result, Ok, Err, refl, sym, ap, subst, ◌∙◌, arith, append_assoc}
+use Rattle.std.proofs.Common.{inl, inr, ◌≡◌, ℕ, zero, suc, ◌+◌, true, false, List, [], ◌∷◌, ◌++◌, length, Result, Err, refl, sym, ap, subst, ◌∙◌, arith, append_assoc}
 use Rattle.std.specs.List.{AllByRecursion}
 use Rattle.std.proofs.lemmas.Bool.{cases_Bool}
-use Rattle.std.specs.Char.{len_utf8}
+use Rattle.std.specs.Char.{IsScalar, len_utf8}
 use Rattle.refusal_codes.specs.declared.refusal.Refusal.{Refusal}
 use Rattle.refusal_codes.specs.declared.rule.Rule.TheVariants.{DuplicateKey}
 use Rattle.plist_reader.specs.declared.tree.TreeNode.{TreeNode}
@@ -20,14 +20,15 @@ use Rattle.plist_reader.specs.Grammar.{width, tree_of, IsWord, IsQuoted, IsText,
 use Rattle.plist_reader.specs.Refusals.{CanGoOn, EndsText, TakesKey, IsTwice, NotTwice}
 use Rattle.plist_reader.specs.Reading.{refusal, ◌>>=◌, start, key_ended, text_ended, between, in_word, in_quoted, step, run}
 use Rattle.plist_reader.proofs.RunLemmas.{run_step}
+use Rattle.plist_reader.proofs.Scalars.{all-append, text-scalars, front-scalars}
 use Rattle.plist_reader.proofs.GivenTokens.{ready, in_token, settled, run-word, CanBegin, IsAwaiting}
 use Rattle.plist_reader.proofs.GivenStrings.{step-quote_begun, run-quoted, run-text}
-use Rattle.plist_reader.proofs.GivenTexts.{stops-marked, run-key, run-text_of, step-equals}
+use Rattle.plist_reader.proofs.GivenTexts.{stops-marked, run-key, step-equals}
 use Rattle.plist_reader.proofs.SpelledSteps.{Agrees}
 use Rattle.plist_reader.proofs.CanGoOn.{reach, longer-new, completes-value}
-use Rattle.plist_reader.proofs.Reached.{Reached, at_start, reached-good, reached-goes_on, reached-run, reached-tree, spelled-ok, err_not_ok}
+use Rattle.plist_reader.proofs.Reached.{Reached, reached-scalars, reached-good, reached-goes_on, reached-run, reached-tree, spelled-ok, err_not_ok}
 use Rattle.plist_reader.proofs.Texts.{Begins, text-begun}
-use Rattle.plist_reader.proofs.InEscapes.{reached-part}
+use Rattle.plist_reader.proofs.InEscapes.{reached-front}
 
 -- ---- keys that can be followed by the equals sign
 
@@ -44,7 +45,8 @@ new-goes_on before nodes d outer whole bytes h w k =
     let e : Dictionary = record d { keys = d.keys ++ bytes ∷ []; key = length nodes } in
     let made = nodes ++ record { place = q; end = q + width whole; value = tree.Text bytes } ∷ [] in
     let x = completes-value made (Pairs e ∷ outer) Value (q + width whole + 1) tt in
-    let s = spelled-ok ((before ++ (whole ++ 61 ∷ [])) ++ x.rest) x.tree
+    let i = all-append IsScalar before (whole ++ 61 ∷ []) (reached-scalars before (ready nodes (Pairs d ∷ outer) Key) h) (all-append IsScalar whole (61 ∷ []) (text-scalars whole bytes w) (refl, tt)) in
+    let s = spelled-ok ((before ++ (whole ++ 61 ∷ [])) ++ x.rest) x.tree (all-append IsScalar (before ++ (whole ++ 61 ∷ [])) x.rest i x.scalars)
     (ap (λ z. run start 0 z) (regroup before whole x.rest) ∙ reached-run before (ready nodes (Pairs d ∷ outer) Key) h (whole ++ 61 ∷ x.rest)
     ∙ run-key whole bytes w nodes d outer q (61 ∷ x.rest) k sign_no_word ∙ run_step _ _ (q + width whole) 61 x.rest (step-equals made (Pairs e ∷ outer) (q + width whole)) ∙ x.runs) in
     (x.rest, s.0, s.1)
@@ -174,9 +176,9 @@ key-begun front r c place h i =
     let g = reached-goes_on front r h in
     let behind = a.1 ++ g.0 in
     let same : front ++ g.0 ≡ i.before ++ a.0 ∷ behind = ap (λ x. x ++ g.0) i.parts ∙ append_assoc i.before i.text g.0 ∙ ap (λ x. i.before ++ (x ++ g.0)) a.2 in
-    let all : run start 0 (i.before ++ a.0 ∷ behind) ≡ Ok (tree_of g.1) = ap (λ x. run start 0 x) (sym same) ∙ run-text_of g.1 (front ++ g.0) g.2 in
-    let b = reached-part i.before [] (a.0 ∷ behind) start (tree_of g.1) at_start all in
-    begun-key i.before b.0 a.0 b.1 (text-begun i.before a.0 behind b.0 (tree_of g.1) b.1 (sym (reached-run i.before b.0 b.1 (a.0 ∷ behind)) ∙ all) (i.begins g.0 g.1 g.2)) i.another
+    let text : IsTextOf g.1 (i.before ++ a.0 ∷ behind) = subst (λ (x : List ℕ). IsTextOf g.1 x) same g.2 in
+    let b = reached-front i.before (a.0 ∷ behind) g.1 text in
+    begun-key i.before b.0 a.0 b.1 (text-begun i.before a.0 behind b.0 (tree_of g.1) (front-scalars g.1 i.before (a.0 ∷ behind) text).1 b.1 (reached-tree i.before (a.0 ∷ behind) b.0 g.1 b.1 text) (i.begins g.0 g.1 g.2)) i.another
 
 same_refusal : {A : Type 0} (x e : Refusal) (d : Result A Refusal) → d ≡ Err x → d ≡ Err e → e ≡ x
 same_refusal x e d h k = cc

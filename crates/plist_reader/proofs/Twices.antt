@@ -1,6 +1,7 @@
 -- A key that its dictionary has already stands so in a text with a tree, where it goes on to be another.
 use Rattle.std.proofs.Common.{◌≡◌, ℕ, ◌+◌, true, List, [], ◌∷◌, ◌++◌, length, refl, sym, ap, ◌∙◌, append_assoc}
 use Rattle.std.specs.Prelude.{slice_get}
+use Rattle.std.specs.Char.{IsScalar}
 use Rattle.plist_reader.specs.declared.tree.Tree.{Tree}
 use Rattle.plist_reader.specs.declared.tree.TreeNode.{TreeNode}
 use Rattle.plist_reader.specs.declared.tree.TreeValue.TheVariants as tree
@@ -16,11 +17,12 @@ use Rattle.plist_reader.specs.Grammar.{node, width, tree_of, IsTextOf}
 use Rattle.plist_reader.specs.Refusals.{IsKeyBehind}
 use Rattle.plist_reader.specs.Reading.{run}
 use Rattle.plist_reader.proofs.RunLemmas.{run_step}
+use Rattle.plist_reader.proofs.Scalars.{all-append}
 use Rattle.plist_reader.proofs.GivenTokens.{in_token, settled}
 use Rattle.plist_reader.proofs.GivenStrings.{step-angle_begun, step-angle_end}
 use Rattle.plist_reader.proofs.GivenTexts.{step-equals, step-semicolon, step-dictionary_end, key_end}
 use Rattle.plist_reader.proofs.CanGoOn.{extends-settled, KeyWay}
-use Rattle.plist_reader.proofs.Reached.{Reached, reached-run, spelled-ok}
+use Rattle.plist_reader.proofs.Reached.{Reached, reached-scalars, reached-run, spelled-ok}
 use Rattle.plist_reader.proofs.Keyed.{has_key, has_key-more, slice_get-last, strong-has, reached-keyed}
 
 -- behind another key an empty byte string, and the dictionary's end
@@ -92,7 +94,8 @@ key-goes_on front nodes d outer at text r h w k =
     let last = closing_node nodes d at w.end w.key q in
     let x = extends-settled outer (all ++ last ∷ []) (length all) (q + 1 + 1 + 1 + 1 + 1) in
     let rest = w.characters ++ (ending ++ x.whole.rest) in
-    let s = spelled-ok (front ++ rest) x.whole.tree (reached-run front r h rest ∙ w.leads (ending ++ x.whole.rest) ∙ run-ending nodes d outer at w.end q w.key x.whole.rest ∙ x.whole.runs) in
+    let i = all-append IsScalar w.characters (ending ++ x.whole.rest) w.scalars (refl, (refl, (refl, (refl, (refl, x.whole.scalars))))) in
+    let s = spelled-ok (front ++ rest) x.whole.tree (all-append IsScalar front rest (reached-scalars front r h) i) (reached-run front r h rest ∙ w.leads (ending ++ x.whole.rest) ∙ run-ending nodes d outer at w.end q w.key x.whole.rest ∙ x.whole.runs) in
     record { rest = rest; other = s.0; spelled = s.1; behind = key-behind nodes x.more d at w.end q w.key text (tree_of s.0) k (ap (λ t. t.nodes) (sym s.2) ∙ x.grows) }
 
 pub twice-goes_on : (front : List ℕ) (nodes : List TreeNode) (d : Dictionary) (outer : List Open) (token : Token) (at : ℕ) (text : List ℕ) → Reached front (in_token nodes (Pairs d ∷ outer) Key token text []) → KeyWay nodes d outer at (in_token nodes (Pairs d ∷ outer) Key token text []) (width front) → is_among text d.keys ≡ true → GoesOn front text at

@@ -1,10 +1,10 @@
 -- The grammar of property lists, over whole texts: which characters spell a value, and which tree that value is. Fontc's
 -- own, narrowed from the text form of NeXTSTEP property lists in which Glyphs writes format 3. Texts are lists of
--- characters, and places and ends count their bytes in UTF-8.
+-- characters, each a Unicode scalar value, and places and ends count their bytes in UTF-8.
 --
 --     text       = spaces value spaces
 --     value      = word | string | bytes | list | dictionary
---     string     = " { character | escape } "         a character other than " and \
+--     string     = " { character | escape } "         any character but " and \
 --     bytes      = < { digit spaces digit } >         spaces anywhere inside
 --     list       = ( [ value { , value } [ , ] ] )
 --     dictionary = { { key = value ; } }              the keys of a dictionary differ
@@ -13,7 +13,7 @@
 -- Spaces may stand between any two tokens. At most 64 brackets are open at once.
 use Rattle.std.specs.Prelude.{◌≡◌, ℕ, ◌+◌, ◌-◌, ◌*◌, ◌<◌, ◌≤◌, true, false, List, [], ◌∷◌, ◌++◌, length, Some, ◌⊎◌, encode_utf8}
 use Rattle.std.specs.List.{AllByRecursion}
-use Rattle.std.specs.Char.{len_utf8}
+use Rattle.std.specs.Char.{IsScalar, len_utf8}
 use Rattle.std.specs.Str.{IsUtf8, chars}
 use Rattle.plist_reader.specs.declared.tree.Tree.{Tree}
 use Rattle.plist_reader.specs.declared.tree.TreeNode.{TreeNode}
@@ -130,7 +130,7 @@ pub data IsEscape : List ℕ → ℕ → Type 0 where
 -- what stands between two quotes, and its bytes after escapes are undone
 pub data IsQuoted : List ℕ → List ℕ → Type 0 where
   no_more : IsQuoted [] []
-  plain : (c : ℕ) (cs bytes : List ℕ) → ¬ (c ≡ 34) → ¬ (c ≡ 92) → IsQuoted cs bytes → IsQuoted (c ∷ cs) (encode_utf8 c ++ bytes)
+  plain : (c : ℕ) (cs bytes : List ℕ) → IsScalar c → ¬ (c ≡ 34) → ¬ (c ≡ 92) → IsQuoted cs bytes → IsQuoted (c ∷ cs) (encode_utf8 c ++ bytes)
   escaped : (c : ℕ) (escape cs bytes : List ℕ) → IsEscape escape c → IsQuoted cs bytes → IsQuoted (92 ∷ (escape ++ cs)) (encode_utf8 c ++ bytes)
 
 -- a word or a quoted string

@@ -1,12 +1,13 @@
-ghost use Rattle.std.specs.Prelude.{[], ◌∷◌, ◌++◌, ◌≡◌, ◌≤◌, length, ◌⊎◌, IfOk, IfErr, Ok, Err, List, ℕ};
+ghost use Rattle.std.specs.Prelude.{[], ◌∷◌, ◌++◌, ◌≡◌, ◌≤◌, length, ◌⊎◌, ◌↔◌, IfOk, IfErr, Ok, Err, List, ℕ};
 ghost use Rattle.refusal_codes.specs.Gives.{Gives};
 ghost use Rattle.plist_reader.specs.Tree.{IsTree, source_limit};
-ghost use Rattle.plist_reader.specs.Grammar.{HasTree};
+ghost use Rattle.plist_reader.specs.Grammar.{HasTree, IsTextOf, Value, tree_of};
 ghost use Rattle.plist_reader.specs.Refusals.{CanGoOn, IsErrorOf, IsRefusal};
 ghost use Rattle.refusal_codes.specs.declared.refusal.Refusal.{Refusal};
 ghost use Rattle.plist_reader.specs.Sources.{FindsPairs, StandsInSource};
 ghost use Rattle.plist_reader.specs.declared.tree.Tree.{Tree};
 ghost use Rattle.plist_reader.specs.Reading.{refusal, read_of, run, start};
+ghost use Rattle.std.specs.Char.{IsScalar};
 ghost use Rattle.std.specs.Str.{chars};
 
 use crate::reader::{Reader, refusal};
@@ -80,10 +81,14 @@ pub fn sources_have_one_answer()
 
 /// Where the longest front of a text ends with which some text with a tree begins: each shorter front begins one too, so
 /// it ends where none begins with one character more. It may be measured in characters or in bytes, since of the
-/// characters of several bytes either each can follow a front or none.
+/// characters of several bytes either each can follow a front or none. A text with a tree is always that of a source.
 pub fn fronts_end_where_nothing_goes_on()
+    // What the grammar spells is the text of a source.
+    ensures texts { (v : Value) (text : List ℕ) → IsTextOf v text → (source : List ℕ) × HasTree source (tree_of v) × (chars source ≡ text) }
+    // So a front begins some text with a tree exactly when it begins that of some source with a tree.
+    ensures sources { (front : List ℕ) → CanGoOn front ↔ ((source : List ℕ) × (t : Tree) × (rest : List ℕ) × HasTree source t × (chars source ≡ front ++ rest)) }
     ensures shorter { (front more : List ℕ) → CanGoOn (front ++ more) → CanGoOn front }
-    ensures alike { (front : List ℕ) (c d : ℕ) → 128 ≤ c → 128 ≤ d → CanGoOn (front ++ c ∷ []) → CanGoOn (front ++ d ∷ []) }
+    ensures alike { (front : List ℕ) (c d : ℕ) → 128 ≤ c → 128 ≤ d → IsScalar d → CanGoOn (front ++ c ∷ []) → CanGoOn (front ++ d ∷ []) }
 {}
 
 /// The values of a tree stand in its source, its texts are the bytes between their places after escapes are undone, at
