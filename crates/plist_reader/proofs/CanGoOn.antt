@@ -90,7 +90,7 @@ completes-half nodes brackets phase at high x place bytes h =
 
 -- ---- values and signs
 
-pub completes-value : (nodes : List TreeNode) (brackets : List Open) (phase : Phase) (place : ℕ) → IsAwaiting phase → Completes (ready nodes brackets phase) place
+completes-value : (nodes : List TreeNode) (brackets : List Open) (phase : Phase) (place : ℕ) → IsAwaiting phase → Completes (ready nodes brackets phase) place
 completes-value nodes brackets phase place a = completes-step _ _ place 60 refl (step-angle_begun nodes brackets phase place a) (completes-bytes nodes brackets phase place (place + 1) [])
 
 completes-sign : (nodes : List TreeNode) (brackets : List Open) (place : ℕ) → Completes (ready nodes brackets KeyEnd) place
@@ -122,7 +122,7 @@ completes-ready nodes brackets (End n) place g = record { rest = []; scalars = t
 -- ---- a key that is longer than all others
 
 -- how long the keys are together
-abbrev pub reach : List (List ℕ) → ℕ
+abbrev reach : List (List ℕ) → ℕ
 reach [] = 0
 reach (k ∷ ks) = length k + reach ks
 
@@ -135,7 +135,7 @@ longer-apart (x ∷ text) (y ∷ key) h = at_head (nat_eq x y) (longer-apart tex
     at_head true e = e
     at_head false e = refl
 
-pub longer-new : (text : List ℕ) (keys : List (List ℕ)) → reach keys < length text → is_among text keys ≡ false
+longer-new : (text : List ℕ) (keys : List (List ℕ)) → reach keys < length text → is_among text keys ≡ false
 longer-new text [] h = refl
 longer-new text (k ∷ ks) h = neither (pointwise nat_eq text k) (is_among text ks) (longer-apart text k (omega (arith, h))) (longer-new text ks (omega (arith, h)))
   where

@@ -1,13 +1,10 @@
 -- What is found under the key of a pair is its value: no pair in front of it has its key, since the keys of a dictionary
 -- differ.
-use Rattle.std.proofs.Common.{inl, inr, ◌≡◌, ℕ, true, false, List, [], ◌∷◌, ◌++◌, map, Some, if◌then◌else◌, sym, subst, ap, ◌∙◌}
-use Rattle.std.specs.Prelude.{nat_eq, option_and_then, slice_get}
+use Rattle.std.proofs.Common.{inl, inr, ◌≡◌, ℕ, true, false, List, [], ◌∷◌, ◌++◌, map, Some, if◌then◌else◌, sym, ap, ◌∙◌}
+use Rattle.std.specs.Prelude.{nat_eq, option_and_then}
 use Rattle.std.specs.Cmp.Lexicographic.{pointwise}
-use Rattle.std.specs.List.{All}
 use Rattle.std.proofs.lemmas.Bool.{false≢true, cases_Bool}
-use Rattle.std.proofs.lemmas.List.Elements.{All-get_or}
 use Rattle.std.proofs.lemmas.List.Folds.{list_any-append}
-use Rattle.std.proofs.lemmas.Option.{slice_get_within, get_or_from_slice_get}
 use Rattle.plist_reader.specs.declared.tree.Tree.{Tree}
 use Rattle.plist_reader.specs.declared.tree.TreeNode.{TreeNode}
 use Rattle.plist_reader.specs.declared.tree.TreeValue.TheVariants as tree
@@ -16,7 +13,7 @@ use Rattle.plist_reader.specs.Keys.{is_among}
 use Rattle.plist_reader.specs.Grammar.{HasTree, node}
 use Rattle.plist_reader.specs.Sources.{text_at, AreNew, IsDictionaryIn, FindsPairs}
 use Rattle.plist_reader.proofs.Keyed.{either_true, same_bytes, bytes_same}
-use Rattle.plist_reader.proofs.Dictionaries.{HasKeys, cons_parts}
+use Rattle.plist_reader.proofs.Dictionaries.{HasKeys, cons_parts, value-at}
 use Rattle.plist_reader.proofs.SourceLaws.{stands_in_source}
 
 -- ---- keys that are known
@@ -57,9 +54,6 @@ found-among t (p ∷ earlier) later number value key before (x ∷ keys) h a e =
       | inl y ↦ (let s = bytes_same x key (ap (λ z. spells key z) (sym c.0) ∙ y) in absurd (known-never t.nodes earlier later number value key (before ++ x ∷ []) keys c.1 a.1 e (ap (λ z. is_among key (before ++ z ∷ [])) s ∙ known-last key before)))
       | inr n ↦ rw n (found-among t earlier later number value key (before ++ x ∷ []) keys c.1 a.1 e)
     ]
-
-value-at : (nodes : List TreeNode) (P : TreeNode → Type 0) (n : ℕ) (x : TreeNode) → All P nodes → slice_get nodes n ≡ Some x → P x
-value-at nodes P n x h e = subst P (get_or_from_slice_get nodes n x x e) (All-get_or P nodes n x (slice_get_within nodes n x e) h)
 
 pub finds-pairs : (source : List ℕ) (t : Tree) → HasTree source t → FindsPairs t
 finds-pairs source t h n place end earlier number value later key e k =

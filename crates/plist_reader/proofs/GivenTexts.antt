@@ -34,7 +34,7 @@ marked-spaces : (gap cs : List ℕ) → AreSpaces gap → Marked cs → Marked (
 marked-spaces [] cs h m = m
 marked-spaces (c ∷ gap) cs h m = space-no_word c h.0
 
-pub stops-marked : (brackets : List Open) (cs : List ℕ) → Marked cs → Stops brackets cs
+stops-marked : (brackets : List Open) (cs : List ℕ) → Marked cs → Stops brackets cs
 stops-marked [] [] m = tt
 stops-marked (b ∷ brackets) [] m = m
 stops-marked [] (c ∷ cs) m = m
@@ -122,7 +122,7 @@ run-key_word_end nodes d brackets at place text (c ∷ cs) h m =
     ap (λ x. x >>= (λ r. run r (place + len_utf8 c) cs))
     (step-word_end (in_token nodes (Pairs d ∷ brackets) Key (Word at) text []) (key_end nodes d brackets at place text) at place c refl m (key-ended nodes d brackets (Word at) at place text h) refl)
 
-pub run-key : (cs key : List ℕ) → IsText cs key → (nodes : List TreeNode) (d : Dictionary) (brackets : List Open) (place : ℕ) (rest : List ℕ) → is_among key d.keys ≡ false → Marked rest
+run-key : (cs key : List ℕ) → IsText cs key → (nodes : List TreeNode) (d : Dictionary) (brackets : List Open) (place : ℕ) (rest : List ℕ) → is_among key d.keys ≡ false → Marked rest
     → run (ready nodes (Pairs d ∷ brackets) Key) place (cs ++ rest) ≡ run (key_end nodes d brackets place (place + width cs) key) (place + width cs) rest
 run-key cs key (inl w) nodes d brackets place rest h m =
     let same : key ≡ cs = w.same in

@@ -25,13 +25,14 @@ use Rattle.plist_reader.proofs.GivenTokens.{in_token, run_same, width-append}
 use Rattle.plist_reader.proofs.GivenEscapes.{Reads, reads-escape, step-escape_more}
 use Rattle.plist_reader.proofs.GivenStrings.{step-quote_begun, step-backslash, run-quoted}
 use Rattle.plist_reader.proofs.GivenTexts.{run-text_of}
-use Rattle.plist_reader.proofs.Reached.{Reached, at_start, onward, reached-goes_on, reached-run, reached-tree, width-push}
+use Rattle.plist_reader.proofs.Moves.{Closes, closes}
+use Rattle.plist_reader.proofs.Reached.{Reached, at_start, onward, at_ok, reached-good, reached-goes_on, reached-run, reached-tree, width-push}
 use Rattle.plist_reader.proofs.Depths.{ok_bind}
 use Rattle.plist_reader.proofs.Texts.{Begins, text-begun}
 
 -- ---- readers on the way to a tree
 
-pub reached-part : (cs front rest : List ℕ) (r : Reader) (t : Tree) → AreScalars cs → Reached front r → run r (width front) (cs ++ rest) ≡ Ok t → (b : Reader) × Reached (front ++ cs) b
+reached-part : (cs front rest : List ℕ) (r : Reader) (t : Tree) → AreScalars cs → Reached front r → run r (width front) (cs ++ rest) ≡ Ok t → (b : Reader) × Reached (front ++ cs) b
 reached-part [] front rest r t i h e = let R : List ℕ → Type 0 = λ x. Reached x r in (r, subst R (sym (append-nil front)) h)
 reached-part (c ∷ cs) front rest r t i h e =
     let u = ok_bind (step r (width front) c) (λ s. run s (width front + len_utf8 c) (cs ++ rest)) t e in
@@ -43,6 +44,14 @@ reached-part (c ∷ cs) front rest r t i h e =
 -- the reader behind a front of a text with a tree
 pub reached-front : (front rest : List ℕ) (v : Value) → IsTextOf v (front ++ rest) → (b : Reader) × Reached front b
 reached-front front rest v s = reached-part front [] rest start (tree_of v) (front-scalars v front rest s).0 at_start (run-text_of v (front ++ rest) s)
+
+-- a text with a tree leads to a reader at which it may end
+pub reached-end : (cs : List ℕ) (t : Tree) → AreScalars cs → run start 0 cs ≡ Ok t → (b : Reader) × Reached cs b × Closes (width cs) b t
+reached-end cs t i e =
+    let all : run start 0 (cs ++ []) ≡ Ok t = ap (λ x. run start 0 x) (append-nil cs) ∙ e in
+    let b = reached-part cs [] [] start t i at_start all in
+    let f = sym (reached-run cs b.0 b.1 []) ∙ all in
+    (b.0, b.1, at_ok (Closes (width cs) b.0) (run b.0 (width cs) []) t f (closes b.0 (width cs) (reached-good cs b.0 b.1)))
 
 -- ---- the first characters of an escape
 

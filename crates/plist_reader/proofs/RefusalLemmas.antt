@@ -26,20 +26,19 @@ use Rattle.refusal_codes.specs.Gives.{Gives}
 use Rattle.plist_reader.specs.Reading.{refusal, ◌>>=◌, start, is_bracket, is_end, text_ended, step, whole_in, whole, finish_in, finish, run, read_of}
 use Rattle.plist_reader.proofs.RunLemmas.{read_of-text}
 use Rattle.plist_reader.proofs.Scalars.{AreScalars, source-scalars}
-use Rattle.plist_reader.proofs.GivenTokens.{width-append, width-long, ready, in_token, IsAwaiting}
+use Rattle.plist_reader.proofs.GivenTokens.{width-append, ready, in_token, IsAwaiting}
 use Rattle.plist_reader.proofs.GivenEscapes.{Reads}
 use Rattle.plist_reader.proofs.GivenStrings.{finish-word}
 use Rattle.plist_reader.proofs.SpelledSteps.{Agrees, GoodIn, Good}
 use Rattle.plist_reader.proofs.Moves.{TextEnds, as_value, as_key, Closes, closes_between, closes_word, closes}
 use Rattle.plist_reader.proofs.CanGoOnEscapes.{finishes, finished-escape}
 use Rattle.plist_reader.proofs.CanGoOn.{finish_whole, KeyWay, way-any_word, way-any_string}
-use Rattle.plist_reader.proofs.Starts.{Started, StartOf, reached-started, prefix_same}
-use Rattle.plist_reader.proofs.TwiceRefused.{takes-key, never-goes_on, not_twice}
+use Rattle.plist_reader.proofs.TwiceRefused.{not_twice}
 use Rattle.plist_reader.proofs.Twices.{twice-goes_on}
 use Rattle.plist_reader.proofs.Fronts.{WordIn, StringIn, EscapeIn}
 use Rattle.plist_reader.proofs.Reached.{Reached, at_ok, reached-good, reached-token, reached-goes_on, whole-finishes, finishes-whole, refused-stops, err_not_ok, StopOf, stopped}
 use Rattle.plist_reader.proofs.Depths.{reached-placed, reached-deep}
-use Rattle.plist_reader.proofs.Texts.{begun_at, open-text}
+use Rattle.plist_reader.proofs.Texts.{open-text}
 use Rattle.plist_reader.proofs.InEscapes.{not_in_escape}
 use Rattle.plist_reader.proofs.Fails.{IsOver, StopsAt, over, behind, other, Fails, between_fails, word_fails, word_twice, string_twice, escape_fails, bytes_fail, half_fails, fails}
 
@@ -200,33 +199,13 @@ explain-escape front text nodes brackets phase at backslash escape r h =
     some (c ∷ cs) r = omega arith
 
 -- a key that stands twice, with the word or string that it is
-explain-twice : (front : List ℕ) (nodes : List TreeNode) (d : Dictionary) (outer : List Open) (token : Token) (at c : ℕ) (text before part whole : List ℕ) → Reached front (in_token nodes (Pairs d ∷ outer) Key token text []) → step (in_token nodes (Pairs d ∷ outer) Key token text []) (width front) c ≡ Err (refusal DuplicateKey at)
-    → begun_at at token ≡ 1 → StartOf (in_token nodes (Pairs d ∷ outer) Key token text []) front → (StartOf (in_token nodes (Pairs d ∷ outer) Key token text []) front → Started front at nodes (Pairs d ∷ outer) Key) → front ≡ before ++ part → at ≡ width before → 0 < width part → EndsText part c text whole
+explain-twice : (front : List ℕ) (nodes : List TreeNode) (d : Dictionary) (outer : List Open) (token : Token) (at c : ℕ) (text before part : List ℕ) → Reached front (in_token nodes (Pairs d ∷ outer) Key token text [])
+    → step (in_token nodes (Pairs d ∷ outer) Key token text []) (width front) c ≡ Err (refusal DuplicateKey at) → front ≡ before ++ part → at ≡ width before → EndsText part c text
     → KeyWay nodes d outer at (in_token nodes (Pairs d ∷ outer) Key token text []) (width front) → is_among text d.keys ≡ true → IsExplained front c (refusal DuplicateKey at)
-explain-twice front nodes d outer token at c text before part whole h x t y z parts place some ended way k =
+explain-twice front nodes d outer token at c text before part h x parts place ended way k =
     let r = in_token nodes (Pairs d ∷ outer) Key token text [] in
-    let i = z y in
     let g = twice-goes_on front nodes d outer token at text h way k in
-    let same : i.before ≡ before = prefix_same i.before before i.more part (sym i.parts ∙ parts) (sym i.place ∙ place) in
-    let start : Reached before (ready nodes (Pairs d ∷ outer) Key) = subst (λ (b : List ℕ). Reached b (ready nodes (Pairs d ∷ outer) Key)) same i.reached in
-    let inside : width before < width front = omega (arith, ap width parts, width-append before part, some) in
-    let open_here : begun_at (width before) token ≡ 1 = subst (λ (n : ℕ). begun_at n token ≡ 1) place t in
-    twice at (not_in_escape front r c (refusal DuplicateKey at) h x key_no_end key_no_escape) (record {
-      before = before;
-      text = part;
-      key = text;
-      whole = whole;
-      rest = g.rest;
-      other = g.other;
-      parts = parts;
-      place_is = place;
-      begins = open-text front before r h inside open_here;
-      ended = ended;
-      another = takes-key before nodes d outer start;
-      never = never-goes_on before nodes d outer c part text whole start ended k;
-      goes_on = g.spelled;
-      behind = g.behind;
-    })
+    twice at (not_in_escape front r c (refusal DuplicateKey at) h x key_no_end key_no_escape) (record { before = before; text = part; key = text; rest = g.rest; other = g.other; parts = parts; place_is = place; ended = ended; goes_on = g.spelled; behind = g.behind })
 
 pub explain : (front : List ℕ) (r : Reader) (c : ℕ) (e : Refusal) → Reached front r → step r (width front) c ≡ Err e → Fails (width front) c r e → IsExplained front c e
 explain front _ c e h x (between_fails nodes brackets phase _ s) =
@@ -239,11 +218,11 @@ explain front _ c e h x (word_fails nodes brackets phase at text u _ k s) =
 explain front _ c e h x (word_twice nodes d outer at text w k) =
     let r = in_token nodes (Pairs d ∷ outer) Key (Word at) text [] in
     let i : WordIn front at text = reached-token front r h in
-    explain-twice front nodes d outer (Word at) at c text i.before i.word i.word h x (same_bit at at refl) (reached-started front r h) (λ q. q) i.parts i.place (omega (arith, i.own.some, width-long i.word)) (inl (i.own, w, refl)) (way-any_word nodes d outer at (width front) text) k
+    explain-twice front nodes d outer (Word at) at c text i.before i.word h x i.parts i.place (inl (i.own, w)) (way-any_word nodes d outer at (width front) text) k
 explain front _ c e h x (string_twice nodes d outer at text q k) =
     let r = in_token nodes (Pairs d ∷ outer) Key (Quoted at) text [] in
     let i : StringIn front at text = reached-token front r h in
-    explain-twice front nodes d outer (Quoted at) at c text i.before (34 ∷ i.inner) (34 ∷ (i.inner ++ 34 ∷ [])) h x (same_bit at at refl) (reached-started front r h) (λ z. z) i.parts i.place (omega arith) (inr (q, i.inner, refl, i.quoted, refl)) (way-any_string nodes d outer at (width front) text) k
+    explain-twice front nodes d outer (Quoted at) at c text i.before (34 ∷ i.inner) h x i.parts i.place (inr (q, i.inner, refl, i.quoted)) (way-any_string nodes d outer at (width front) text) k
 explain front _ c e h x (escape_fails nodes brackets phase at backslash text escape) =
     bad_escape backslash (explain-escape front text nodes brackets phase at backslash escape h (reached-token front (in_token nodes brackets phase (Escape at backslash escape) text []) h))
 explain front _ c e h x (bytes_fail nodes brackets phase at bytes _ a s) =

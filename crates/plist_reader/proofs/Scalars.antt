@@ -98,7 +98,7 @@ quoted-scalars _ _ no_more = tt
 quoted-scalars _ _ (plain c cs bytes i n m q) = (i, quoted-scalars cs bytes q)
 quoted-scalars _ _ (escaped c escape cs bytes e q) = (refl, all-append IsScalar escape cs (escape-scalars escape c e) (quoted-scalars cs bytes q))
 
-pub text-scalars : (cs bytes : List ℕ) → IsText cs bytes → AreScalars cs
+text-scalars : (cs bytes : List ℕ) → IsText cs bytes → AreScalars cs
 text-scalars cs bytes (inl w) = all-weaker (λ c. is_word c ≡ true) IsScalar word-scalar cs w.own
 text-scalars cs bytes (inr (inner, e, q)) = subst (λ (x : List ℕ). AreScalars x) (sym e) (refl, all-append IsScalar inner (34 ∷ []) (quoted-scalars inner bytes q) (refl, tt))
 

@@ -24,11 +24,11 @@ use Rattle.plist_reader.proofs.RunLemmas.{read_of-text}
 use Rattle.plist_reader.proofs.Scalars.{AreScalars, source-scalars}
 use Rattle.plist_reader.proofs.GivenTokens.{settled, width-append, width-long}
 use Rattle.plist_reader.proofs.GivenTexts.{given}
-use Rattle.plist_reader.proofs.Moves.{TextEnds, as_value, as_key, Moves, space_between, string_begins, word_begins, bytes_begin, list_begins, dictionary_begins, comma, equals, semicolon, list_ends, dictionary_ends, word_more, word_ends, string_more, string_ends, escape_begins, escape_more, escape_ends, space_in_bytes, first_digit, space_in_half, second_digit, bytes_end, Closes, closes_between, closes_word, closes}
+use Rattle.plist_reader.proofs.Moves.{TextEnds, as_value, as_key, Moves, space_between, string_begins, word_begins, bytes_begin, list_begins, dictionary_begins, comma, equals, semicolon, list_ends, dictionary_ends, word_more, word_ends, string_more, string_ends, escape_begins, escape_more, escape_ends, space_in_bytes, first_digit, space_in_half, second_digit, bytes_end, Closes, closes_between, closes_word}
 use Rattle.plist_reader.proofs.Fronts.{WordIn, StringIn, TokenIn, ends-between}
-use Rattle.plist_reader.proofs.Reached.{Reached, at_start, onward, at_ok, reached-good, reached-moves, reached-token, reached-run, width-push}
+use Rattle.plist_reader.proofs.Reached.{Reached, at_start, onward, reached-moves, reached-token, width-push}
 use Rattle.plist_reader.proofs.Depths.{at_of, In, before, Placed, Count, moves-placed, moves-count, closes-count, reached-placed, runs-keep}
-use Rattle.plist_reader.proofs.InEscapes.{reached-part}
+use Rattle.plist_reader.proofs.InEscapes.{reached-end}
 use Rattle.plist_reader.proofs.Dictionaries.{tree-dictionaries}
 
 -- ---- the depth
@@ -162,13 +162,8 @@ closes-stand : (front : List ℕ) (r : Reader) (t : Tree) → Closes (width fron
 closes-stand front _ _ (closes_between nodes brackets number) k h = h
 closes-stand front _ _ (closes_word nodes phase at text a) k h = All-push (StandsIn front) nodes (node at (width front) (tree.Text text)) h (stands-word front text at k)
 
--- a text with a tree leads to a reader at which it may end
 tree-stand : (cs : List ℕ) (t : Tree) → AreScalars cs → run start 0 cs ≡ Ok t → Stand cs t.nodes
-tree-stand cs t i e =
-    let all : run start 0 (cs ++ []) ≡ Ok t = ap (λ x. run start 0 x) (append-nil cs) ∙ e in
-    let b = reached-part cs [] [] start t i at_start all in
-    let f = sym (reached-run cs b.0 b.1 []) ∙ all in
-    closes-stand cs b.0 t (at_ok (Closes (width cs) b.0) (run b.0 (width cs) []) t f (closes b.0 (width cs) (reached-good cs b.0 b.1))) (reached-token cs b.0 b.1) (reached-stand cs b.0 b.1)
+tree-stand cs t i e = let b = reached-end cs t i e in closes-stand cs b.0 t b.2 (reached-token cs b.0 b.1) (reached-stand cs b.0 b.1)
 
 -- ---- sources
 

@@ -35,7 +35,7 @@ StartIn (Half at high) front nodes brackets phase = Unit {0}
 abbrev pub StartOf : Reader → List ℕ → Type 0
 StartOf r front = StartIn r.token front r.nodes r.brackets r.phase
 
-none-started : (s : Reader) (front : List ℕ) → s.token ≡ Between → StartOf s front
+pub none-started : (s : Reader) (front : List ℕ) → s.token ≡ Between → StartOf s front
 none-started s front e = subst (λ (x : Token). StartIn x front s.nodes s.brackets s.phase) (sym e) tt
 
 settled-started : (nodes : List TreeNode) (brackets : List Open) (number : ℕ) (front : List ℕ) → StartOf (settled nodes brackets number) front

@@ -12,7 +12,7 @@ use Rattle.plist_reader.specs.declared.tree.Tree.{Tree}
 use Rattle.plist_reader.specs.declared.tree.TreeNode.{TreeNode}
 use Rattle.plist_reader.specs.declared.tree.TreeValue.{TreeValue}
 use Rattle.plist_reader.specs.declared.tree.TreeValue.TheVariants as tree
-use Rattle.plist_reader.specs.Grammar.{Value, node, width, IsWord, IsEscape, IsQuoted, IsText, IsTextOf, tree_of}
+use Rattle.plist_reader.specs.Grammar.{Value, node, width, IsWord, IsEscape, IsQuoted, IsTextOf, tree_of}
 use Rattle.plist_reader.specs.Characters.{is_word}
 use Rattle.plist_reader.specs.Tree.{node_at, is_key}
 use Rattle.plist_reader.specs.Reading.{refusal}
@@ -91,13 +91,9 @@ pub record IsInEscape (front : List ℕ) (place : ℕ) : Type 0 where
 abbrev pub NotInEscape : List ℕ → Type 0
 NotInEscape front = (place : ℕ) → ¬ (IsInEscape front place)
 
--- a word that a character ends, or a quoted string that it closes: so much of it as stands in front, its bytes, and the whole
-abbrev pub EndsText : List ℕ → ℕ → List ℕ → List ℕ → Type 0
-EndsText cs c bytes whole = (IsWord cs bytes × (is_word c ≡ false) × (whole ≡ cs)) ⊎ ((c ≡ 34) × (inner : List ℕ) × (cs ≡ 34 ∷ inner) × IsQuoted inner bytes × (whole ≡ 34 ∷ (inner ++ 34 ∷ [])))
-
--- some word or string behind these characters can be followed by the equals sign, as keys are
-abbrev pub TakesKey : List ℕ → Type 0
-TakesKey before = (word : List ℕ) × (bytes : List ℕ) × IsText word bytes × CanGoOn (before ++ (word ++ 61 ∷ []))
+-- a word that a character ends, or a quoted string that it closes: so much of it as stands in front, and its bytes
+abbrev pub EndsText : List ℕ → ℕ → List ℕ → Type 0
+EndsText cs c bytes = (IsWord cs bytes × (is_word c ≡ false)) ⊎ ((c ≡ 34) × (inner : List ℕ) × (cs ≡ 34 ∷ inner) × IsQuoted inner bytes)
 
 -- A dictionary of a tree has a key with these bytes, and behind it one that begins at a place.
 pub record IsKeyBehind (key : List ℕ) (place : ℕ) (t : Tree) : Type 0 where
@@ -115,21 +111,17 @@ pub record IsKeyBehind (key : List ℕ) (place : ℕ) (t : Tree) : Type 0 where
   pub place_is : own.place ≡ place
 
 -- A front that ends in a key which begins at a place, and which the next character ends, where its dictionary has that
--- key already: another key in its place can be followed by the equals sign, and it can't. In a text with a tree that
--- begins with the front, where the key goes on to be another, it stands behind a key with its bytes.
+-- key already: in a text with a tree that begins with the front, where the key goes on to be another, it stands behind a
+-- key with its bytes.
 pub record IsTwice (front : List ℕ) (c place : ℕ) : Type 0 where
   pub before : List ℕ
   pub text : List ℕ
   pub key : List ℕ
-  pub whole : List ℕ
   pub rest : List ℕ
   pub other : Value
   pub parts : front ≡ before ++ text
   pub place_is : place ≡ width before
-  pub begins : HasText front before
-  pub ended : EndsText text c key whole
-  pub another : TakesKey before
-  pub never : ¬ (CanGoOn (before ++ (whole ++ 61 ∷ [])))
+  pub ended : EndsText text c key
   pub goes_on : IsTextOf other (front ++ rest)
   pub behind : IsKeyBehind key place (tree_of other)
 
