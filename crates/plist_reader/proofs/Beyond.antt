@@ -56,7 +56,8 @@ no-after P (Err e) place c h = tt
 
 no_escape : (escape : EscapeState) (c : ℕ) → 128 ≤ c → escape_next escape c ≡ Wrong
 unfolding escape_next escape_begun
-no_escape Begun c h = rw (no_char c 34 h (omega arith), no_char c 92 h (omega arith), no_char c 110 h (omega arith), no_char c 114 h (omega arith), no_char c 116 h (omega arith), no_char c 48 h (omega arith), no_char c 49 h (omega arith), no_char c 85 h (omega arith)) refl
+no_escape Begun c h =
+    rw (no_char c 34 h (omega arith), no_char c 92 h (omega arith), no_char c 110 h (omega arith), no_char c 114 h (omega arith), no_char c 116 h (omega arith), no_char c 48 h (omega arith), no_char c 49 h (omega arith), no_char c 85 h (omega arith)) refl
 no_escape (Octal a) c h = rw (no_octal c h) refl
 no_escape (Octals a b) c h = rw (no_octal c h) refl
 no_escape (High n) c h = rw (no_char c 92 h (omega arith)) refl

@@ -84,7 +84,8 @@ zero_digit : hex_value 48 ≡ Some 0
 unfolding hex_value
 zero_digit = refl
 
-completes-half : (nodes : List TreeNode) (brackets : List Open) (phase : Phase) (at high x place : ℕ) (bytes : List ℕ) → hex_value high ≡ Some x → Completes (in_token nodes brackets phase (Half at high) [] bytes) place
+completes-half : (nodes : List TreeNode) (brackets : List Open) (phase : Phase) (at high x place : ℕ) (bytes : List ℕ) → hex_value high ≡ Some x
+    → Completes (in_token nodes brackets phase (Half at high) [] bytes) place
 completes-half nodes brackets phase at high x place bytes h =
     completes-step _ _ place 48 refl (step-second_digit nodes brackets phase at high place 48 x 0 bytes h zero_digit) (completes-bytes nodes brackets phase at (place + 1) _)
 
@@ -171,13 +172,16 @@ pub record KeyWay (nodes : List TreeNode) (d : Dictionary) (outer : List Open) (
   pub next : ℕ
   pub leads : (more : List ℕ) → run r place (characters ++ more) ≡ run (key_end nodes d outer at end key) next more
 
-way-step : (nodes : List TreeNode) (d : Dictionary) (outer : List Open) (at : ℕ) (r s : Reader) (place c : ℕ) → IsScalar c → step r place c ≡ Ok s → KeyWay nodes d outer at s (place + len_utf8 c) → KeyWay nodes d outer at r place
+way-step : (nodes : List TreeNode) (d : Dictionary) (outer : List Open) (at : ℕ) (r s : Reader) (place c : ℕ) → IsScalar c → step r place c ≡ Ok s
+    → KeyWay nodes d outer at s (place + len_utf8 c) → KeyWay nodes d outer at r place
 way-step nodes d outer at r s place c i e w = record { characters = c ∷ w.characters; scalars = (i, w.scalars); end = w.end; key = w.key; next = w.next; leads = λ more. run_step r s place c (w.characters ++ more) e ∙ w.leads more }
 
-way-end : (nodes : List TreeNode) (d : Dictionary) (outer : List Open) (at end : ℕ) (key : List ℕ) (r : Reader) (place c : ℕ) → IsScalar c → step r place c ≡ Ok (key_end nodes d outer at end key) → KeyWay nodes d outer at r place
+way-end : (nodes : List TreeNode) (d : Dictionary) (outer : List Open) (at end : ℕ) (key : List ℕ) (r : Reader) (place c : ℕ) → IsScalar c
+    → step r place c ≡ Ok (key_end nodes d outer at end key) → KeyWay nodes d outer at r place
 way-end nodes d outer at end key r place c i e = record { characters = c ∷ []; scalars = (i, tt); end = end; key = key; next = place + len_utf8 c; leads = λ more. run_step r (key_end nodes d outer at end key) place c more e }
 
-way-word : (n : ℕ) (nodes : List TreeNode) (d : Dictionary) (outer : List Open) (at place : ℕ) (text : List ℕ) → reach d.keys < length text + n → KeyWay nodes d outer at (in_token nodes (Pairs d ∷ outer) Key (Word at) text []) place
+way-word : (n : ℕ) (nodes : List TreeNode) (d : Dictionary) (outer : List Open) (at place : ℕ) (text : List ℕ) → reach d.keys < length text + n
+    → KeyWay nodes d outer at (in_token nodes (Pairs d ∷ outer) Key (Word at) text []) place
 way-word zero nodes d outer at place text h = way-end nodes d outer at place text _ place 32 refl
     (step-word_space (in_token nodes (Pairs d ∷ outer) Key (Word at) text []) (key_end nodes d outer at place text) at place refl (key-ended nodes d outer (Word at) at place text (longer-new text d.keys (omega (arith, h)))) refl)
 way-word (suc n) nodes d outer at place text h = way-step nodes d outer at _ _ place 97 refl (step-word nodes (Pairs d ∷ outer) Key at place 97 text plain_letter.0)
@@ -193,7 +197,8 @@ completes-way nodes d outer at r place w =
 
 -- ---- quoted strings
 
-completes-string : (nodes : List TreeNode) (brackets : List Open) (phase : Phase) (at place : ℕ) (text : List ℕ) → IsAwaiting phase → Completes (in_token nodes brackets phase (Quoted at) text []) place
+completes-string : (nodes : List TreeNode) (brackets : List Open) (phase : Phase) (at place : ℕ) (text : List ℕ) → IsAwaiting phase
+    → Completes (in_token nodes brackets phase (Quoted at) text []) place
 completes-string nodes brackets phase at place text a =
     let made = nodes ++ node at (place + 1) (tree.Text text) ∷ [] in
     completes-step _ _ place 34 refl (step-quote_end nodes brackets phase at place text ∙ text-ended nodes brackets phase (Quoted at) at (place + 1) text a) (completes-settled brackets made (length nodes) (place + 1))
@@ -201,7 +206,8 @@ completes-string nodes brackets phase at place text a =
 letter_no_mark : (¬ (◌≡◌ {A = ℕ} 97 34)) × (¬ (◌≡◌ {A = ℕ} 97 92))
 letter_no_mark = (eqb-false 97 34 refl, eqb-false 97 92 refl)
 
-way-string : (n : ℕ) (nodes : List TreeNode) (d : Dictionary) (outer : List Open) (at place : ℕ) (text : List ℕ) → reach d.keys < length text + n → KeyWay nodes d outer at (in_token nodes (Pairs d ∷ outer) Key (Quoted at) text []) place
+way-string : (n : ℕ) (nodes : List TreeNode) (d : Dictionary) (outer : List Open) (at place : ℕ) (text : List ℕ) → reach d.keys < length text + n
+    → KeyWay nodes d outer at (in_token nodes (Pairs d ∷ outer) Key (Quoted at) text []) place
 way-string zero nodes d outer at place text h = way-end nodes d outer at (place + 1) text _ place 34 refl
     (step-quote_end nodes (Pairs d ∷ outer) Key at place text ∙ key-ended nodes d outer (Quoted at) at (place + 1) text (longer-new text d.keys (omega (arith, h))))
 way-string (suc n) nodes d outer at place text h = way-step nodes d outer at _ _ place 97 refl (step-plain nodes (Pairs d ∷ outer) Key at place 97 text letter_no_mark.0 letter_no_mark.1)
@@ -210,12 +216,14 @@ way-string (suc n) nodes d outer at place text h = way-step nodes d outer at _ _
     one_byte : length (encode 97) ≡ 1
     one_byte = length-encode 97
 
-pub way-any_string : (nodes : List TreeNode) (d : Dictionary) (outer : List Open) (at place : ℕ) (text : List ℕ) → KeyWay nodes d outer at (in_token nodes (Pairs d ∷ outer) Key (Quoted at) text []) place
+pub way-any_string : (nodes : List TreeNode) (d : Dictionary) (outer : List Open) (at place : ℕ) (text : List ℕ)
+    → KeyWay nodes d outer at (in_token nodes (Pairs d ∷ outer) Key (Quoted at) text []) place
 way-any_string nodes d outer at place text = way-string (suc (reach d.keys)) nodes d outer at place text (omega arith)
 
 -- ---- texts
 
-completes-any_word : (nodes : List TreeNode) (brackets : List Open) (phase : Phase) (at place : ℕ) (text : List ℕ) → CanBegin phase → Agrees phase brackets → Completes (in_token nodes brackets phase (Word at) text []) place
+completes-any_word : (nodes : List TreeNode) (brackets : List Open) (phase : Phase) (at place : ℕ) (text : List ℕ) → CanBegin phase → Agrees phase brackets
+    → Completes (in_token nodes brackets phase (Word at) text []) place
 completes-any_word nodes brackets Value at place text b g = completes-word nodes brackets Value at place text tt
 completes-any_word nodes brackets Item at place text b g = completes-word nodes brackets Item at place text tt
 completes-any_word nodes [] Key at place text b g = absurd g
@@ -226,7 +234,8 @@ completes-any_word nodes brackets KeyEnd at place text b g = absurd b
 completes-any_word nodes brackets PairEnd at place text b g = absurd b
 completes-any_word nodes brackets (End n) at place text b g = absurd b
 
-completes-any_string : (nodes : List TreeNode) (brackets : List Open) (phase : Phase) (at place : ℕ) (text : List ℕ) → CanBegin phase → Agrees phase brackets → Completes (in_token nodes brackets phase (Quoted at) text []) place
+completes-any_string : (nodes : List TreeNode) (brackets : List Open) (phase : Phase) (at place : ℕ) (text : List ℕ) → CanBegin phase → Agrees phase brackets
+    → Completes (in_token nodes brackets phase (Quoted at) text []) place
 completes-any_string nodes brackets Value at place text b g = completes-string nodes brackets Value at place text tt
 completes-any_string nodes brackets Item at place text b g = completes-string nodes brackets Item at place text tt
 completes-any_string nodes [] Key at place text b g = absurd g
@@ -237,7 +246,8 @@ completes-any_string nodes brackets KeyEnd at place text b g = absurd b
 completes-any_string nodes brackets PairEnd at place text b g = absurd b
 completes-any_string nodes brackets (End n) at place text b g = absurd b
 
-completes-escape : (nodes : List TreeNode) (brackets : List Open) (phase : Phase) (at backslash place : ℕ) (escape : EscapeState) (text : List ℕ) → CanBegin phase → Agrees phase brackets → (f : Finishes escape) → AreScalars f.0 → Completes (in_token nodes brackets phase (Escape at backslash escape) text []) place
+completes-escape : (nodes : List TreeNode) (brackets : List Open) (phase : Phase) (at backslash place : ℕ) (escape : EscapeState) (text : List ℕ) → CanBegin phase
+    → Agrees phase brackets → (f : Finishes escape) → AreScalars f.0 → Completes (in_token nodes brackets phase (Escape at backslash escape) text []) place
 completes-escape nodes brackets phase at backslash place escape text b g f i =
     let h = completes-any_string nodes brackets phase at (place + width f.0) (text ++ encode f.1) b g in
     record { rest = f.0 ++ h.rest; scalars = all-append IsScalar f.0 h.rest i h.scalars; tree = h.tree; runs = run-escape f.0 nodes brackets phase at backslash place escape f.1 text h.rest f.2 ∙ h.runs }
@@ -253,7 +263,8 @@ IsLively (Escape at backslash escape) = (front : List ℕ) × Front escape front
 IsLively (Bytes at) = Unit {0}
 IsLively (Half at high) = (x : ℕ) × (hex_value high ≡ Some x)
 
-completes-token : (nodes : List TreeNode) (brackets : List Open) (phase : Phase) (token : Token) (text bytes : List ℕ) (place : ℕ) → GoodIn token (in_token nodes brackets phase token text bytes) → IsLively token → Completes (in_token nodes brackets phase token text bytes) place
+completes-token : (nodes : List TreeNode) (brackets : List Open) (phase : Phase) (token : Token) (text bytes : List ℕ) (place : ℕ)
+    → GoodIn token (in_token nodes brackets phase token text bytes) → IsLively token → Completes (in_token nodes brackets phase token text bytes) place
 completes-token nodes brackets phase Between text bytes place g l =
     let P : List ℕ → List ℕ → Type 0 = λ x y. Completes (in_token nodes brackets phase Between x y) place in
     subst (λ (x : List ℕ). P x bytes) (sym g.1) (subst (λ (y : List ℕ). P [] y) (sym g.2) (completes-ready nodes brackets phase place g.0))

@@ -37,7 +37,8 @@ finishes-octal x h = finishes-more (Octal x) (Octals x 0) 48 (octal1 x 48 0 zero
 -- ---- the low surrogate
 
 finishes-low3 : (n b d : ℕ) → n < 1024 → b < 4 → d < 16 → Finishes (Low3 n b d)
-finishes-low3 n b d h g k = (48 ∷ [], 0x1_0000 + n * 1024 + (b * 256 + d * 16 + 0), low3 n b d 48 0 hex_digits.0 ∙ character_of-scalar (0x1_0000 + n * 1024 + (b * 256 + d * 16 + 0)) (high_scalar (0x1_0000 + n * 1024 + (b * 256 + d * 16 + 0)) (omega arith) (omega arith)))
+finishes-low3 n b d h g k =
+    (48 ∷ [], 0x1_0000 + n * 1024 + (b * 256 + d * 16 + 0), low3 n b d 48 0 hex_digits.0 ∙ character_of-scalar (0x1_0000 + n * 1024 + (b * 256 + d * 16 + 0)) (high_scalar (0x1_0000 + n * 1024 + (b * 256 + d * 16 + 0)) (omega arith) (omega arith)))
 
 finishes-low2 : (n b : ℕ) → n < 1024 → b < 4 → Finishes (Low2 n b)
 finishes-low2 n b h g = finishes-more (Low2 n b) (Low3 n b 0) 48 (low2 n b 48 0 hex_digits.0) (finishes-low3 n b 0 h g (omega arith))

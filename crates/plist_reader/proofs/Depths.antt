@@ -81,13 +81,16 @@ no_way : (brackets : List Open) → false ≡ true → brackets ≡ []
 no_way brackets e = absurd (false≢true e)
 
 -- another token, with the same values and brackets
-token-placed : (nodes : List TreeNode) (brackets : List Open) (phase : Phase) (t u : Token) (text more bytes made : List ℕ) (p q : ℕ) → p ≤ q → Placed (in_token nodes brackets phase t text bytes) p → Placed (in_token nodes brackets phase u more made) q
+token-placed : (nodes : List TreeNode) (brackets : List Open) (phase : Phase) (t u : Token) (text more bytes made : List ℕ) (p q : ℕ) → p ≤ q
+    → Placed (in_token nodes brackets phase t text bytes) p → Placed (in_token nodes brackets phase u more made) q
 token-placed nodes brackets phase t u text more bytes made p q l h = record { outside = h.outside; nodes = ended-later p q nodes l h.nodes; brackets = In-later p q brackets l h.brackets; shallow = h.shallow }
 
-phase-placed : (nodes : List TreeNode) (brackets : List Open) (phase next : Phase) (p q : ℕ) → p ≤ q → is_end next ≡ false → Placed (ready nodes brackets phase) p → Placed (ready nodes brackets next) q
+phase-placed : (nodes : List TreeNode) (brackets : List Open) (phase next : Phase) (p q : ℕ) → p ≤ q → is_end next ≡ false → Placed (ready nodes brackets phase) p
+    → Placed (ready nodes brackets next) q
 phase-placed nodes brackets phase next p q l e h = record { outside = λ f. no_way brackets (sym e ∙ f); nodes = ended-later p q nodes l h.nodes; brackets = In-later p q brackets l h.brackets; shallow = h.shallow }
 
-opened-placed : (nodes : List TreeNode) (brackets : List Open) (phase next : Phase) (b : Open) (p q : ℕ) → p < q → is_end next ≡ false → at_of b < q → length brackets < 64 → Placed (ready nodes brackets phase) p → Placed (ready nodes (b ∷ brackets) next) q
+opened-placed : (nodes : List TreeNode) (brackets : List Open) (phase next : Phase) (b : Open) (p q : ℕ) → p < q → is_end next ≡ false → at_of b < q → length brackets < 64
+    → Placed (ready nodes brackets phase) p → Placed (ready nodes (b ∷ brackets) next) q
 opened-placed nodes brackets phase next b p q l e a d h = record { outside = λ f. no_way (b ∷ brackets) (sym e ∙ f); nodes = ended-later p q nodes (omega arith) h.nodes; brackets = (a, In-later p q brackets (omega arith) h.brackets); shallow = omega (arith, d) }
 
 settled-placed : (nodes : List TreeNode) (brackets : List Open) (number p : ℕ) → Ended p nodes → In p brackets → length brackets ≤ 64 → Placed (settled nodes brackets number) p
@@ -95,7 +98,8 @@ settled-placed nodes [] number p n b s = record { outside = λ f. refl; nodes = 
 settled-placed nodes (Items at done ∷ outer) number p n b s = record { outside = no_way (Items at (done ++ number ∷ []) ∷ outer); nodes = n; brackets = b; shallow = s }
 settled-placed nodes (Pairs d ∷ outer) number p n b s = record { outside = no_way (Pairs (record d { pairs = d.pairs ++ (d.key, number) ∷ [] }) ∷ outer); nodes = n; brackets = b; shallow = s }
 
-text-placed : (nodes : List TreeNode) (brackets : List Open) (phase : Phase) (token : Token) (at end p q : ℕ) (text : List ℕ) (s : Reader) → TextEnds nodes brackets phase at end text s → p ≤ q → end ≤ q → Placed (in_token nodes brackets phase token text []) p → Placed s q
+text-placed : (nodes : List TreeNode) (brackets : List Open) (phase : Phase) (token : Token) (at end p q : ℕ) (text : List ℕ) (s : Reader)
+    → TextEnds nodes brackets phase at end text s → p ≤ q → end ≤ q → Placed (in_token nodes brackets phase token text []) p → Placed s q
 text-placed nodes _ _ token _ _ p q _ _ (as_value brackets phase at end text a) l e h =
     settled-placed (nodes ++ node at end (tree.Text text) ∷ []) brackets (length nodes) q (ended-push p q nodes (node at end (tree.Text text)) l e h.nodes) (In-later p q brackets l h.brackets) h.shallow
 text-placed nodes _ _ token _ _ p q _ _ (as_key d outer at end text a) l e h = record {
@@ -121,7 +125,8 @@ moves-placed place c q _ _ l (list_ends nodes at done outer phase) h =
 moves-placed place c q _ _ l (dictionary_ends nodes d outer) h =
     settled-placed (nodes ++ node d.place (place + 1) (tree.Pairs d.pairs) ∷ []) outer (length nodes) q (ended-push place q nodes (node d.place (place + 1) (tree.Pairs d.pairs)) (omega arith) (omega arith) h.nodes) (In-later place q outer (omega arith) h.brackets.1) (omega (arith, h.shallow))
 moves-placed place c q _ _ l (word_more nodes brackets phase at text b w) h = token-placed nodes brackets phase _ _ text _ [] [] place q (omega arith) h
-moves-placed place c q _ _ l (word_ends nodes brackets phase at text u s w t m) h = moves-placed place c q u s l m (text-placed nodes brackets phase _ at place place place text u t (omega arith) (omega arith) h)
+moves-placed place c q _ _ l (word_ends nodes brackets phase at text u s w t m) h =
+    moves-placed place c q u s l m (text-placed nodes brackets phase _ at place place place text u t (omega arith) (omega arith) h)
 moves-placed place c q _ _ l (string_more nodes brackets phase at text b n m) h = token-placed nodes brackets phase _ _ text _ [] [] place q (omega arith) h
 moves-placed place c q _ _ l (string_ends nodes brackets phase at text s e t) h = text-placed nodes brackets phase _ at (place + 1) place q text s t (omega arith) (omega arith) h
 moves-placed place c q _ _ l (escape_begins nodes brackets phase at text b e) h = token-placed nodes brackets phase _ _ text text [] [] place q (omega arith) h
@@ -140,7 +145,8 @@ start-placed = record { outside = λ e. refl; nodes = λ q l. refl; brackets = t
 
 pub reached-placed : (front : List ℕ) (r : Reader) → Reached front r → Placed r (width front)
 reached-placed _ _ at_start = start-placed
-reached-placed _ _ (onward front r s c i h e) = moves-placed (width front) c (width (front ++ c ∷ [])) r s (omega (arith, width-push front c, len_utf8_bounds c)) (reached-moves front r s c h e) (reached-placed front r h)
+reached-placed _ _ (onward front r s c i h e) =
+    moves-placed (width front) c (width (front ++ c ∷ [])) r s (omega (arith, width-push front c, len_utf8_bounds c)) (reached-moves front r s c h e) (reached-placed front r h)
 
 -- ---- the count stays the same
 
@@ -153,7 +159,8 @@ before-settled p number nodes (Items at done ∷ outer) = refl
 before-settled p number nodes (Pairs d ∷ outer) = refl
 
 -- a bracket that closes behind the place is counted among the nodes in its stead
-closed-count : (p at place : ℕ) (nodes : List TreeNode) (n : TreeNode) (outer : List Open) → p ≤ place → is_open_at p n ≡ (ltb at p && ltb p (place + 1)) → Count p (settled (nodes ++ n ∷ []) outer (length nodes)) ≡ open_at p nodes + (bit (ltb at p) + before p outer)
+closed-count : (p at place : ℕ) (nodes : List TreeNode) (n : TreeNode) (outer : List Open) → p ≤ place → is_open_at p n ≡ (ltb at p && ltb p (place + 1))
+    → Count p (settled (nodes ++ n ∷ []) outer (length nodes)) ≡ open_at p nodes + (bit (ltb at p) + before p outer)
 closed-count p at place nodes n outer l e =
     let behind : ltb p (place + 1) ≡ true = lt-ltb p (place + 1) (omega arith) in
     let counted : bit (is_open_at p n) ≡ bit (ltb at p) = ap bit e ∙ rw behind (both (ltb at p)) in
@@ -164,14 +171,17 @@ closed-count p at place nodes n outer l e =
     both false = refl
 
 -- a text or a byte string is none
-token-count : (p : ℕ) (nodes : List TreeNode) (n : TreeNode) (brackets : List Open) → is_open_at p n ≡ false → Count p (settled (nodes ++ n ∷ []) brackets (length nodes)) ≡ open_at p nodes + before p brackets
+token-count : (p : ℕ) (nodes : List TreeNode) (n : TreeNode) (brackets : List Open) → is_open_at p n ≡ false
+    → Count p (settled (nodes ++ n ∷ []) brackets (length nodes)) ≡ open_at p nodes + before p brackets
 token-count p nodes n brackets e = let counted : bit (is_open_at p n) ≡ 0 = ap bit e in before-settled p (length nodes) (nodes ++ n ∷ []) brackets ∙ omega (arith, open_at-push p nodes n, counted)
 
-text-count : (p : ℕ) (nodes : List TreeNode) (brackets : List Open) (phase : Phase) (at end : ℕ) (text : List ℕ) (s : Reader) → TextEnds nodes brackets phase at end text s → Count p s ≡ open_at p nodes + before p brackets
+text-count : (p : ℕ) (nodes : List TreeNode) (brackets : List Open) (phase : Phase) (at end : ℕ) (text : List ℕ) (s : Reader) → TextEnds nodes brackets phase at end text s
+    → Count p s ≡ open_at p nodes + before p brackets
 text-count p nodes _ _ _ _ _ _ (as_value brackets phase at end text a) = token-count p nodes (node at end (tree.Text text)) brackets refl
 text-count p nodes _ _ _ _ _ _ (as_key d outer at end text a) = omega (arith, open_at-push p nodes (node at end (tree.Text text)))
 
-opened-count : (p place : ℕ) (nodes : List TreeNode) (b : Open) (brackets : List Open) → p ≤ place → at_of b ≡ place → open_at p nodes + (bit (ltb (at_of b) p) + before p brackets) ≡ open_at p nodes + before p brackets
+opened-count : (p place : ℕ) (nodes : List TreeNode) (b : Open) (brackets : List Open) → p ≤ place → at_of b ≡ place
+    → open_at p nodes + (bit (ltb (at_of b) p) + before p brackets) ≡ open_at p nodes + before p brackets
 opened-count p place nodes b brackets l e = let behind : bit (ltb (at_of b) p) ≡ 0 = rw (e, le-ltb place p l) refl in omega (arith, behind)
 
 pub moves-count : (p place c : ℕ) (r s : Reader) → p ≤ place → Moves place c r s → Count p s ≡ Count p r

@@ -59,7 +59,8 @@ keys-more nodes more (p ∷ pairs) (k ∷ keys) h =
     let b = keys-more nodes more pairs keys c.1 in
     ap (λ z. z ∷ map (λ pair. text_at (nodes ++ more) pair.0) pairs) a ∙ ap (λ z. Some k ∷ z) b
 
-keys-push : (nodes : List TreeNode) (pairs : List (ℕ × ℕ)) (keys : List (List ℕ)) (n number : ℕ) (key : List ℕ) → HasKeys nodes pairs keys → text_at nodes n ≡ Some key → HasKeys nodes (pairs ++ (n, number) ∷ []) (keys ++ key ∷ [])
+keys-push : (nodes : List TreeNode) (pairs : List (ℕ × ℕ)) (keys : List (List ℕ)) (n number : ℕ) (key : List ℕ) → HasKeys nodes pairs keys → text_at nodes n ≡ Some key
+    → HasKeys nodes (pairs ++ (n, number) ∷ []) (keys ++ key ∷ [])
 keys-push nodes [] [] n number key h e = ap (λ z. z ∷ []) e
 keys-push nodes [] (k ∷ keys) n number key h e = cc
 keys-push nodes (p ∷ pairs) [] n number key h e = cc
@@ -136,13 +137,17 @@ each-more : (cs : List ℕ) (nodes more : List TreeNode) (earlier pairs : List (
 each-more cs nodes more earlier [] h = tt
 each-more cs nodes more earlier (p ∷ pairs) h = (began-more cs nodes more earlier p.0 h.0, each-more cs nodes more (earlier ++ p ∷ []) pairs h.1)
 
-each-push : (cs : List ℕ) (nodes : List TreeNode) (earlier pairs : List (ℕ × ℕ)) (n number : ℕ) → EachBegan cs nodes earlier pairs → Began cs nodes (earlier ++ pairs) n → EachBegan cs nodes earlier (pairs ++ (n, number) ∷ [])
+each-push : (cs : List ℕ) (nodes : List TreeNode) (earlier pairs : List (ℕ × ℕ)) (n number : ℕ) → EachBegan cs nodes earlier pairs → Began cs nodes (earlier ++ pairs) n
+    → EachBegan cs nodes earlier (pairs ++ (n, number) ∷ [])
 each-push cs nodes earlier [] n number h k = (subst (λ (x : List (ℕ × ℕ)). Began cs nodes x n) (append-nil earlier) k, tt)
-each-push cs nodes earlier (p ∷ pairs) n number h k = (h.0, each-push cs nodes (earlier ++ p ∷ []) pairs n number h.1 (subst (λ (x : List (ℕ × ℕ)). Began cs nodes x n) (sym (append_assoc earlier (p ∷ []) pairs)) k))
+each-push cs nodes earlier (p ∷ pairs) n number h k =
+    (h.0, each-push cs nodes (earlier ++ p ∷ []) pairs n number h.1 (subst (λ (x : List (ℕ × ℕ)). Began cs nodes x n) (sym (append_assoc earlier (p ∷ []) pairs)) k))
 
-each-at : (cs : List ℕ) (nodes : List TreeNode) (earlier pairs : List (ℕ × ℕ)) (n number : ℕ) (later : List (ℕ × ℕ)) → EachBegan cs nodes earlier (pairs ++ (n, number) ∷ later) → Began cs nodes (earlier ++ pairs) n
+each-at : (cs : List ℕ) (nodes : List TreeNode) (earlier pairs : List (ℕ × ℕ)) (n number : ℕ) (later : List (ℕ × ℕ)) → EachBegan cs nodes earlier (pairs ++ (n, number) ∷ later)
+    → Began cs nodes (earlier ++ pairs) n
 each-at cs nodes earlier [] n number later h = subst (λ (x : List (ℕ × ℕ)). Began cs nodes x n) (sym (append-nil earlier)) h.0
-each-at cs nodes earlier (p ∷ pairs) n number later h = subst (λ (x : List (ℕ × ℕ)). Began cs nodes x n) (append_assoc earlier (p ∷ []) pairs) (each-at cs nodes (earlier ++ p ∷ []) pairs n number later h.1)
+each-at cs nodes earlier (p ∷ pairs) n number later h =
+    subst (λ (x : List (ℕ × ℕ)). Began cs nodes x n) (append_assoc earlier (p ∷ []) pairs) (each-at cs nodes (earlier ++ p ∷ []) pairs n number later h.1)
 
 -- the keys of these pairs are these texts, and began so
 abbrev Tells : List ℕ → List TreeNode → List (ℕ × ℕ) → List (List ℕ) → Type 0
@@ -229,17 +234,21 @@ done-push cs nodes n h k =
     let all = nodes ++ n ∷ [] in
     All-push (λ m. IsListed cs all m.value) nodes n (All-weaker (λ m. IsListed cs nodes m.value) (λ m. IsListed cs all m.value) (λ m q. listed-more cs nodes (n ∷ []) m.value q) nodes h) (listed-more cs nodes (n ∷ []) n.value k)
 
-settled-listed : (cs : List ℕ) (nodes : List TreeNode) (brackets : List Open) (number : ℕ) → AllAwait cs nodes brackets → AllByRecursion NewIn brackets → Done cs nodes → Listed cs (settled nodes brackets number)
+settled-listed : (cs : List ℕ) (nodes : List TreeNode) (brackets : List Open) (number : ℕ) → AllAwait cs nodes brackets → AllByRecursion NewIn brackets → Done cs nodes
+    → Listed cs (settled nodes brackets number)
 settled-listed cs nodes [] number h k d = record { keys = tt; new_keys = tt; done = d }
 settled-listed cs nodes (Items at done ∷ outer) number h k d = record { keys = (tt, h.1); new_keys = (tt, k.1); done = d }
 settled-listed cs nodes (Pairs e ∷ outer) number h k d = record { keys = (h.0 number, h.1); new_keys = (k.0, k.1); done = d }
 
-value-listed : (cs : List ℕ) (nodes : List TreeNode) (n : TreeNode) (brackets : List Open) → AllAwait cs nodes brackets → AllByRecursion NewIn brackets → Done cs nodes → IsListed cs nodes n.value → Listed cs (settled (nodes ++ n ∷ []) brackets (length nodes))
+value-listed : (cs : List ℕ) (nodes : List TreeNode) (n : TreeNode) (brackets : List Open) → AllAwait cs nodes brackets → AllByRecursion NewIn brackets → Done cs nodes
+    → IsListed cs nodes n.value → Listed cs (settled (nodes ++ n ∷ []) brackets (length nodes))
 value-listed cs nodes n brackets h k d v = settled-listed cs (nodes ++ n ∷ []) brackets (length nodes) (await-more cs nodes (n ∷ []) brackets h) k (done-push cs nodes n d v)
 
-ended-listed : (cs front rest : List ℕ) (nodes : List TreeNode) (brackets : List Open) (phase : Phase) (token : Token) (at end : ℕ) (text : List ℕ) (u : Reader) → cs ≡ front ++ rest → TextEnds nodes brackets phase at end text u → Started front at nodes brackets phase
+ended-listed : (cs front rest : List ℕ) (nodes : List TreeNode) (brackets : List Open) (phase : Phase) (token : Token) (at end : ℕ) (text : List ℕ) (u : Reader)
+    → cs ≡ front ++ rest → TextEnds nodes brackets phase at end text u → Started front at nodes brackets phase
     → Listed cs (in_token nodes brackets phase token text []) → Listed cs u
-ended-listed cs front rest nodes _ _ token _ _ _ _ e (as_value brackets phase at end text a) b h = value-listed cs nodes (node at end (tree.Text text)) brackets (awaiting-keys cs nodes phase brackets a h.keys) h.new_keys h.done tt
+ended-listed cs front rest nodes _ _ token _ _ _ _ e (as_value brackets phase at end text a) b h =
+    value-listed cs nodes (node at end (tree.Text text)) brackets (awaiting-keys cs nodes phase brackets a h.keys) h.new_keys h.done tt
 ended-listed cs front rest nodes _ _ token _ _ _ _ e (as_key d outer at end text n) b h =
     let more = node at end (tree.Text text) ∷ [] in
     let now = tells-more cs nodes more d.pairs d.keys h.keys.0 in
@@ -255,7 +264,8 @@ ended-listed cs front rest nodes _ _ token _ _ _ _ e (as_key d outer at end text
       done = done-push cs nodes (node at end (tree.Text text)) h.done tt;
     }
 
-token-listed : (cs : List ℕ) (nodes : List TreeNode) (brackets : List Open) (phase : Phase) (t u : Token) (text more bytes made : List ℕ) → Listed cs (in_token nodes brackets phase t text bytes) → Listed cs (in_token nodes brackets phase u more made)
+token-listed : (cs : List ℕ) (nodes : List TreeNode) (brackets : List Open) (phase : Phase) (t u : Token) (text more bytes made : List ℕ)
+    → Listed cs (in_token nodes brackets phase t text bytes) → Listed cs (in_token nodes brackets phase u more made)
 token-listed cs nodes brackets phase t u text more bytes made h = record { keys = h.keys; new_keys = h.new_keys; done = h.done }
 
 moves-listed : (cs front rest : List ℕ) (place c : ℕ) (r s : Reader) → cs ≡ front ++ rest → Moves place c r s → StartOf r front → Listed cs r → Listed cs s
@@ -268,10 +278,13 @@ moves-listed cs front rest place c _ _ q (dictionary_begins nodes brackets phase
 moves-listed cs front rest place c _ _ q (comma nodes brackets) b h = record { keys = h.keys; new_keys = h.new_keys; done = h.done }
 moves-listed cs front rest place c _ _ q (equals nodes brackets) b h = record { keys = h.keys; new_keys = h.new_keys; done = h.done }
 moves-listed cs front rest place c _ _ q (semicolon nodes brackets) b h = record { keys = h.keys; new_keys = h.new_keys; done = h.done }
-moves-listed cs front rest place c _ _ q (list_ends nodes at done outer phase) b h = value-listed cs nodes (node at (place + 1) (tree.Items done)) outer (items-keys cs nodes phase at done outer h.keys) h.new_keys.1 h.done tt
-moves-listed cs front rest place c _ _ q (dictionary_ends nodes d outer) b h = value-listed cs nodes (node d.place (place + 1) (tree.Pairs d.pairs)) outer h.keys.1 h.new_keys.1 h.done (record { keys = d.keys; texts = h.keys.0.0; differ = h.new_keys.0 }, h.keys.0.1)
+moves-listed cs front rest place c _ _ q (list_ends nodes at done outer phase) b h =
+    value-listed cs nodes (node at (place + 1) (tree.Items done)) outer (items-keys cs nodes phase at done outer h.keys) h.new_keys.1 h.done tt
+moves-listed cs front rest place c _ _ q (dictionary_ends nodes d outer) b h =
+    value-listed cs nodes (node d.place (place + 1) (tree.Pairs d.pairs)) outer h.keys.1 h.new_keys.1 h.done (record { keys = d.keys; texts = h.keys.0.0; differ = h.new_keys.0 }, h.keys.0.1)
 moves-listed cs front rest place c _ _ q (word_more nodes brackets phase at text k w) b h = token-listed cs nodes brackets phase _ _ text _ [] [] h
-moves-listed cs front rest place c _ _ q (word_ends nodes brackets phase at text u s w t m) b h = moves-listed cs front rest place c u s q m (none-started u front (ends-between nodes brackets phase at place text u t)) (ended-listed cs front rest nodes brackets phase _ at place text u q t b h)
+moves-listed cs front rest place c _ _ q (word_ends nodes brackets phase at text u s w t m) b h =
+    moves-listed cs front rest place c u s q m (none-started u front (ends-between nodes brackets phase at place text u t)) (ended-listed cs front rest nodes brackets phase _ at place text u q t b h)
 moves-listed cs front rest place c _ _ q (string_more nodes brackets phase at text k n m) b h = token-listed cs nodes brackets phase _ _ text _ [] [] h
 moves-listed cs front rest place c _ _ q (string_ends nodes brackets phase at text s e t) b h = ended-listed cs front rest nodes brackets phase _ at (place + 1) text s q t b h
 moves-listed cs front rest place c _ _ q (escape_begins nodes brackets phase at text k e) b h = token-listed cs nodes brackets phase _ _ text text [] [] h
@@ -281,7 +294,8 @@ moves-listed cs front rest place c _ _ q (space_in_bytes nodes brackets phase at
 moves-listed cs front rest place c _ _ q (first_digit nodes brackets phase at x bytes e) b h = token-listed cs nodes brackets phase _ _ [] [] bytes bytes h
 moves-listed cs front rest place c _ _ q (space_in_half nodes brackets phase at high bytes) b h = h
 moves-listed cs front rest place c _ _ q (second_digit nodes brackets phase at high byte bytes) b h = token-listed cs nodes brackets phase _ _ [] [] bytes _ h
-moves-listed cs front rest place c _ _ q (bytes_end nodes brackets phase at bytes a) b h = value-listed cs nodes (node at (place + 1) (tree.Bytes bytes)) brackets (awaiting-keys cs nodes phase brackets a h.keys) h.new_keys h.done tt
+moves-listed cs front rest place c _ _ q (bytes_end nodes brackets phase at bytes a) b h =
+    value-listed cs nodes (node at (place + 1) (tree.Bytes bytes)) brackets (awaiting-keys cs nodes phase brackets a h.keys) h.new_keys h.done tt
 
 closes-listed : (cs : List ℕ) (place : ℕ) (r : Reader) (t : Tree) → Closes place r t → Listed cs r → Done cs t.nodes
 closes-listed cs place _ _ (closes_between nodes brackets number) h = h.done

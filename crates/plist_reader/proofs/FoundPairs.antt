@@ -46,7 +46,8 @@ known-never nodes (p ∷ earlier) later number value key before (x ∷ keys) h a
 found-among : (t : Tree) (earlier later : List (ℕ × ℕ)) (number value : ℕ) (key : List ℕ) (before keys : List (List ℕ))
     → HasKeys t.nodes (earlier ++ (number, value) ∷ later) keys → AreNew before keys → text_at t.nodes number ≡ Some key
     → value_with t key (earlier ++ (number, value) ∷ later) ≡ Some value
-found-among t [] later number value key before keys h a e = ap (λ x. if spells key x then Some value else value_with t key later) e ∙ ap (λ x. if x then Some value else value_with t key later) (same_bytes key)
+found-among t [] later number value key before keys h a e =
+    ap (λ x. if spells key x then Some value else value_with t key later) e ∙ ap (λ x. if x then Some value else value_with t key later) (same_bytes key)
 found-among t (p ∷ earlier) later number value key before [] h a e = cc
 found-among t (p ∷ earlier) later number value key before (x ∷ keys) h a e =
     let c = cons_parts (text_at t.nodes p.0) (Some x) (map (λ pair. text_at t.nodes pair.0) (earlier ++ (number, value) ∷ later)) (map (λ key. Some key) keys) h in

@@ -134,7 +134,8 @@ escape_begun-in front text at place c e f h = record {
   fits = begun;
 }
 
-escape_more-in : (front text : List ℕ) (at back c : ℕ) (escape next : EscapeState) → escape_next escape c ≡ More next → EscapeIn front at back escape text → EscapeIn (front ++ c ∷ []) at back next text
+escape_more-in : (front text : List ℕ) (at back c : ℕ) (escape next : EscapeState) → escape_next escape c ≡ More next → EscapeIn front at back escape text
+    → EscapeIn (front ++ c ∷ []) at back next text
 escape_more-in front text at back c escape next e h =
     let M : Escaped → Type 0 = λ x. Means (h.first ++ c ∷ []) x in
     record {
@@ -148,7 +149,8 @@ escape_more-in front text at back c escape next e h =
       fits = subst M e (means-next escape h.first h.fits c);
     }
 
-escape_end-in : (front text : List ℕ) (at back c character : ℕ) (escape : EscapeState) → escape_next escape c ≡ Whole character → EscapeIn front at back escape text → StringIn (front ++ c ∷ []) at (text ++ encode character)
+escape_end-in : (front text : List ℕ) (at back c character : ℕ) (escape : EscapeState) → escape_next escape c ≡ Whole character → EscapeIn front at back escape text
+    → StringIn (front ++ c ∷ []) at (text ++ encode character)
 escape_end-in front text at back c character escape e h =
     let M : Escaped → Type 0 = λ x. Means (h.first ++ c ∷ []) x in
     record {

@@ -176,7 +176,8 @@ octal2 x y c z h = rw h refl
 low_digits : (x y z w low : ℕ) → x < 16 → y < 16 → z < 16 → w < 16 → low ≡ x * 4096 + y * 256 + z * 16 + w → IsLow low → (x ≡ 13) × (12 ≤ y)
 low_digits x y z w low hx hy hz hw e l = let first : x ≡ 13 = omega (arith, e, l.0, l.1) in (first, omega (arith, e, first, l.0, l.1))
 
-pair_code : (high low x y z w : ℕ) → low ≡ x * 4096 + y * 256 + z * 16 + w → x ≡ 13 → 12 ≤ y → IsHigh high → 0x1_0000 + (high - 0xD800) * 1024 + ((y - 12) * 256 + z * 16 + w) ≡ 0x1_0000 + (high - 0xD800) * 1024 + (low - 0xDC00)
+pair_code : (high low x y z w : ℕ) → low ≡ x * 4096 + y * 256 + z * 16 + w → x ≡ 13 → 12 ≤ y → IsHigh high
+    → 0x1_0000 + (high - 0xD800) * 1024 + ((y - 12) * 256 + z * 16 + w) ≡ 0x1_0000 + (high - 0xD800) * 1024 + (low - 0xDC00)
 pair_code high low x y z w e f g h = omega (arith, e, f, g)
 
 pair_scalar : (high low : ℕ) → IsHigh high → IsLow low → scalar (0x1_0000 + (high - 0xD800) * 1024 + (low - 0xDC00)) ≡ true
@@ -271,12 +272,14 @@ pub step-escape_more : (nodes : List TreeNode) (brackets : List Open) (phase : P
 unfolding step
 step-escape_more nodes brackets phase at back place c escape next text h = rw h refl
 
-pub step-escape_whole : (nodes : List TreeNode) (brackets : List Open) (phase : Phase) (at back place c : ℕ) (escape : EscapeState) (character : ℕ) (text : List ℕ) → escape_next escape c ≡ Whole character
+pub step-escape_whole : (nodes : List TreeNode) (brackets : List Open) (phase : Phase) (at back place c : ℕ) (escape : EscapeState) (character : ℕ) (text : List ℕ)
+    → escape_next escape c ≡ Whole character
     → step (in_token nodes brackets phase (Escape at back escape) text []) place c ≡ Ok (in_token nodes brackets phase (Quoted at) (text ++ encode character) [])
 unfolding step
 step-escape_whole nodes brackets phase at back place c escape character text h = rw h refl
 
-pub run-escape : (cs : List ℕ) (nodes : List TreeNode) (brackets : List Open) (phase : Phase) (at back place : ℕ) (escape : EscapeState) (character : ℕ) (text rest : List ℕ) → Reads escape cs character
+pub run-escape : (cs : List ℕ) (nodes : List TreeNode) (brackets : List Open) (phase : Phase) (at back place : ℕ) (escape : EscapeState) (character : ℕ) (text rest : List ℕ)
+    → Reads escape cs character
     → run (in_token nodes brackets phase (Escape at back escape) text []) place (cs ++ rest) ≡ run (in_token nodes brackets phase (Quoted at) (text ++ encode character) []) (place + width cs) rest
 run-escape [] nodes brackets phase at back place escape character text rest h = elim h [ ]
 run-escape (c ∷ []) nodes brackets phase at back place escape character text rest h =

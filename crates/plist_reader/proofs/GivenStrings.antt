@@ -23,7 +23,8 @@ use Rattle.plist_reader.proofs.GivenEscapes.{reads-escape, run-escape}
 
 -- ---- quoted strings
 
-pub step-quote_begun : (nodes : List TreeNode) (brackets : List Open) (phase : Phase) (place : ℕ) → CanBegin phase → step (ready nodes brackets phase) place 34 ≡ Ok (in_token nodes brackets phase (Quoted place) [] [])
+pub step-quote_begun : (nodes : List TreeNode) (brackets : List Open) (phase : Phase) (place : ℕ) → CanBegin phase
+    → step (ready nodes brackets phase) place 34 ≡ Ok (in_token nodes brackets phase (Quoted place) [] [])
 unfolding step between value_begun text_begun is_space
 step-quote_begun nodes brackets Value place h = refl
 step-quote_begun nodes brackets Item place h = refl
@@ -62,7 +63,8 @@ run-quoted _ _ (escaped c escape cs bytes e q) nodes brackets phase at place tex
 digit_is : ℕ → Bool
 digit_is c = is_some (hex_value c)
 
-pub step-angle_begun : (nodes : List TreeNode) (brackets : List Open) (phase : Phase) (place : ℕ) → IsAwaiting phase → step (ready nodes brackets phase) place 60 ≡ Ok (in_token nodes brackets phase (Bytes place) [] [])
+pub step-angle_begun : (nodes : List TreeNode) (brackets : List Open) (phase : Phase) (place : ℕ) → IsAwaiting phase
+    → step (ready nodes brackets phase) place 60 ≡ Ok (in_token nodes brackets phase (Bytes place) [] [])
 unfolding step between value_begun is_space
 step-angle_begun nodes brackets Value place h = refl
 step-angle_begun nodes brackets Item place h = refl
@@ -202,7 +204,8 @@ run-text cs bytes (inr (inner, e, q)) nodes brackets phase place rest a s =
     ∙ run_same _ _ (place + 1 + width inner + 1) (place + width cs) rest (ap (λ p. settled (nodes ++ node place p (tree.Text bytes) ∷ []) brackets (length nodes)) (omega (arith, w))) (omega (arith, w))
 
 -- a byte string
-pub run-bytes : (cs inner bytes : List ℕ) → cs ≡ 60 ∷ (inner ++ 62 ∷ []) → IsHex inner bytes → (nodes : List TreeNode) (brackets : List Open) (phase : Phase) (place : ℕ) (rest : List ℕ) → IsAwaiting phase
+pub run-bytes : (cs inner bytes : List ℕ) → cs ≡ 60 ∷ (inner ++ 62 ∷ []) → IsHex inner bytes
+    → (nodes : List TreeNode) (brackets : List Open) (phase : Phase) (place : ℕ) (rest : List ℕ) → IsAwaiting phase
     → run (ready nodes brackets phase) place (cs ++ rest) ≡ run (settled (nodes ++ node place (place + width cs) (tree.Bytes bytes) ∷ []) brackets (length nodes)) (place + width cs) rest
 run-bytes cs inner bytes e q nodes brackets phase place rest a =
     let w : width cs ≡ 1 + (width inner + 1) = ap width e ∙ omega (arith, width-append inner (62 ∷ [])) in

@@ -50,7 +50,8 @@ marks = (refl, refl, refl, refl)
 
 -- ---- marks
 
-step-list_begun : (nodes : List TreeNode) (brackets : List Open) (phase : Phase) (place : ℕ) → IsAwaiting phase → length brackets < 64 → step (ready nodes brackets phase) place 40 ≡ Ok (ready nodes (Items place [] ∷ brackets) Item)
+step-list_begun : (nodes : List TreeNode) (brackets : List Open) (phase : Phase) (place : ℕ) → IsAwaiting phase → length brackets < 64
+    → step (ready nodes brackets phase) place 40 ≡ Ok (ready nodes (Items place [] ∷ brackets) Item)
 unfolding step between value_begun bracket_opened is_space
 step-list_begun nodes brackets Value place a h = rw (lt-ltb (length brackets) 64 h) refl
 step-list_begun nodes brackets Item place a h = rw (lt-ltb (length brackets) 64 h) refl
@@ -63,7 +64,8 @@ step-list_begun nodes brackets (End n) place a h = elim a [ ]
 abbrev pub opened : ℕ → Dictionary
 opened place = record { place = place; keys = []; pairs = []; key = 0 }
 
-step-dictionary_begun : (nodes : List TreeNode) (brackets : List Open) (phase : Phase) (place : ℕ) → IsAwaiting phase → length brackets < 64 → step (ready nodes brackets phase) place 123 ≡ Ok (ready nodes (Pairs (opened place) ∷ brackets) Key)
+step-dictionary_begun : (nodes : List TreeNode) (brackets : List Open) (phase : Phase) (place : ℕ) → IsAwaiting phase → length brackets < 64
+    → step (ready nodes brackets phase) place 123 ≡ Ok (ready nodes (Pairs (opened place) ∷ brackets) Key)
 unfolding step between value_begun bracket_opened is_space
 step-dictionary_begun nodes brackets Value place a h = rw (lt-ltb (length brackets) 64 h) refl
 step-dictionary_begun nodes brackets Item place a h = rw (lt-ltb (length brackets) 64 h) refl
@@ -80,15 +82,18 @@ list_end nodes at end numbers brackets = settled (nodes ++ node at end (tree.Ite
 abbrev pub dictionary_end : List TreeNode → ℕ → ℕ → List (ℕ × ℕ) → List Open → Reader
 dictionary_end nodes at end numbers brackets = settled (nodes ++ node at end (tree.Pairs numbers) ∷ []) brackets (length nodes)
 
-pub step-empty_list_end : (nodes : List TreeNode) (at place : ℕ) (done : List ℕ) (brackets : List Open) → step (ready nodes (Items at done ∷ brackets) Item) place 41 ≡ Ok (list_end nodes at (place + 1) done brackets)
+pub step-empty_list_end : (nodes : List TreeNode) (at place : ℕ) (done : List ℕ) (brackets : List Open)
+    → step (ready nodes (Items at done ∷ brackets) Item) place 41 ≡ Ok (list_end nodes at (place + 1) done brackets)
 unfolding step between list_closed value_ended is_space
 step-empty_list_end nodes at place done brackets = ap (λ r. Ok r) (settled_any (nodes ++ node at (place + 1) (tree.Items done) ∷ []) brackets brackets Item (length nodes))
 
-pub step-list_end : (nodes : List TreeNode) (at place : ℕ) (done : List ℕ) (brackets : List Open) → step (ready nodes (Items at done ∷ brackets) ItemEnd) place 41 ≡ Ok (list_end nodes at (place + 1) done brackets)
+pub step-list_end : (nodes : List TreeNode) (at place : ℕ) (done : List ℕ) (brackets : List Open)
+    → step (ready nodes (Items at done ∷ brackets) ItemEnd) place 41 ≡ Ok (list_end nodes at (place + 1) done brackets)
 unfolding step between list_closed value_ended is_space
 step-list_end nodes at place done brackets = ap (λ r. Ok r) (settled_any (nodes ++ node at (place + 1) (tree.Items done) ∷ []) brackets brackets ItemEnd (length nodes))
 
-pub step-dictionary_end : (nodes : List TreeNode) (place : ℕ) (d : Dictionary) (brackets : List Open) → step (ready nodes (Pairs d ∷ brackets) Key) place 125 ≡ Ok (dictionary_end nodes d.place (place + 1) d.pairs brackets)
+pub step-dictionary_end : (nodes : List TreeNode) (place : ℕ) (d : Dictionary) (brackets : List Open)
+    → step (ready nodes (Pairs d ∷ brackets) Key) place 125 ≡ Ok (dictionary_end nodes d.place (place + 1) d.pairs brackets)
 unfolding step between dictionary_closed value_ended is_space
 step-dictionary_end nodes place d brackets = ap (λ r. Ok r) (settled_any (nodes ++ node d.place (place + 1) (tree.Pairs d.pairs) ∷ []) brackets brackets Key (length nodes))
 
@@ -143,11 +148,15 @@ run-key cs key (inr (inner, e, q)) nodes d brackets place rest h m =
 settled_same : (r s : List TreeNode) (brackets : List Open) (m n p q : ℕ) (rest : List ℕ) → r ≡ s → m ≡ n → p ≡ q → run (settled r brackets m) p rest ≡ run (settled s brackets n) q rest
 settled_same r s brackets m n p q rest e f g = ap (λ x. run (settled x brackets m) p rest) e ∙ ap (λ x. run (settled s brackets x) p rest) f ∙ ap (λ x. run (settled s brackets n) x rest) g
 
-list_end_same : (r s : List TreeNode) (at p q : ℕ) (xs ys : List ℕ) (brackets : List Open) (rest : List ℕ) → r ≡ s → p ≡ q → xs ≡ ys → run (list_end r at p xs brackets) p rest ≡ run (list_end s at q ys brackets) q rest
-list_end_same r s at p q xs ys brackets rest e f g = ap (λ x. run (list_end x at p xs brackets) p rest) e ∙ ap (λ x. run (list_end s at x xs brackets) x rest) f ∙ ap (λ x. run (list_end s at q x brackets) q rest) g
+list_end_same : (r s : List TreeNode) (at p q : ℕ) (xs ys : List ℕ) (brackets : List Open) (rest : List ℕ) → r ≡ s → p ≡ q → xs ≡ ys
+    → run (list_end r at p xs brackets) p rest ≡ run (list_end s at q ys brackets) q rest
+list_end_same r s at p q xs ys brackets rest e f g =
+    ap (λ x. run (list_end x at p xs brackets) p rest) e ∙ ap (λ x. run (list_end s at x xs brackets) x rest) f ∙ ap (λ x. run (list_end s at q x brackets) q rest) g
 
-dictionary_end_same : (r s : List TreeNode) (at p q : ℕ) (xs ys : List (ℕ × ℕ)) (brackets : List Open) (rest : List ℕ) → r ≡ s → p ≡ q → xs ≡ ys → run (dictionary_end r at p xs brackets) p rest ≡ run (dictionary_end s at q ys brackets) q rest
-dictionary_end_same r s at p q xs ys brackets rest e f g = ap (λ x. run (dictionary_end x at p xs brackets) p rest) e ∙ ap (λ x. run (dictionary_end s at x xs brackets) x rest) f ∙ ap (λ x. run (dictionary_end s at q x brackets) q rest) g
+dictionary_end_same : (r s : List TreeNode) (at p q : ℕ) (xs ys : List (ℕ × ℕ)) (brackets : List Open) (rest : List ℕ) → r ≡ s → p ≡ q → xs ≡ ys
+    → run (dictionary_end r at p xs brackets) p rest ≡ run (dictionary_end s at q ys brackets) q rest
+dictionary_end_same r s at p q xs ys brackets rest e f g =
+    ap (λ x. run (dictionary_end x at p xs brackets) p rest) e ∙ ap (λ x. run (dictionary_end s at x xs brackets) x rest) f ∙ ap (λ x. run (dictionary_end s at q x brackets) q rest) g
 
 -- the nodes when a value has ended
 abbrev pub with_value : List TreeNode → grammar.Value → List TreeNode
@@ -163,7 +172,8 @@ with_value-length nodes v =
 pub item_parts : (gap text after tail rest : List ℕ) → (gap ++ (text ++ (after ++ tail))) ++ rest ≡ gap ++ (text ++ (after ++ (tail ++ rest)))
 item_parts gap text after tail rest = simp append_assoc
 
-pub entry_parts : (gap key before behind text after tail rest : List ℕ) → (gap ++ (key ++ (before ++ 61 ∷ (behind ++ (text ++ (after ++ 59 ∷ tail)))))) ++ rest ≡ gap ++ (key ++ (before ++ 61 ∷ (behind ++ (text ++ (after ++ 59 ∷ (tail ++ rest))))))
+pub entry_parts : (gap key before behind text after tail rest : List ℕ)
+    → (gap ++ (key ++ (before ++ 61 ∷ (behind ++ (text ++ (after ++ 59 ∷ tail)))))) ++ rest ≡ gap ++ (key ++ (before ++ 61 ∷ (behind ++ (text ++ (after ++ 59 ∷ (tail ++ rest))))))
 entry_parts gap key before behind text after tail rest = simp append_assoc
 
 -- nodes and numbers, one value on
@@ -190,12 +200,14 @@ node_same : (nodes : List TreeNode) (value : tree.the_data) (a b c d : ℕ) → 
 node_same nodes value a b c d e f = ap (λ p. nodes ++ node p d value ∷ []) (sym e) ∙ ap (λ p. nodes ++ node a p value ∷ []) (sym f)
 
 -- the nodes and numbers of the values that are left, from where the first has ended
-pub items_on : (nodes : List TreeNode) (v : grammar.Value) (vs : grammar.Values) → with_value nodes v ++ items_nodes vs (length (with_value nodes v)) ≡ nodes ++ items_nodes (grammar.AndValue v vs) (length nodes)
+pub items_on : (nodes : List TreeNode) (v : grammar.Value) (vs : grammar.Values)
+    → with_value nodes v ++ items_nodes vs (length (with_value nodes v)) ≡ nodes ++ items_nodes (grammar.AndValue v vs) (length nodes)
 items_on nodes v vs =
     let n = length nodes in
     ap (λ k. with_value nodes v ++ items_nodes vs k) (with_value-length nodes v) ∙ nodes_on nodes (inner_of v n) (items_nodes vs (n + length (inner_of v n) + 1)) (own_of v n)
 
-pub item_numbers_on : (nodes : List TreeNode) (v : grammar.Value) (vs : grammar.Values) (done : List ℕ) → (done ++ (length nodes + length (inner_of v (length nodes))) ∷ []) ++ items_numbers vs (length (with_value nodes v)) ≡ done ++ items_numbers (grammar.AndValue v vs) (length nodes)
+pub item_numbers_on : (nodes : List TreeNode) (v : grammar.Value) (vs : grammar.Values) (done : List ℕ)
+    → (done ++ (length nodes + length (inner_of v (length nodes))) ∷ []) ++ items_numbers vs (length (with_value nodes v)) ≡ done ++ items_numbers (grammar.AndValue v vs) (length nodes)
 item_numbers_on nodes v vs done =
     let n = length nodes in
     let number = n + length (inner_of v n) in
@@ -227,7 +239,8 @@ entry_numbers_on nodes at end key v es done =
     ∙ ap (λ x. done ++ (n, x + length (inner_of v x)) ∷ entries_numbers es (x + length (inner_of v x) + 1)) (with_key-length nodes k)
 
 mutual
-  run-value : (v : grammar.Value) (depth place : ℕ) (cs : List ℕ) → Spells v depth place cs → (nodes : List TreeNode) (brackets : List Open) (phase : Phase) (rest : List ℕ) → IsAwaiting phase → length brackets ≡ depth → Stops brackets rest
+  run-value : (v : grammar.Value) (depth place : ℕ) (cs : List ℕ) → Spells v depth place cs → (nodes : List TreeNode) (brackets : List Open) (phase : Phase) (rest : List ℕ)
+      → IsAwaiting phase → length brackets ≡ depth → Stops brackets rest
       → run (ready nodes brackets phase) place (cs ++ rest) ≡ run (settled (with_value nodes v) brackets (length nodes + length (inner_of v (length nodes)))) (place + width cs) rest
   run-value (grammar.Text at end bytes) depth place cs s nodes brackets phase rest a l st =
       run-text cs bytes s.2 nodes brackets phase place rest a st
@@ -260,7 +273,8 @@ mutual
       ∙ settled_same (all ++ node place (place + 1 + width inner + 1) value ∷ []) (nodes ++ (entries_nodes entries n ++ node at end value ∷ [])) brackets (length all) (n + length (entries_nodes entries n)) (place + 1 + width inner + 1) (place + width cs) rest
       (node_same all value at place end (place + 1 + width inner + 1) s.0 (s.1 ∙ omega (arith, w)) ∙ append_assoc nodes (entries_nodes entries n) (node at end value ∷ [])) (length-append nodes (entries_nodes entries n)) (omega (arith, w))
 
-  run-items : (items : grammar.Values) (depth place : ℕ) (cs : List ℕ) → SpellItems items depth place cs → (nodes : List TreeNode) (at : ℕ) (done : List ℕ) (brackets : List Open) (rest : List ℕ) → suc (length brackets) ≡ depth
+  run-items : (items : grammar.Values) (depth place : ℕ) (cs : List ℕ) → SpellItems items depth place cs
+      → (nodes : List TreeNode) (at : ℕ) (done : List ℕ) (brackets : List Open) (rest : List ℕ) → suc (length brackets) ≡ depth
       → run (ready nodes (Items at done ∷ brackets) Item) place (cs ++ 41 ∷ rest) ≡ run (list_end (nodes ++ items_nodes items (length nodes)) at (place + width cs + 1) (done ++ items_numbers items (length nodes)) brackets) (place + width cs + 1) rest
   run-items grammar.NoValues depth place cs s nodes at done brackets rest l =
       run-spaces cs (ready nodes (Items at done ∷ brackets) Item) place (41 ∷ rest) refl s
@@ -296,7 +310,8 @@ mutual
             (items_on nodes v vs) (omega (arith, w, ap width e.1)) (item_numbers_on nodes v vs done)
       ]
 
-  run-entries : (entries : grammar.Entries) (depth : ℕ) (keys : List (List ℕ)) (place : ℕ) (cs : List ℕ) → SpellEntries entries depth keys place cs → (nodes : List TreeNode) (d : Dictionary) (brackets : List Open) (rest : List ℕ) → d.keys ≡ keys → suc (length brackets) ≡ depth
+  run-entries : (entries : grammar.Entries) (depth : ℕ) (keys : List (List ℕ)) (place : ℕ) (cs : List ℕ) → SpellEntries entries depth keys place cs
+      → (nodes : List TreeNode) (d : Dictionary) (brackets : List Open) (rest : List ℕ) → d.keys ≡ keys → suc (length brackets) ≡ depth
       → run (ready nodes (Pairs d ∷ brackets) Key) place (cs ++ 125 ∷ rest) ≡ run (dictionary_end (nodes ++ entries_nodes entries (length nodes)) d.place (place + width cs + 1) (d.pairs ++ entries_numbers entries (length nodes)) brackets) (place + width cs + 1) rest
   run-entries grammar.NoEntries depth keys place cs s nodes d brackets rest k l =
       run-spaces cs (ready nodes (Pairs d ∷ brackets) Key) place (125 ∷ rest) refl s

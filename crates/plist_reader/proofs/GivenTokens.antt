@@ -32,7 +32,8 @@ in_token nodes brackets phase token text bytes = record { nodes = nodes; bracket
 abbrev pub settled : List TreeNode → List Open → ℕ → Reader
 settled nodes brackets number = ended_in (ready nodes brackets Value) number brackets
 
-pub settled_any : (nodes : List TreeNode) (brackets around : List Open) (phase : Phase) (number : ℕ) → ended_in (ready nodes brackets phase) number around ≡ ended_in (ready nodes brackets Value) number around
+pub settled_any : (nodes : List TreeNode) (brackets around : List Open) (phase : Phase) (number : ℕ)
+    → ended_in (ready nodes brackets phase) number around ≡ ended_in (ready nodes brackets Value) number around
 settled_any nodes brackets [] phase number = refl
 settled_any nodes brackets (Items at items ∷ outer) phase number = refl
 settled_any nodes brackets (Pairs d ∷ outer) phase number = refl
@@ -130,7 +131,8 @@ value_begun-word : (r : Reader) (place c : ℕ) → is_word c ≡ true → value
 unfolding value_begun
 value_begun-word r place c w = rw (not_word 40 c w mark_no_word.1, not_word 123 c w mark_no_word.4, not_word 60 c w mark_no_word.3) (text_begun-word r place c w)
 
-step-word_begun : (nodes : List TreeNode) (brackets : List Open) (phase : Phase) (place c : ℕ) → CanBegin phase → is_word c ≡ true → step (ready nodes brackets phase) place c ≡ Ok (in_token nodes brackets phase (Word place) (c ∷ []) [])
+step-word_begun : (nodes : List TreeNode) (brackets : List Open) (phase : Phase) (place c : ℕ) → CanBegin phase → is_word c ≡ true
+    → step (ready nodes brackets phase) place c ≡ Ok (in_token nodes brackets phase (Word place) (c ∷ []) [])
 unfolding step between
 step-word_begun nodes brackets Value place c h w = rw (word-no_space c w) (value_begun-word (ready nodes brackets Value) place c w)
 step-word_begun nodes brackets Item place c h w = rw (word-no_space c w, not_word 41 c w mark_no_word.2) (value_begun-word (ready nodes brackets Item) place c w)
@@ -140,7 +142,8 @@ step-word_begun nodes brackets KeyEnd place c h w = elim h [ ]
 step-word_begun nodes brackets PairEnd place c h w = elim h [ ]
 step-word_begun nodes brackets (End n) place c h w = elim h [ ]
 
-pub step-word : (nodes : List TreeNode) (brackets : List Open) (phase : Phase) (at place c : ℕ) (text : List ℕ) → is_word c ≡ true → step (in_token nodes brackets phase (Word at) text []) place c ≡ Ok (in_token nodes brackets phase (Word at) (text ++ c ∷ []) [])
+pub step-word : (nodes : List TreeNode) (brackets : List Open) (phase : Phase) (at place c : ℕ) (text : List ℕ) → is_word c ≡ true
+    → step (in_token nodes brackets phase (Word at) text []) place c ≡ Ok (in_token nodes brackets phase (Word at) (text ++ c ∷ []) [])
 unfolding step in_word
 step-word nodes brackets phase at place c text w = rw (w, encode_ascii c (word-ascii c w)) refl
 

@@ -55,7 +55,8 @@ reached-end cs t i e =
 
 -- ---- the first characters of an escape
 
-reads-more : (escape : EscapeState) (c : ℕ) (xs : List ℕ) (character : ℕ) → 0 < length xs → Reads escape (c ∷ xs) character → (next : EscapeState) × (escape_next escape c ≡ More next) × Reads next xs character
+reads-more : (escape : EscapeState) (c : ℕ) (xs : List ℕ) (character : ℕ) → 0 < length xs → Reads escape (c ∷ xs) character
+    → (next : EscapeState) × (escape_next escape c ≡ More next) × Reads next xs character
 reads-more escape c [] character l r = absurd (omega (arith, l))
 reads-more escape c (d ∷ ds) character l r = r
 
@@ -63,7 +64,8 @@ longer : (xs ys : List ℕ) → 0 < length ys → 0 < length (xs ++ ys)
 longer [] ys l = l
 longer (x ∷ xs) ys l = omega arith
 
-run-first : (cs more : List ℕ) (nodes : List TreeNode) (brackets : List Open) (phase : Phase) (at back place : ℕ) (escape : EscapeState) (character : ℕ) (text tail : List ℕ) → 0 < length more → Reads escape (cs ++ more) character
+run-first : (cs more : List ℕ) (nodes : List TreeNode) (brackets : List Open) (phase : Phase) (at back place : ℕ) (escape : EscapeState) (character : ℕ) (text tail : List ℕ)
+    → 0 < length more → Reads escape (cs ++ more) character
     → (next : EscapeState) × (run (in_token nodes brackets phase (Escape at back escape) text []) place (cs ++ tail) ≡ run (in_token nodes brackets phase (Escape at back next) text []) (place + width cs) tail)
 run-first [] more nodes brackets phase at back place escape character text tail l r = (escape, run_same _ _ place (place + 0) tail refl (omega arith))
 run-first (c ∷ cs) more nodes brackets phase at back place escape character text tail l r =
@@ -76,11 +78,13 @@ run-first (c ∷ cs) more nodes brackets phase at back place escape character te
 same_refusal : {A : Type 0} (x e : Refusal) (d : Result A Refusal) → d ≡ Err x → d ≡ Err e → e ≡ x
 same_refusal x e d h k = cc
 
-finish-string : (nodes : List TreeNode) (brackets : List Open) (phase : Phase) (at place : ℕ) (text : List ℕ) → finish (in_token nodes brackets phase (Quoted at) text []) place ≡ Err (refusal UnexpectedEnd place)
+finish-string : (nodes : List TreeNode) (brackets : List Open) (phase : Phase) (at place : ℕ) (text : List ℕ)
+    → finish (in_token nodes brackets phase (Quoted at) text []) place ≡ Err (refusal UnexpectedEnd place)
 unfolding finish
 finish-string nodes brackets phase at place text = refl
 
-finish-escape : (nodes : List TreeNode) (brackets : List Open) (phase : Phase) (at back place : ℕ) (escape : EscapeState) (text : List ℕ) → finish (in_token nodes brackets phase (Escape at back escape) text []) place ≡ Err (refusal UnexpectedEnd place)
+finish-escape : (nodes : List TreeNode) (brackets : List Open) (phase : Phase) (at back place : ℕ) (escape : EscapeState) (text : List ℕ)
+    → finish (in_token nodes brackets phase (Escape at back escape) text []) place ≡ Err (refusal UnexpectedEnd place)
 unfolding finish
 finish-escape nodes brackets phase at back place escape text = refl
 
@@ -91,12 +95,15 @@ IsBadOrShort back e = (e.rule ≡ UnexpectedEnd → ⊥) → e ≡ refusal BadEs
 short : (back place : ℕ) (e : Refusal) → e ≡ refusal UnexpectedEnd place → IsBadOrShort back e
 short back place e h n = absurd (n (ap (λ x. x.rule) h))
 
-bad-after : (nodes : List TreeNode) (brackets : List Open) (phase : Phase) (at back place : ℕ) (escape : EscapeState) (text : List ℕ) (out : Escaped) (e : Refusal) → (after_escape (in_token nodes brackets phase (Escape at back escape) text []) at back out >>= (λ s. finish s place)) ≡ Err e → IsBadOrShort back e
+bad-after : (nodes : List TreeNode) (brackets : List Open) (phase : Phase) (at back place : ℕ) (escape : EscapeState) (text : List ℕ) (out : Escaped) (e : Refusal)
+    → (after_escape (in_token nodes brackets phase (Escape at back escape) text []) at back out >>= (λ s. finish s place)) ≡ Err e → IsBadOrShort back e
 bad-after nodes brackets phase at back place escape text (More next) e h = short back place e (same_refusal _ e _ (finish-escape nodes brackets phase at back place next text) h)
 bad-after nodes brackets phase at back place escape text (Whole character) e h = short back place e (same_refusal _ e _ (finish-string nodes brackets phase at place (text ++ encode character)) h)
-bad-after nodes brackets phase at back place escape text Wrong e h = λ n. same_refusal (refusal BadEscape back) e (after_escape (in_token nodes brackets phase (Escape at back escape) text []) at back Wrong >>= (λ s. finish s place)) refl h
+bad-after nodes brackets phase at back place escape text Wrong e h =
+    λ n. same_refusal (refusal BadEscape back) e (after_escape (in_token nodes brackets phase (Escape at back escape) text []) at back Wrong >>= (λ s. finish s place)) refl h
 
-bad-escape : (nodes : List TreeNode) (brackets : List Open) (phase : Phase) (at back place c : ℕ) (escape : EscapeState) (text : List ℕ) (e : Refusal) → run (in_token nodes brackets phase (Escape at back escape) text []) place (c ∷ []) ≡ Err e → IsBadOrShort back e
+bad-escape : (nodes : List TreeNode) (brackets : List Open) (phase : Phase) (at back place c : ℕ) (escape : EscapeState) (text : List ℕ) (e : Refusal)
+    → run (in_token nodes brackets phase (Escape at back escape) text []) place (c ∷ []) ≡ Err e → IsBadOrShort back e
 unfolding step
 bad-escape nodes brackets phase at back place c escape text e h = bad-after nodes brackets phase at back (place + len_utf8 c) escape text (escape_next escape c) e h
 
@@ -124,7 +131,8 @@ begun-string front r place h i =
     let b = reached-front i.before (34 ∷ behind) g.1 text in
     (b.0, b.1, text-begun i.before 34 behind b.0 (tree_of g.1) (front-scalars g.1 i.before (34 ∷ behind) text).1 b.1 (reached-tree i.before (34 ∷ behind) b.0 g.1 b.1 text) (i.string g.0 g.1 g.2))
 
-pub escape-refuses : (front : List ℕ) (r : Reader) (c place : ℕ) (e : Refusal) → Reached front r → IsInEscape front place → step r (width front) c ≡ Err e → (e.rule ≡ UnexpectedEnd → ⊥) → e ≡ refusal BadEscape place
+pub escape-refuses : (front : List ℕ) (r : Reader) (c place : ℕ) (e : Refusal) → Reached front r → IsInEscape front place → step r (width front) c ≡ Err e
+    → (e.rule ≡ UnexpectedEnd → ⊥) → e ≡ refusal BadEscape place
 escape-refuses front r c place e h i s n = on (begun-string front r place h i)
   where
     from_front : (b : Reader) → Reached i.before b → run b (width i.before) (34 ∷ (i.inner ++ 92 ∷ (i.escape ++ c ∷ []))) ≡ Err e

@@ -56,7 +56,8 @@ either_true false b (inr e) = e
 
 pub has_key-more : (nodes more : List TreeNode) (key : List ℕ) (pairs : List (ℕ × ℕ)) → has_key nodes key pairs ≡ true → has_key (nodes ++ more) key pairs ≡ true
 has_key-more nodes more key [] h = h
-has_key-more nodes more key (p ∷ pairs) h = either_true _ _ (elim (or_cases (is_text_of nodes key p.0) (has_key nodes key pairs) h) [ inl e ↦ inl (is_text_of-more nodes more key p.0 e) | inr e ↦ inr (has_key-more nodes more key pairs e) ])
+has_key-more nodes more key (p ∷ pairs) h =
+    either_true _ _ (elim (or_cases (is_text_of nodes key p.0) (has_key nodes key pairs) h) [ inl e ↦ inl (is_text_of-more nodes more key p.0 e) | inr e ↦ inr (has_key-more nodes more key pairs e) ])
 
 has_key-left : (nodes : List TreeNode) (key : List ℕ) (xs ys : List (ℕ × ℕ)) → has_key nodes key xs ≡ true → has_key nodes key (xs ++ ys) ≡ true
 has_key-left nodes key xs ys h = list_any-append (λ pair. is_text_of nodes key pair.0) xs ys ∙ either_true (has_key nodes key xs) (has_key nodes key ys) (inl h)
@@ -149,11 +150,13 @@ key-keyed nodes d outer at end key s h =
       top = tt;
     }
 
-ended-keyed : (nodes : List TreeNode) (brackets : List Open) (phase : Phase) (token : Token) (at end : ℕ) (text : List ℕ) (u : Reader) → TextEnds nodes brackets phase at end text u → Keyed (in_token nodes brackets phase token text []) → Keyed u
+ended-keyed : (nodes : List TreeNode) (brackets : List Open) (phase : Phase) (token : Token) (at end : ℕ) (text : List ℕ) (u : Reader) → TextEnds nodes brackets phase at end text u
+    → Keyed (in_token nodes brackets phase token text []) → Keyed u
 ended-keyed nodes _ _ token _ _ _ _ (as_value brackets phase at end text a) h = value-keyed nodes (node at end (tree.Text text)) brackets h.open_keys
 ended-keyed nodes _ _ token _ _ _ _ (as_key d outer at end text e) h = key-keyed nodes d outer at end text h.top h.open_keys.1
 
-token-keyed : (nodes : List TreeNode) (brackets : List Open) (phase : Phase) (t u : Token) (text more bytes made : List ℕ) → Keyed (in_token nodes brackets phase t text bytes) → Keyed (in_token nodes brackets phase u more made)
+token-keyed : (nodes : List TreeNode) (brackets : List Open) (phase : Phase) (t u : Token) (text more bytes made : List ℕ) → Keyed (in_token nodes brackets phase t text bytes)
+    → Keyed (in_token nodes brackets phase u more made)
 token-keyed nodes brackets phase t u text more bytes made h = record { open_keys = h.open_keys; top = h.top }
 
 moves-keyed : (place c : ℕ) (r s : Reader) → Moves place c r s → Keyed r → Keyed s
@@ -190,7 +193,8 @@ reached-keyed _ _ at_start = start-keyed
 reached-keyed _ _ (onward front r s c i h e) = moves-keyed (width front) c r s (reached-moves front r s c h e) (reached-keyed front r h)
 
 -- a text that is among the keys is that of a pair
-pub strong-has : (nodes : List TreeNode) (pairs : List (ℕ × ℕ)) (text : List ℕ) (keys : List (List ℕ)) → AllByRecursion (λ k. has_key nodes k pairs ≡ true) keys → is_among text keys ≡ true → has_key nodes text pairs ≡ true
+pub strong-has : (nodes : List TreeNode) (pairs : List (ℕ × ℕ)) (text : List ℕ) (keys : List (List ℕ)) → AllByRecursion (λ k. has_key nodes k pairs ≡ true) keys
+    → is_among text keys ≡ true → has_key nodes text pairs ≡ true
 strong-has nodes pairs text [] s h = absurd (false≢true h)
 strong-has nodes pairs text (k ∷ keys) s h = elim (or_cases (pointwise nat_eq text k) (is_among text keys) h) [
   | inl e ↦ (let P : List ℕ → Type 0 = λ x. has_key nodes x pairs ≡ true in subst P (sym (bytes_same text k e)) s.0)

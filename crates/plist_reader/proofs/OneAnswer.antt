@@ -68,7 +68,8 @@ ends-so front r e (Err x) q h k =
     let same : x ≡ refusal UnexpectedEnd (width front) = at_err (λ y. y ≡ refusal UnexpectedEnd (width front)) (finish r (width front)) x q (finish-end r (width front) (reached-good front r h)) in
     reached-finish front r h ∙ q ∙ ap E (same ∙ sym k.2)
 
-stops-so : (front : List ℕ) (c : ℕ) (rest : List ℕ) (r : Reader) (e : Refusal) (d : Result Reader Refusal) → IsScalar c → step r (width front) c ≡ d → Reached front r → IsReason front (c ∷ rest) e → run start 0 (front ++ c ∷ rest) ≡ Err e
+stops-so : (front : List ℕ) (c : ℕ) (rest : List ℕ) (r : Reader) (e : Refusal) (d : Result Reader Refusal) → IsScalar c → step r (width front) c ≡ d → Reached front r
+    → IsReason front (c ∷ rest) e → run start 0 (front ++ c ∷ rest) ≡ Err e
 stops-so front c rest r e (Ok u) i q h k = absurd (k.0.no_more (reached-goes_on (front ++ c ∷ []) u (onward front r u c i h q)))
 stops-so front c rest r e (Err x) i q h k =
     let E : Refusal → Result Tree Refusal = λ y. Err y in

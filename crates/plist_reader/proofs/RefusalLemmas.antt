@@ -100,20 +100,23 @@ whole-says front r h w =
     let t = whole-finishes front r h w in
     closes-says (width front) r t.0 (at_ok (Closes (width front) r) (finish r (width front)) t.0 t.1 (closes r (width front) (reached-good front r h)))
 
-ended-length : (nodes : List TreeNode) (brackets : List Open) (phase : Phase) (at end : ℕ) (text : List ℕ) (u : Reader) → TextEnds nodes brackets phase at end text u → length u.brackets ≡ length brackets
+ended-length : (nodes : List TreeNode) (brackets : List Open) (phase : Phase) (at end : ℕ) (text : List ℕ) (u : Reader) → TextEnds nodes brackets phase at end text u
+    → length u.brackets ≡ length brackets
 ended-length nodes _ _ _ _ _ _ (as_value [] phase at end text a) = refl
 ended-length nodes _ _ _ _ _ _ (as_value (Items p done ∷ outer) phase at end text a) = refl
 ended-length nodes _ _ _ _ _ _ (as_value (Pairs d ∷ outer) phase at end text a) = refl
 ended-length nodes _ _ _ _ _ _ (as_key d outer at end text e) = refl
 
 -- outside all brackets the end of a text is the end of the whole value
-ended-outside : (nodes : List TreeNode) (brackets : List Open) (phase : Phase) (at end : ℕ) (text : List ℕ) (u : Reader) → TextEnds nodes brackets phase at end text u → length brackets ≡ 0 → is_end u.phase ≡ true
+ended-outside : (nodes : List TreeNode) (brackets : List Open) (phase : Phase) (at end : ℕ) (text : List ℕ) (u : Reader) → TextEnds nodes brackets phase at end text u
+    → length brackets ≡ 0 → is_end u.phase ≡ true
 ended-outside nodes _ _ _ _ _ _ (as_value [] phase at end text a) l = refl
 ended-outside nodes _ _ _ _ _ _ (as_value (Items p done ∷ outer) phase at end text a) l = absurd (omega (arith, l))
 ended-outside nodes _ _ _ _ _ _ (as_value (Pairs d ∷ outer) phase at end text a) l = absurd (omega (arith, l))
 ended-outside nodes _ _ _ _ _ _ (as_key d outer at end text e) l = absurd (omega (arith, l))
 
-ended-finishes : (nodes : List TreeNode) (brackets : List Open) (phase : Phase) (at end : ℕ) (text : List ℕ) (u : Reader) → TextEnds nodes brackets phase at end text u → is_end u.phase ≡ true → (t : Tree) × (finish (in_token nodes brackets phase (Word at) text []) end ≡ Ok t)
+ended-finishes : (nodes : List TreeNode) (brackets : List Open) (phase : Phase) (at end : ℕ) (text : List ℕ) (u : Reader) → TextEnds nodes brackets phase at end text u
+    → is_end u.phase ≡ true → (t : Tree) × (finish (in_token nodes brackets phase (Word at) text []) end ≡ Ok t)
 ended-finishes nodes _ _ _ _ _ _ (as_value [] phase at end text a) e =
     let made = nodes ++ node at end (tree.Text text) ∷ [] in
     (record { nodes = made; top = length nodes }, finish-word nodes phase at end text a ∙ finish_whole made [] (length nodes) end)
@@ -175,15 +178,20 @@ key_no_escape : DuplicateKey ≡ BadEscape → ⊥
 key_no_escape e = cc
 
 -- a character that nothing takes
-explain-stop : (front : List ℕ) (r u : Reader) (c : ℕ) (e : Refusal) → Reached front r → step r (width front) c ≡ Err e → length u.brackets ≡ length r.brackets → (is_end u.phase ≡ true → IsWhole front) → (IsWhole front → is_end u.phase ≡ true) → StopsAt (width front) c u e → IsExplained front c e
-explain-stop front r u c _ h s l w n (over o) = too_deep (not_in_escape front r c (refusal TooDeep (width front)) h s deep_no_end deep_no_escape) (not_twice front r c (refusal TooDeep (width front)) h s deep_no_key) (too_deep-of front r u c h l o)
-explain-stop front r u c _ h s l w n (behind o e) = trailing (not_in_escape front r c (refusal TrailingText (width front)) h s trail_no_end trail_no_escape) (not_twice front r c (refusal TrailingText (width front)) h s trail_no_key) (λ d. o (over-of front r u c h l d)) (w e)
-explain-stop front r u c _ h s l w n (other o e) = unexpected (not_in_escape front r c (refusal UnexpectedByte (width front)) h s byte_no_end byte_no_escape) (not_twice front r c (refusal UnexpectedByte (width front)) h s byte_no_key) (λ d. o (over-of front r u c h l d)) (λ k. both_ways (is_end u.phase) e (n k))
+explain-stop : (front : List ℕ) (r u : Reader) (c : ℕ) (e : Refusal) → Reached front r → step r (width front) c ≡ Err e → length u.brackets ≡ length r.brackets
+    → (is_end u.phase ≡ true → IsWhole front) → (IsWhole front → is_end u.phase ≡ true) → StopsAt (width front) c u e → IsExplained front c e
+explain-stop front r u c _ h s l w n (over o) =
+    too_deep (not_in_escape front r c (refusal TooDeep (width front)) h s deep_no_end deep_no_escape) (not_twice front r c (refusal TooDeep (width front)) h s deep_no_key) (too_deep-of front r u c h l o)
+explain-stop front r u c _ h s l w n (behind o e) =
+    trailing (not_in_escape front r c (refusal TrailingText (width front)) h s trail_no_end trail_no_escape) (not_twice front r c (refusal TrailingText (width front)) h s trail_no_key) (λ d. o (over-of front r u c h l d)) (w e)
+explain-stop front r u c _ h s l w n (other o e) =
+    unexpected (not_in_escape front r c (refusal UnexpectedByte (width front)) h s byte_no_end byte_no_escape) (not_twice front r c (refusal UnexpectedByte (width front)) h s byte_no_key) (λ d. o (over-of front r u c h l d)) (λ k. both_ways (is_end u.phase) e (n k))
 
 same_bit : (m n : ℕ) → m ≡ n → ◌≡◌ {A = ℕ} (cond (eqb m n) 1 0) 1
 same_bit m n e = rw (eq-eqb m n e) refl
 
-explain-escape : (front text : List ℕ) (nodes : List TreeNode) (brackets : List Open) (phase : Phase) (at backslash : ℕ) (escape : EscapeState) → Reached front (in_token nodes brackets phase (Escape at backslash escape) text []) → EscapeIn front at backslash escape text → IsInEscape front backslash
+explain-escape : (front text : List ℕ) (nodes : List TreeNode) (brackets : List Open) (phase : Phase) (at backslash : ℕ) (escape : EscapeState)
+    → Reached front (in_token nodes brackets phase (Escape at backslash escape) text []) → EscapeIn front at backslash escape text → IsInEscape front backslash
 explain-escape front text nodes brackets phase at backslash escape r h =
     let f = finishes escape h.first h.fits in
     record { before = h.before; inner = h.inner; bytes = text; escape = h.first; more = f.0; character = f.1; parts = h.parts; place_is = h.back; string = begins; quoted = h.quoted; unfinished = some f.0 f.2; known = finished-escape escape h.first f.0 f.1 h.fits f.2 }
@@ -199,7 +207,8 @@ explain-escape front text nodes brackets phase at backslash escape r h =
     some (c ∷ cs) r = omega arith
 
 -- a key that stands twice, with the word or string that it is
-explain-twice : (front : List ℕ) (nodes : List TreeNode) (d : Dictionary) (outer : List Open) (token : Token) (at c : ℕ) (text before part : List ℕ) → Reached front (in_token nodes (Pairs d ∷ outer) Key token text [])
+explain-twice : (front : List ℕ) (nodes : List TreeNode) (d : Dictionary) (outer : List Open) (token : Token) (at c : ℕ) (text before part : List ℕ)
+    → Reached front (in_token nodes (Pairs d ∷ outer) Key token text [])
     → step (in_token nodes (Pairs d ∷ outer) Key token text []) (width front) c ≡ Err (refusal DuplicateKey at) → front ≡ before ++ part → at ≡ width before → EndsText part c text
     → KeyWay nodes d outer at (in_token nodes (Pairs d ∷ outer) Key token text []) (width front) → is_among text d.keys ≡ true → IsExplained front c (refusal DuplicateKey at)
 explain-twice front nodes d outer token at c text before part h x parts place ended way k =
@@ -251,7 +260,8 @@ unfolding whole
 whole-end r place = whole_in-end r place r.phase
 
 -- outside all brackets a text is no key
-outside_key : (r : Reader) (at end : ℕ) (phase : Phase) (brackets : List Open) → r.phase ≡ phase → r.brackets ≡ brackets → eqb (length brackets) 0 ≡ true → Agrees phase brackets → IfErr (text_ended r at end) (IsEnd end)
+outside_key : (r : Reader) (at end : ℕ) (phase : Phase) (brackets : List Open) → r.phase ≡ phase → r.brackets ≡ brackets → eqb (length brackets) 0 ≡ true → Agrees phase brackets
+    → IfErr (text_ended r at end) (IsEnd end)
 unfolding text_ended
 outside_key r at end Key [] e f n g = elim g [ ]
 outside_key r at end Key (b ∷ brackets) e f n g = absurd (omega (arith, eqb-true (length (b ∷ brackets)) 0 n))

@@ -35,7 +35,8 @@ pub run_refused : (e : ReadError) (r : Reader) (place c : ℕ) (cs : List ℕ) �
 run_refused e r place c cs h = refused_after e (step r place c) (λ t. run t (place + len_utf8 c) cs) h
 
 -- the place behind a character, and what is left behind it, are the text
-pub weight_of_rest : (cs : List ℕ) (n c place total : ℕ) → drop n cs ≡ c ∷ drop (n + 1) cs → place + length (encode_utf8_all (drop n cs)) ≡ total → place + len_utf8 c + length (encode_utf8_all (drop (n + 1) cs)) ≡ total
+pub weight_of_rest : (cs : List ℕ) (n c place total : ℕ) → drop n cs ≡ c ∷ drop (n + 1) cs → place + length (encode_utf8_all (drop n cs)) ≡ total
+    → place + len_utf8 c + length (encode_utf8_all (drop (n + 1) cs)) ≡ total
 weight_of_rest cs n c place total e h =
     let rest = drop (n + 1) cs in
     let split : length (encode_utf8_all (drop n cs)) ≡ length (encode c) + length (encode_utf8_all rest) = ap (λ x. length (encode_utf8_all x)) e ∙ length-append (encode c) (encode_utf8_all rest) in

@@ -91,7 +91,8 @@ escape-scalars _ _ carriage_return = (refl, tt)
 escape-scalars _ _ tab = (refl, tt)
 escape-scalars _ _ (octal a b c x y z h g k l) = (octal-scalar a x h, (octal-scalar b y g, (octal-scalar c z k, tt)))
 escape-scalars _ _ (unit a b c d u i n m) = (refl, unit-scalars a b c d u i)
-escape-scalars _ _ (units a b c d e f g h high low i j n m) = (refl, all-append IsScalar (a ∷ b ∷ c ∷ d ∷ []) (92 ∷ 85 ∷ e ∷ f ∷ g ∷ h ∷ []) (unit-scalars a b c d high i) (refl, (refl, unit-scalars e f g h low j)))
+escape-scalars _ _ (units a b c d e f g h high low i j n m) =
+    (refl, all-append IsScalar (a ∷ b ∷ c ∷ d ∷ []) (92 ∷ 85 ∷ e ∷ f ∷ g ∷ h ∷ []) (unit-scalars a b c d high i) (refl, (refl, unit-scalars e f g h low j)))
 
 quoted-scalars : (cs bytes : List ℕ) → IsQuoted cs bytes → AreScalars cs
 quoted-scalars _ _ no_more = tt
@@ -117,8 +118,10 @@ mutual
   value-scalars : (v : Value) (depth place : ℕ) (cs : List ℕ) → Spells v depth place cs → AreScalars cs
   value-scalars (Text at end bytes) depth place cs s = text-scalars cs bytes s.2
   value-scalars (Bytes at end bytes) depth place cs s = subst (λ (x : List ℕ). AreScalars x) (sym s.3) (refl, all-append IsScalar s.2 (62 ∷ []) (hex-scalars s.2 bytes s.4) (refl, tt))
-  value-scalars (Items at end items) depth place cs s = subst (λ (x : List ℕ). AreScalars x) (sym s.4) (refl, all-append IsScalar s.3 (41 ∷ []) (items-scalars items (depth + 1) (place + 1) s.3 s.5) (refl, tt))
-  value-scalars (Pairs at end entries) depth place cs s = subst (λ (x : List ℕ). AreScalars x) (sym s.4) (refl, all-append IsScalar s.3 (125 ∷ []) (entries-scalars entries (depth + 1) [] (place + 1) s.3 s.5) (refl, tt))
+  value-scalars (Items at end items) depth place cs s =
+      subst (λ (x : List ℕ). AreScalars x) (sym s.4) (refl, all-append IsScalar s.3 (41 ∷ []) (items-scalars items (depth + 1) (place + 1) s.3 s.5) (refl, tt))
+  value-scalars (Pairs at end entries) depth place cs s =
+      subst (λ (x : List ℕ). AreScalars x) (sym s.4) (refl, all-append IsScalar s.3 (125 ∷ []) (entries-scalars entries (depth + 1) [] (place + 1) s.3 s.5) (refl, tt))
 
   items-scalars : (items : Values) (depth place : ℕ) (cs : List ℕ) → SpellItems items depth place cs → AreScalars cs
   items-scalars NoValues depth place cs s = spaces-scalars cs s

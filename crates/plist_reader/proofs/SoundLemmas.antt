@@ -90,11 +90,13 @@ pub IsValueBy-more : (m n k l : ℕ) (value : TreeValue) → m ≤ n → k ≤ l
 IsValueBy-more m n k l (tree.Text bytes) h g v = omega (arith, v)
 IsValueBy-more m n k l (tree.Bytes bytes) h g v = omega (arith, v)
 IsValueBy-more m n k l (tree.Items items) h g v = (omega (arith, v.0), All-weaker (λ i. i < m) (λ i. i < n) (λ i q. omega arith) items v.1)
-IsValueBy-more m n k l (tree.Pairs pairs) h g v = (omega (arith, v.0), All-weaker (λ pair. (pair.0 < m) × (pair.1 < m)) (λ pair. (pair.0 < n) × (pair.1 < n)) (λ pair q. (omega (arith, q.0), omega (arith, q.1))) pairs v.1)
+IsValueBy-more m n k l (tree.Pairs pairs) h g v =
+    (omega (arith, v.0), All-weaker (λ pair. (pair.0 < m) × (pair.1 < m)) (λ pair. (pair.0 < n) × (pair.1 < n)) (λ pair q. (omega (arith, q.0), omega (arith, q.1))) pairs v.1)
 
 pub IsOpenBy-more : (m n : ℕ) (bracket : Open) → m ≤ n → IsOpenBy m bracket → IsOpenBy n bracket
 IsOpenBy-more m n (Items at items) h v = (omega (arith, v.0), All-weaker (λ i. i < m) (λ i. i < n) (λ i q. omega arith) items v.1)
-IsOpenBy-more m n (Pairs d) h v = (omega (arith, v.0), omega (arith, v.1), All-weaker (λ pair. (pair.0 < m) × (pair.1 < m)) (λ pair. (pair.0 < n) × (pair.1 < n)) (λ pair q. (omega (arith, q.0), omega (arith, q.1))) d.pairs v.2)
+IsOpenBy-more m n (Pairs d) h v =
+    (omega (arith, v.0), omega (arith, v.1), All-weaker (λ pair. (pair.0 < m) × (pair.1 < m)) (λ pair. (pair.0 < n) × (pair.1 < n)) (λ pair q. (omega (arith, q.0), omega (arith, q.1))) d.pairs v.2)
 
 pub open_more : (m n : ℕ) (brackets : List Open) → m ≤ n → AllByRecursion (IsOpenBy m) brackets → AllByRecursion (IsOpenBy n) brackets
 open_more m n [] h v = tt
@@ -136,7 +138,8 @@ ended_in-same r n (Items at items ∷ outer) e = record { token = refl; text = r
 ended_in-same r n (Pairs d ∷ outer) e = record { token = refl; text = refl; bytes = refl; nodes = refl; brackets = ap length e }
 
 -- a number goes into what is open around it
-ended_in-inside : (r : Reader) (n limit : ℕ) (brackets : List Open) → brackets ≡ r.brackets → length r.nodes ≡ n + 1 → All (λ node. IsValueBy (length r.nodes) limit node.value) r.nodes → AllByRecursion (IsOpenBy n) brackets → Inside (ended_in r n brackets) limit
+ended_in-inside : (r : Reader) (n limit : ℕ) (brackets : List Open) → brackets ≡ r.brackets → length r.nodes ≡ n + 1
+    → All (λ node. IsValueBy (length r.nodes) limit node.value) r.nodes → AllByRecursion (IsOpenBy n) brackets → Inside (ended_in r n brackets) limit
 ended_in-inside r n limit [] e long v o = record { nodes = v; brackets = subst (λ b. AllByRecursion (IsOpenBy (length r.nodes)) b) e tt; phase = omega arith }
 ended_in-inside r n limit (Items at items ∷ outer) e long v o =
     let m = length r.nodes in

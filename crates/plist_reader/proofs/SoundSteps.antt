@@ -120,7 +120,8 @@ escape_next-weighs n (Low3 high b d) c h = with_hex-weighs n (Low3 high b d) (he
 
 -- ---- texts that end
 
-key_ended_in-sound : (r : Reader) (at end place : ℕ) (text : List ℕ) (brackets : List Open) → brackets ≡ r.brackets → AllByRecursion (IsOpenBy (length r.nodes)) brackets → Inside r place → length text ≤ place
+key_ended_in-sound : (r : Reader) (at end place : ℕ) (text : List ℕ) (brackets : List Open) → brackets ≡ r.brackets → AllByRecursion (IsOpenBy (length r.nodes)) brackets
+    → Inside r place → length text ≤ place
     → length r.nodes + 1 + length r.brackets + token_weight r.token ≤ place → length r.text + text_weight r.token ≤ place → length r.bytes ≤ place
     → IfOk (key_ended_in r at end text brackets) (λ s. Sound s place)
 key_ended_in-sound r at end place text [] e o i t count tx b = tt
@@ -148,7 +149,8 @@ key_ended_in-sound r at end place text (Pairs d ∷ outer) e o i t count tx b =
       };
     })
 
-text_ended-sound : (r : Reader) (at end place : ℕ) → Inside r place → length r.text ≤ place → length r.nodes + 1 + length r.brackets ≤ place → length r.bytes ≤ place → IfOk (text_ended r at end) (λ s. Sound s place)
+text_ended-sound : (r : Reader) (at end place : ℕ) → Inside r place → length r.text ≤ place → length r.nodes + 1 + length r.brackets ≤ place → length r.bytes ≤ place
+    → IfOk (text_ended r at end) (λ s. Sound s place)
 unfolding text_ended key_ended
 text_ended-sound r at end place i t count b =
     let s : Reader = record r { token = Between; text = [] } in
@@ -197,7 +199,8 @@ value_begun-sound r place c h =
     (record { count = omega (arith, h.count); text = omega (arith, h.text); bytes = omega (arith, h.bytes); inside = record { nodes = i.nodes; brackets = i.brackets; phase = i.phase } })
     (text_begun-sound r place c h))
 
-list_closed_in-sound : (r : Reader) (place q : ℕ) (brackets : List Open) → brackets ≡ r.brackets → AllByRecursion (IsOpenBy (length r.nodes)) brackets → Sound r place → place + 1 ≤ q → IfOk (list_closed_in r place brackets) (λ s. Sound s q)
+list_closed_in-sound : (r : Reader) (place q : ℕ) (brackets : List Open) → brackets ≡ r.brackets → AllByRecursion (IsOpenBy (length r.nodes)) brackets → Sound r place
+    → place + 1 ≤ q → IfOk (list_closed_in r place brackets) (λ s. Sound s q)
 list_closed_in-sound r place q [] e o h g = tt
 list_closed_in-sound r place q (Pairs d ∷ outer) e o h g = tt
 list_closed_in-sound r place q (Items at items ∷ outer) e o h g =
@@ -207,7 +210,8 @@ list_closed_in-sound r place q (Items at items ∷ outer) e o h g =
     (omega (arith, o.0.0, h.count), o.0.1)
     (omega (arith, h.count, ap length e)) (omega (arith, h.text)) (omega (arith, h.bytes))
 
-dictionary_closed_in-sound : (r : Reader) (place q : ℕ) (brackets : List Open) → brackets ≡ r.brackets → AllByRecursion (IsOpenBy (length r.nodes)) brackets → Sound r place → place + 1 ≤ q → IfOk (dictionary_closed_in r place brackets) (λ s. Sound s q)
+dictionary_closed_in-sound : (r : Reader) (place q : ℕ) (brackets : List Open) → brackets ≡ r.brackets → AllByRecursion (IsOpenBy (length r.nodes)) brackets → Sound r place
+    → place + 1 ≤ q → IfOk (dictionary_closed_in r place brackets) (λ s. Sound s q)
 dictionary_closed_in-sound r place q [] e o h g = tt
 dictionary_closed_in-sound r place q (Items at items ∷ outer) e o h g = tt
 dictionary_closed_in-sound r place q (Pairs d ∷ outer) e o h g =
@@ -269,7 +273,8 @@ in_quoted-sound r at place c e h =
     (record { count = omega (arith, h.count, ap token_weight e); text = omega (arith, h.text); bytes = omega (arith, h.bytes); inside = record { nodes = i.nodes; brackets = i.brackets; phase = i.phase } })
     (record { count = omega (arith, h.count); text = omega (arith, h.text, length-append r.text (encode c), length-encode c); bytes = omega (arith, h.bytes); inside = record { nodes = i.nodes; brackets = i.brackets; phase = i.phase } }))
 
-after_escape-sound : (r : Reader) (at backslash place q : ℕ) (escape : EscapeState) (escaped : Escaped) → r.token ≡ Escape at backslash escape → Weighs (escape_weight escape + (q - place)) escaped → place ≤ q → Sound r place → IfOk (after_escape r at backslash escaped) (λ s. Sound s q)
+after_escape-sound : (r : Reader) (at backslash place q : ℕ) (escape : EscapeState) (escaped : Escaped) → r.token ≡ Escape at backslash escape
+    → Weighs (escape_weight escape + (q - place)) escaped → place ≤ q → Sound r place → IfOk (after_escape r at backslash escaped) (λ s. Sound s q)
 after_escape-sound r at backslash place q escape (More next) e w g h =
     let i = Inside-later r place q g h.inside in
     record { count = omega (arith, h.count, ap token_weight e); text = omega (arith, h.text, ap text_weight e, w); bytes = omega (arith, h.bytes); inside = record { nodes = i.nodes; brackets = i.brackets; phase = i.phase } }
@@ -313,7 +318,8 @@ step_in-sound : (r : Reader) (place c : ℕ) (token : Token) → r.token ≡ tok
 step_in-sound r place c Between e h = between-sound r place c h
 step_in-sound r place c (Word at) e h = in_word-sound r at place c e h
 step_in-sound r place c (Quoted at) e h = in_quoted-sound r at place c e h
-step_in-sound r place c (Escape at backslash escape) e h = after_escape-sound r at backslash place (place + len_utf8 c) escape (escape_next escape c) e (escape_next-weighs _ escape c (omega arith)) (omega arith) h
+step_in-sound r place c (Escape at backslash escape) e h =
+    after_escape-sound r at backslash place (place + len_utf8 c) escape (escape_next escape c) e (escape_next-weighs _ escape c (omega arith)) (omega arith) h
 step_in-sound r place c (Bytes at) e h = in_bytes-sound r at place c e h
 step_in-sound r place c (Half at high) e h = in_half-sound r at high place c e h
 

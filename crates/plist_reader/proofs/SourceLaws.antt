@@ -80,10 +80,12 @@ settled-nodes nodes (Items at done ∷ outer) number = refl
 settled-nodes nodes (Pairs d ∷ outer) number = refl
 
 -- one more value
-stand-value : (front : List ℕ) (nodes : List TreeNode) (n : TreeNode) (brackets : List Open) → Stand front nodes → StandsIn front n → Stand front (settled (nodes ++ n ∷ []) brackets (length nodes)).nodes
+stand-value : (front : List ℕ) (nodes : List TreeNode) (n : TreeNode) (brackets : List Open) → Stand front nodes → StandsIn front n
+    → Stand front (settled (nodes ++ n ∷ []) brackets (length nodes)).nodes
 stand-value front nodes n brackets h k = subst (λ (x : List TreeNode). Stand front x) (sym (settled-nodes (nodes ++ n ∷ []) brackets (length nodes))) (All-push (StandsIn front) nodes n h k)
 
-stand-ended : (front : List ℕ) (nodes : List TreeNode) (brackets : List Open) (phase : Phase) (at end : ℕ) (text : List ℕ) (u : Reader) → TextEnds nodes brackets phase at end text u → Stand front nodes → StandsIn front (node at end (tree.Text text)) → Stand front u.nodes
+stand-ended : (front : List ℕ) (nodes : List TreeNode) (brackets : List Open) (phase : Phase) (at end : ℕ) (text : List ℕ) (u : Reader)
+    → TextEnds nodes brackets phase at end text u → Stand front nodes → StandsIn front (node at end (tree.Text text)) → Stand front u.nodes
 stand-ended front nodes _ _ _ _ _ _ (as_value brackets phase at end text a) h k = stand-value front nodes (node at end (tree.Text text)) brackets h k
 stand-ended front nodes _ _ _ _ _ _ (as_key d outer at end text e) h k = All-push (StandsIn front) nodes (node at end (tree.Text text)) h k
 
@@ -110,16 +112,19 @@ stands-other front c at v l s = record { some = l; inside = omega (arith, width-
 at_place : (front : List ℕ) (c at end : ℕ) (v : TreeValue) → at < width front + 1 → width front + 1 ≡ end → SaysNone v → StandsIn (front ++ c ∷ []) (node at end v)
 at_place front c at end v l e s = subst (λ (x : ℕ). StandsIn (front ++ c ∷ []) (node at x v)) e (stands-other front c at v l s)
 
-between_token : (front : List ℕ) (nodes : List TreeNode) (brackets : List Open) (phase : Phase) (at end : ℕ) (text : List ℕ) (u : Reader) → TextEnds nodes brackets phase at end text u → TokenIn u.token front u.text
+between_token : (front : List ℕ) (nodes : List TreeNode) (brackets : List Open) (phase : Phase) (at end : ℕ) (text : List ℕ) (u : Reader)
+    → TextEnds nodes brackets phase at end text u → TokenIn u.token front u.text
 between_token front nodes brackets phase at end text u t = subst (λ (x : Token). TokenIn x front u.text) (sym (ends-between nodes brackets phase at end text u t)) tt
 
-ended-in : (p : ℕ) (nodes : List TreeNode) (brackets : List Open) (phase : Phase) (at end : ℕ) (text : List ℕ) (u : Reader) → TextEnds nodes brackets phase at end text u → In p brackets → In p u.brackets
+ended-in : (p : ℕ) (nodes : List TreeNode) (brackets : List Open) (phase : Phase) (at end : ℕ) (text : List ℕ) (u : Reader) → TextEnds nodes brackets phase at end text u
+    → In p brackets → In p u.brackets
 ended-in p nodes _ _ _ _ _ _ (as_value [] phase at end text a) b = b
 ended-in p nodes _ _ _ _ _ _ (as_value (Items q done ∷ outer) phase at end text a) b = b
 ended-in p nodes _ _ _ _ _ _ (as_value (Pairs d ∷ outer) phase at end text a) b = b
 ended-in p nodes _ _ _ _ _ _ (as_key d outer at end text e) b = b
 
-moves-stand : (front : List ℕ) (place c : ℕ) (r s : Reader) → place ≡ width front → Moves place c r s → TokenIn r.token front r.text → In place r.brackets → Stand front r.nodes → Stand (front ++ c ∷ []) s.nodes
+moves-stand : (front : List ℕ) (place c : ℕ) (r s : Reader) → place ≡ width front → Moves place c r s → TokenIn r.token front r.text → In place r.brackets → Stand front r.nodes
+    → Stand (front ++ c ∷ []) s.nodes
 moves-stand front place c _ _ e (space_between nodes brackets phase x) k b h = stand-later front (c ∷ []) nodes h
 moves-stand front place c _ _ e (string_begins nodes brackets phase a x) k b h = stand-later front (c ∷ []) nodes h
 moves-stand front place c _ _ e (word_begins nodes brackets phase a w) k b h = stand-later front (c ∷ []) nodes h
@@ -156,7 +161,8 @@ start-stand = All-nil (StandsIn [])
 
 reached-stand : (front : List ℕ) (r : Reader) → Reached front r → Stand front r.nodes
 reached-stand _ _ at_start = start-stand
-reached-stand _ _ (onward front r s c i h e) = moves-stand front (width front) c r s refl (reached-moves front r s c h e) (reached-token front r h) (reached-placed front r h).brackets (reached-stand front r h)
+reached-stand _ _ (onward front r s c i h e) =
+    moves-stand front (width front) c r s refl (reached-moves front r s c h e) (reached-token front r h) (reached-placed front r h).brackets (reached-stand front r h)
 
 closes-stand : (front : List ℕ) (r : Reader) (t : Tree) → Closes (width front) r t → TokenIn r.token front r.text → Stand front r.nodes → Stand front t.nodes
 closes-stand front _ _ (closes_between nodes brackets number) k h = h

@@ -26,7 +26,8 @@ pub data Front : EscapeState → List ℕ → Type 0 where
   low : (a b c d u : ℕ) → IsUnit a b c d u → IsHigh u → Front (Low (u - 0xD800)) (85 ∷ a ∷ b ∷ c ∷ d ∷ 92 ∷ 85 ∷ [])
   low1 : (a b c d u e : ℕ) → IsUnit a b c d u → IsHigh u → hex_value e ≡ Some 13 → Front (Low1 (u - 0xD800)) (85 ∷ a ∷ b ∷ c ∷ d ∷ 92 ∷ 85 ∷ e ∷ [])
   low2 : (a b c d u e f y : ℕ) → IsUnit a b c d u → IsHigh u → hex_value e ≡ Some 13 → hex_value f ≡ Some y → 12 ≤ y → Front (Low2 (u - 0xD800) (y - 12)) (85 ∷ a ∷ b ∷ c ∷ d ∷ 92 ∷ 85 ∷ e ∷ f ∷ [])
-  low3 : (a b c d u e f g y z : ℕ) → IsUnit a b c d u → IsHigh u → hex_value e ≡ Some 13 → hex_value f ≡ Some y → 12 ≤ y → hex_value g ≡ Some z → Front (Low3 (u - 0xD800) (y - 12) z) (85 ∷ a ∷ b ∷ c ∷ d ∷ 92 ∷ 85 ∷ e ∷ f ∷ g ∷ [])
+  low3 : (a b c d u e f g y z : ℕ) → IsUnit a b c d u → IsHigh u → hex_value e ≡ Some 13 → hex_value f ≡ Some y → 12 ≤ y → hex_value g ≡ Some z
+      → Front (Low3 (u - 0xD800) (y - 12) z) (85 ∷ a ∷ b ∷ c ∷ d ∷ 92 ∷ 85 ∷ e ∷ f ∷ g ∷ [])
 
 -- what the characters so far mean
 abbrev pub Means : List ℕ → Escaped → Type 0
@@ -100,7 +101,8 @@ no_low x y z w hx hy hz hw k l =
     is_thirteen : (x : ℕ) → x ≡ 13 → eqb x 13 ≡ true
     is_thirteen x h = rw h refl
 
-means-unit3 : (a b c x y z d : ℕ) (o : Option ℕ) → hex_value d ≡ o → hex_value a ≡ Some x → hex_value b ≡ Some y → (eqb x 13 && leb 12 y) ≡ false → hex_value c ≡ Some z → Means (85 ∷ a ∷ b ∷ c ∷ d ∷ []) (with_hex (Unit3 x y z) o)
+means-unit3 : (a b c x y z d : ℕ) (o : Option ℕ) → hex_value d ≡ o → hex_value a ≡ Some x → hex_value b ≡ Some y → (eqb x 13 && leb 12 y) ≡ false → hex_value c ≡ Some z
+    → Means (85 ∷ a ∷ b ∷ c ∷ d ∷ []) (with_hex (Unit3 x y z) o)
 unfolding escape_digit escape_unit character_of
 means-unit3 a b c x y z d None e h g k f = tt
 means-unit3 a b c x y z d (Some w) e h g k f =
@@ -120,17 +122,20 @@ unfolding escape_digit
 means-low a b c d u e None q i h = tt
 means-low a b c d u e (Some x) q i h = holds-known (λ v. Means (85 ∷ a ∷ b ∷ c ∷ d ∷ 92 ∷ 85 ∷ e ∷ []) v) (eqb x 13) _ _ (λ k. low1 a b c d u e i h (q ∙ ap (λ n. Some n) (eqb-true x 13 k))) (λ _. tt)
 
-means-low1 : (a b c d u e f : ℕ) (o : Option ℕ) → hex_value f ≡ o → IsUnit a b c d u → IsHigh u → hex_value e ≡ Some 13 → Means (85 ∷ a ∷ b ∷ c ∷ d ∷ 92 ∷ 85 ∷ e ∷ f ∷ []) (with_hex (Low1 (u - 0xD800)) o)
+means-low1 : (a b c d u e f : ℕ) (o : Option ℕ) → hex_value f ≡ o → IsUnit a b c d u → IsHigh u → hex_value e ≡ Some 13
+    → Means (85 ∷ a ∷ b ∷ c ∷ d ∷ 92 ∷ 85 ∷ e ∷ f ∷ []) (with_hex (Low1 (u - 0xD800)) o)
 unfolding escape_digit
 means-low1 a b c d u e f None q i h g = tt
 means-low1 a b c d u e f (Some y) q i h g = holds-known (λ v. Means (85 ∷ a ∷ b ∷ c ∷ d ∷ 92 ∷ 85 ∷ e ∷ f ∷ []) v) (leb 12 y) _ _ (λ k. low2 a b c d u e f y i h g q (leb-true 12 y k)) (λ _. tt)
 
-means-low2 : (a b c d u e f y g : ℕ) (o : Option ℕ) → hex_value g ≡ o → IsUnit a b c d u → IsHigh u → hex_value e ≡ Some 13 → hex_value f ≡ Some y → 12 ≤ y → Means (85 ∷ a ∷ b ∷ c ∷ d ∷ 92 ∷ 85 ∷ e ∷ f ∷ g ∷ []) (with_hex (Low2 (u - 0xD800) (y - 12)) o)
+means-low2 : (a b c d u e f y g : ℕ) (o : Option ℕ) → hex_value g ≡ o → IsUnit a b c d u → IsHigh u → hex_value e ≡ Some 13 → hex_value f ≡ Some y → 12 ≤ y
+    → Means (85 ∷ a ∷ b ∷ c ∷ d ∷ 92 ∷ 85 ∷ e ∷ f ∷ g ∷ []) (with_hex (Low2 (u - 0xD800) (y - 12)) o)
 unfolding escape_digit
 means-low2 a b c d u e f y g None q i h j k l = tt
 means-low2 a b c d u e f y g (Some z) q i h j k l = low3 a b c d u e f g y z i h j k l q
 
-means-low3 : (a b c d u e f g y z k : ℕ) (o : Option ℕ) → hex_value k ≡ o → IsUnit a b c d u → IsHigh u → hex_value e ≡ Some 13 → hex_value f ≡ Some y → 12 ≤ y → hex_value g ≡ Some z → Means (85 ∷ a ∷ b ∷ c ∷ d ∷ 92 ∷ 85 ∷ e ∷ f ∷ g ∷ k ∷ []) (with_hex (Low3 (u - 0xD800) (y - 12) z) o)
+means-low3 : (a b c d u e f g y z k : ℕ) (o : Option ℕ) → hex_value k ≡ o → IsUnit a b c d u → IsHigh u → hex_value e ≡ Some 13 → hex_value f ≡ Some y → 12 ≤ y
+    → hex_value g ≡ Some z → Means (85 ∷ a ∷ b ∷ c ∷ d ∷ 92 ∷ 85 ∷ e ∷ f ∷ g ∷ k ∷ []) (with_hex (Low3 (u - 0xD800) (y - 12) z) o)
 unfolding escape_digit character_of
 means-low3 a b c d u e f g y z k None q i h j m l n = tt
 means-low3 a b c d u e f g y z k (Some w) q i h j m l n =
@@ -153,8 +158,10 @@ means-next _ _ unit0 c = means-unit0 c (hex_value c) refl
 means-next _ _ (unit1 a x h) c = means-unit1 a x c (hex_value c) refl h
 means-next _ _ (unit2 a b x y h g k) c = means-unit2 a b x y c (hex_value c) refl h g k
 means-next _ _ (unit3 a b d x y z h g k f) c = means-unit3 a b d x y z c (hex_value c) refl h g k f
-means-next _ _ (high a b d e u i h) c = holds-known (λ v. Means (85 ∷ a ∷ b ∷ d ∷ e ∷ c ∷ []) v) (eqb c 92) _ _ (λ q. (let P : ℕ → Type 0 = λ k. Front (HighBackslash (u - 0xD800)) (85 ∷ a ∷ b ∷ d ∷ e ∷ k ∷ []) in subst P (sym (eqb-true c 92 q)) (high_backslash a b d e u i h))) (λ _. tt)
-means-next _ _ (high_backslash a b d e u i h) c = holds-known (λ v. Means (85 ∷ a ∷ b ∷ d ∷ e ∷ 92 ∷ c ∷ []) v) (eqb c 85) _ _ (λ q. (let P : ℕ → Type 0 = λ k. Front (Low (u - 0xD800)) (85 ∷ a ∷ b ∷ d ∷ e ∷ 92 ∷ k ∷ []) in subst P (sym (eqb-true c 85 q)) (low a b d e u i h))) (λ _. tt)
+means-next _ _ (high a b d e u i h) c =
+    holds-known (λ v. Means (85 ∷ a ∷ b ∷ d ∷ e ∷ c ∷ []) v) (eqb c 92) _ _ (λ q. (let P : ℕ → Type 0 = λ k. Front (HighBackslash (u - 0xD800)) (85 ∷ a ∷ b ∷ d ∷ e ∷ k ∷ []) in subst P (sym (eqb-true c 92 q)) (high_backslash a b d e u i h))) (λ _. tt)
+means-next _ _ (high_backslash a b d e u i h) c =
+    holds-known (λ v. Means (85 ∷ a ∷ b ∷ d ∷ e ∷ 92 ∷ c ∷ []) v) (eqb c 85) _ _ (λ q. (let P : ℕ → Type 0 = λ k. Front (Low (u - 0xD800)) (85 ∷ a ∷ b ∷ d ∷ e ∷ 92 ∷ k ∷ []) in subst P (sym (eqb-true c 85 q)) (low a b d e u i h))) (λ _. tt)
 means-next _ _ (low a b d e u i h) c = means-low a b d e u c (hex_value c) refl i h
 means-next _ _ (low1 a b d e u f i h j) c = means-low1 a b d e u f c (hex_value c) refl i h j
 means-next _ _ (low2 a b d e u f g y i h j k l) c = means-low2 a b d e u f g y c (hex_value c) refl i h j k l

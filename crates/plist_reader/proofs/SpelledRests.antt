@@ -25,10 +25,12 @@ carry K m n i j p q rest e f g h =
 
 -- a list closes behind these values, a dictionary behind these entries
 abbrev pub ListEnds : Onward → ℕ → List ℕ → List TreeNode → grammar.Values → ℕ → List ℕ → Type 0
-ListEnds K at done nodes values place rest = K ((nodes ++ items_nodes values (length nodes)) ++ node at (place + 1) (tree.Items (done ++ items_numbers values (length nodes))) ∷ []) (length (nodes ++ items_nodes values (length nodes))) (place + 1) rest
+ListEnds K at done nodes values place rest =
+    K ((nodes ++ items_nodes values (length nodes)) ++ node at (place + 1) (tree.Items (done ++ items_numbers values (length nodes))) ∷ []) (length (nodes ++ items_nodes values (length nodes))) (place + 1) rest
 
 abbrev pub DictionaryEnds : Onward → Dictionary → List TreeNode → grammar.Entries → ℕ → List ℕ → Type 0
-DictionaryEnds K d nodes entries place rest = K ((nodes ++ entries_nodes entries (length nodes)) ++ node d.place (place + 1) (tree.Pairs (d.pairs ++ entries_numbers entries (length nodes))) ∷ []) (length (nodes ++ entries_nodes entries (length nodes))) (place + 1) rest
+DictionaryEnds K d nodes entries place rest =
+    K ((nodes ++ entries_nodes entries (length nodes)) ++ node d.place (place + 1) (tree.Pairs (d.pairs ++ entries_numbers entries (length nodes))) ∷ []) (length (nodes ++ entries_nodes entries (length nodes))) (place + 1) rest
 
 pub record ItemTail (K : Onward) (depth at : ℕ) (done : List ℕ) (nodes : List TreeNode) (place : ℕ) (cs : List ℕ) : Type 0 where
   pub values : grammar.Values
@@ -115,7 +117,8 @@ item-from_value outer t at done nodes place cs h =
     }
 
 -- a key, its sign, its value and what follows
-pub entry-from_key : (outer : List Open) (t : Tree) (d : Dictionary) (nodes : List TreeNode) (place : ℕ) (gap key_text key cs : List ℕ) → AreSpaces gap → IsText key_text key → is_among key d.keys ≡ false
+pub entry-from_key : (outer : List Open) (t : Tree) (d : Dictionary) (nodes : List TreeNode) (place : ℕ) (gap key_text key cs : List ℕ) → AreSpaces gap → IsText key_text key
+    → is_among key d.keys ≡ false
     → AtSign (After (Pairs (record d { keys = d.keys ++ key ∷ []; key = length nodes }) ∷ outer) t) (suc (length outer)) (nodes ++ node (place + width gap) (place + width gap + width key_text) (tree.Text key) ∷ []) (place + width gap + width key_text) cs
     → InEntries (After outer t) (suc (length outer)) d nodes place (gap ++ (key_text ++ cs))
 entry-from_key outer t d nodes place gap key_text key cs gs kt am h =

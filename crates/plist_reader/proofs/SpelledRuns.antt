@@ -27,7 +27,8 @@ use Rattle.plist_reader.proofs.SpelledSteps.{RestIn, AfterText, InWord, InQuoted
 
 -- ---- places that are the same
 
-pub after_text_same : (phase : Phase) (brackets : List Open) (t : Tree) (nodes : List TreeNode) (at : ℕ) (xs ys : List ℕ) (p q : ℕ) (rest : List ℕ) → xs ≡ ys → p ≡ q → AfterText phase brackets t nodes at xs p rest → AfterText phase brackets t nodes at ys q rest
+pub after_text_same : (phase : Phase) (brackets : List Open) (t : Tree) (nodes : List TreeNode) (at : ℕ) (xs ys : List ℕ) (p q : ℕ) (rest : List ℕ) → xs ≡ ys → p ≡ q
+    → AfterText phase brackets t nodes at xs p rest → AfterText phase brackets t nodes at ys q rest
 after_text_same phase brackets t nodes at xs ys p q rest e f h =
     let A : List ℕ → Type 0 = λ x. AfterText phase brackets t nodes at x p rest in
     let B : ℕ → Type 0 = λ x. AfterText phase brackets t nodes at ys x rest in
@@ -56,7 +57,8 @@ space-sign K depth nodes place c cs e h =
     let moved : place + len_utf8 c + width h.gap + 1 ≡ place + (len_utf8 c + width h.gap) + 1 = omega arith in
     record { gap = c ∷ h.gap; rest = h.rest; parts = ap (λ x. c ∷ x) h.parts; spaces = (e, h.spaces); onward = subst P moved h.onward }
 
-space-tail : (K : Onward) (depth at : ℕ) (done : List ℕ) (nodes : List TreeNode) (place c : ℕ) (cs : List ℕ) → is_space c ≡ true → ItemTail K depth at done nodes (place + len_utf8 c) cs → ItemTail K depth at done nodes place (c ∷ cs)
+space-tail : (K : Onward) (depth at : ℕ) (done : List ℕ) (nodes : List TreeNode) (place c : ℕ) (cs : List ℕ) → is_space c ≡ true
+    → ItemTail K depth at done nodes (place + len_utf8 c) cs → ItemTail K depth at done nodes place (c ∷ cs)
 space-tail K depth at done nodes place c cs e h =
     let P : ℕ → Type 0 = λ x. IsTail (AreNone h.values) (λ p y. SpellItems h.values depth p y) x h.tail in
     let Q : ℕ → Type 0 = λ x. ListEnds K at done nodes h.values x h.rest in
@@ -64,7 +66,8 @@ space-tail K depth at done nodes place c cs e h =
     let moved_end : place + len_utf8 c + width h.after + width h.tail ≡ place + (len_utf8 c + width h.after) + width h.tail = omega arith in
     record { values = h.values; after = c ∷ h.after; tail = h.tail; rest = h.rest; parts = ap (λ x. c ∷ x) h.parts; spaces = (e, h.spaces); followed = subst P moved h.followed; onward = subst Q moved_end h.onward }
 
-spelled_space-items : (values : grammar.Values) (depth place c : ℕ) (inner : List ℕ) → is_space c ≡ true → SpellItems values depth (place + len_utf8 c) inner → SpellItems values depth place (c ∷ inner)
+spelled_space-items : (values : grammar.Values) (depth place c : ℕ) (inner : List ℕ) → is_space c ≡ true → SpellItems values depth (place + len_utf8 c) inner
+    → SpellItems values depth place (c ∷ inner)
 spelled_space-items grammar.NoValues depth place c inner e s = (e, s)
 spelled_space-items (grammar.AndValue v vs) depth place c inner e s =
     let P : ℕ → Type 0 = λ x. Spells v depth x s.text in
@@ -73,13 +76,15 @@ spelled_space-items (grammar.AndValue v vs) depth place c inner e s =
     let moved_end : place + len_utf8 c + width s.gap + width s.text + width s.after ≡ place + (len_utf8 c + width s.gap) + width s.text + width s.after = omega arith in
     record { gap = c ∷ s.gap; text = s.text; after = s.after; tail = s.tail; parts = ap (λ x. c ∷ x) s.parts; gap_spaces = (e, s.gap_spaces); spelled = subst P moved s.spelled; after_spaces = s.after_spaces; followed = subst Q moved_end s.followed }
 
-space-items : (K : Onward) (depth at : ℕ) (done : List ℕ) (nodes : List TreeNode) (place c : ℕ) (cs : List ℕ) → is_space c ≡ true → InItems K depth at done nodes (place + len_utf8 c) cs → InItems K depth at done nodes place (c ∷ cs)
+space-items : (K : Onward) (depth at : ℕ) (done : List ℕ) (nodes : List TreeNode) (place c : ℕ) (cs : List ℕ) → is_space c ≡ true
+    → InItems K depth at done nodes (place + len_utf8 c) cs → InItems K depth at done nodes place (c ∷ cs)
 space-items K depth at done nodes place c cs e h =
     let Q : ℕ → Type 0 = λ x. ListEnds K at done nodes h.values x h.rest in
     let moved : place + len_utf8 c + width h.inner ≡ place + (len_utf8 c + width h.inner) = omega arith in
     record { values = h.values; inner = c ∷ h.inner; rest = h.rest; parts = ap (λ x. c ∷ x) h.parts; spelled = spelled_space-items h.values depth place c h.inner e h.spelled; onward = subst Q moved h.onward }
 
-spelled_space-entries : (entries : grammar.Entries) (depth : ℕ) (keys : List (List ℕ)) (place c : ℕ) (inner : List ℕ) → is_space c ≡ true → SpellEntries entries depth keys (place + len_utf8 c) inner → SpellEntries entries depth keys place (c ∷ inner)
+spelled_space-entries : (entries : grammar.Entries) (depth : ℕ) (keys : List (List ℕ)) (place c : ℕ) (inner : List ℕ) → is_space c ≡ true
+    → SpellEntries entries depth keys (place + len_utf8 c) inner → SpellEntries entries depth keys place (c ∷ inner)
 spelled_space-entries grammar.NoEntries depth keys place c inner e s = (e, s)
 spelled_space-entries (grammar.AndEntry at end key v es) depth keys place c inner e s =
     let i = s.1 in (
@@ -105,19 +110,22 @@ spelled_space-entries (grammar.AndEntry at end key v es) depth keys place c inne
       },
     )
 
-space-entries : (K : Onward) (depth : ℕ) (d : Dictionary) (nodes : List TreeNode) (place c : ℕ) (cs : List ℕ) → is_space c ≡ true → InEntries K depth d nodes (place + len_utf8 c) cs → InEntries K depth d nodes place (c ∷ cs)
+space-entries : (K : Onward) (depth : ℕ) (d : Dictionary) (nodes : List TreeNode) (place c : ℕ) (cs : List ℕ) → is_space c ≡ true
+    → InEntries K depth d nodes (place + len_utf8 c) cs → InEntries K depth d nodes place (c ∷ cs)
 space-entries K depth d nodes place c cs e h =
     let Q : ℕ → Type 0 = λ x. DictionaryEnds K d nodes h.entries x h.rest in
     let moved : place + len_utf8 c + width h.inner ≡ place + (len_utf8 c + width h.inner) = omega arith in
     record { entries = h.entries; inner = c ∷ h.inner; rest = h.rest; parts = ap (λ x. c ∷ x) h.parts; spelled = spelled_space-entries h.entries depth d.keys place c h.inner e h.spelled; onward = subst Q moved h.onward }
 
-space-entry_tail : (K : Onward) (depth : ℕ) (d : Dictionary) (nodes : List TreeNode) (place c : ℕ) (cs : List ℕ) → is_space c ≡ true → EntryTail K depth d nodes (place + len_utf8 c) cs → EntryTail K depth d nodes place (c ∷ cs)
+space-entry_tail : (K : Onward) (depth : ℕ) (d : Dictionary) (nodes : List TreeNode) (place c : ℕ) (cs : List ℕ) → is_space c ≡ true
+    → EntryTail K depth d nodes (place + len_utf8 c) cs → EntryTail K depth d nodes place (c ∷ cs)
 space-entry_tail K depth d nodes place c cs e h =
     let Q : ℕ → Type 0 = λ x. InEntries K depth d nodes x h.rest in
     let moved : place + len_utf8 c + width h.after + 1 ≡ place + (len_utf8 c + width h.after) + 1 = omega arith in
     record { after = c ∷ h.after; rest = h.rest; parts = ap (λ x. c ∷ x) h.parts; spaces = (e, h.spaces); onward = subst Q moved h.onward }
 
-back-space : (phase : Phase) (brackets : List Open) → Agrees phase brackets → (t : Tree) (nodes : List TreeNode) (place c : ℕ) (cs : List ℕ) → is_space c ≡ true → RestIn phase brackets t nodes (place + len_utf8 c) cs → RestIn phase brackets t nodes place (c ∷ cs)
+back-space : (phase : Phase) (brackets : List Open) → Agrees phase brackets → (t : Tree) (nodes : List TreeNode) (place c : ℕ) (cs : List ℕ) → is_space c ≡ true
+    → RestIn phase brackets t nodes (place + len_utf8 c) cs → RestIn phase brackets t nodes place (c ∷ cs)
 back-space Value brackets g t nodes place c cs e h = space-value (After brackets t) (length brackets) nodes place c cs e h
 back-space Item [] g t nodes place c cs e h = elim g [ ]
 back-space Item (Pairs d ∷ outer) g t nodes place c cs e h = elim g [ ]
@@ -139,22 +147,26 @@ back-space (End n) brackets g t nodes place c cs e h = ((e, h.0), h.1)
 -- ---- marks
 
 -- a character that is known
-pub at_char : (r s : Reader) (place c k : ℕ) → eqb c k ≡ true → ((t : Tree) (cs : List ℕ) → Rest s t (place + len_utf8 k) cs → Rest r t place (k ∷ cs)) → (t : Tree) (cs : List ℕ) → Rest s t (place + len_utf8 c) cs → Rest r t place (c ∷ cs)
+pub at_char : (r s : Reader) (place c k : ℕ) → eqb c k ≡ true → ((t : Tree) (cs : List ℕ) → Rest s t (place + len_utf8 k) cs → Rest r t place (k ∷ cs)) → (t : Tree) (cs : List ℕ)
+    → Rest s t (place + len_utf8 c) cs → Rest r t place (c ∷ cs)
 at_char r s place c k e h =
     let P : ℕ → Type 0 = λ x. (t : Tree) (cs : List ℕ) → Rest s t (place + len_utf8 x) cs → Rest r t place (x ∷ cs) in
     subst P (sym (eqb-true c k e)) h
 
-close-list : (K : Onward) (depth at : ℕ) (done : List ℕ) (nodes : List TreeNode) (place : ℕ) (cs : List ℕ) → K (nodes ++ node at (place + 1) (tree.Items done) ∷ []) (length nodes) (place + 1) cs → ListEnds K at done nodes grammar.NoValues place cs
+close-list : (K : Onward) (depth at : ℕ) (done : List ℕ) (nodes : List TreeNode) (place : ℕ) (cs : List ℕ)
+    → K (nodes ++ node at (place + 1) (tree.Items done) ∷ []) (length nodes) (place + 1) cs → ListEnds K at done nodes grammar.NoValues place cs
 close-list K depth at done nodes place cs h = carry K _ _ _ _ (place + 1) (place + 1) cs
     (ap (λ x. x ++ node at (place + 1) (tree.Items done) ∷ []) (sym (append-nil nodes)) ∙ ap (λ x. (nodes ++ []) ++ node at (place + 1) (tree.Items x) ∷ []) (sym (append-nil done)))
     (ap length (sym (append-nil nodes))) refl h
 
-close-dictionary : (K : Onward) (d : Dictionary) (nodes : List TreeNode) (place : ℕ) (cs : List ℕ) → K (nodes ++ node d.place (place + 1) (tree.Pairs d.pairs) ∷ []) (length nodes) (place + 1) cs → DictionaryEnds K d nodes grammar.NoEntries place cs
+close-dictionary : (K : Onward) (d : Dictionary) (nodes : List TreeNode) (place : ℕ) (cs : List ℕ)
+    → K (nodes ++ node d.place (place + 1) (tree.Pairs d.pairs) ∷ []) (length nodes) (place + 1) cs → DictionaryEnds K d nodes grammar.NoEntries place cs
 close-dictionary K d nodes place cs h = carry K _ _ _ _ (place + 1) (place + 1) cs
     (ap (λ x. x ++ node d.place (place + 1) (tree.Pairs d.pairs) ∷ []) (sym (append-nil nodes)) ∙ ap (λ x. (nodes ++ []) ++ node d.place (place + 1) (tree.Pairs x) ∷ []) (sym (append-nil d.pairs)))
     (ap length (sym (append-nil nodes))) refl h
 
-back-empty_list_closed : (nodes : List TreeNode) (brackets : List Open) (place c : ℕ) → Agrees Item brackets → eqb c 41 ≡ true → IfOk (list_closed (ready nodes brackets Item) place) (Back (ready nodes brackets Item) place c)
+back-empty_list_closed : (nodes : List TreeNode) (brackets : List Open) (place c : ℕ) → Agrees Item brackets → eqb c 41 ≡ true
+    → IfOk (list_closed (ready nodes brackets Item) place) (Back (ready nodes brackets Item) place c)
 unfolding list_closed value_ended
 back-empty_list_closed nodes [] place c g e = tt
 back-empty_list_closed nodes (Pairs d ∷ outer) place c g e = tt
@@ -176,7 +188,8 @@ back-empty_list_closed nodes (Items at done ∷ outer) place c g e =
       }),
     )
 
-back-list_closed : (nodes : List TreeNode) (brackets : List Open) (place c : ℕ) → Agrees ItemEnd brackets → eqb c 41 ≡ true → IfOk (list_closed (ready nodes brackets ItemEnd) place) (Back (ready nodes brackets ItemEnd) place c)
+back-list_closed : (nodes : List TreeNode) (brackets : List Open) (place c : ℕ) → Agrees ItemEnd brackets → eqb c 41 ≡ true
+    → IfOk (list_closed (ready nodes brackets ItemEnd) place) (Back (ready nodes brackets ItemEnd) place c)
 unfolding list_closed value_ended
 back-list_closed nodes [] place c g e = tt
 back-list_closed nodes (Pairs d ∷ outer) place c g e = tt
@@ -200,7 +213,8 @@ back-list_closed nodes (Items at done ∷ outer) place c g e =
       }),
     )
 
-back-dictionary_closed : (nodes : List TreeNode) (brackets : List Open) (place c : ℕ) → Agrees Key brackets → eqb c 125 ≡ true → IfOk (dictionary_closed (ready nodes brackets Key) place) (Back (ready nodes brackets Key) place c)
+back-dictionary_closed : (nodes : List TreeNode) (brackets : List Open) (place c : ℕ) → Agrees Key brackets → eqb c 125 ≡ true
+    → IfOk (dictionary_closed (ready nodes brackets Key) place) (Back (ready nodes brackets Key) place c)
 unfolding dictionary_closed value_ended
 back-dictionary_closed nodes [] place c g e = tt
 back-dictionary_closed nodes (Items at done ∷ outer) place c g e = tt
@@ -260,7 +274,8 @@ back-semicolon nodes (Pairs d ∷ outer) place c g e = (
 
 -- ---- values and texts that begin
 
-back-text_begun : (nodes : List TreeNode) (brackets : List Open) (phase : Phase) (place c : ℕ) → CanBegin phase → Agrees phase brackets → IfOk (text_begun (ready nodes brackets phase) place c) (Back (ready nodes brackets phase) place c)
+back-text_begun : (nodes : List TreeNode) (brackets : List Open) (phase : Phase) (place c : ℕ) → CanBegin phase → Agrees phase brackets
+    → IfOk (text_begun (ready nodes brackets phase) place c) (Back (ready nodes brackets phase) place c)
 unfolding text_begun
 back-text_begun nodes brackets phase place c b g =
     let r = ready nodes brackets phase in
@@ -284,7 +299,8 @@ back-text_begun nodes brackets phase place c b g =
         (begun-text phase brackets b g t nodes place text text h.rest (inl (record { some = omega arith; own = (w, h.own); same = refl }))
         (after_text_same phase brackets t nodes place (encode c ++ h.more) text (place + len_utf8 c + width h.more) (place + width text) h.rest (ap (λ x. x ++ h.more) one) (omega arith) h.onward))
 
-back-value_begun : (nodes : List TreeNode) (brackets : List Open) (phase : Phase) (place c : ℕ) → IsAwaiting phase → Agrees phase brackets → IfOk (value_begun (ready nodes brackets phase) place c) (Back (ready nodes brackets phase) place c)
+back-value_begun : (nodes : List TreeNode) (brackets : List Open) (phase : Phase) (place c : ℕ) → IsAwaiting phase → Agrees phase brackets
+    → IfOk (value_begun (ready nodes brackets phase) place c) (Back (ready nodes brackets phase) place c)
 unfolding value_begun bracket_opened
 back-value_begun nodes brackets phase place c a g =
     let r = ready nodes brackets phase in
@@ -307,17 +323,21 @@ back-value_begun nodes brackets phase place c a g =
         rest_same phase brackets t nodes place (60 ∷ (h.more ++ 62 ∷ h.rest)) (60 ∷ cs) (ap (λ x. 60 ∷ x) (sym h.parts))
         (awaiting-from_value phase brackets a g t nodes place (60 ∷ (h.more ++ 62 ∷ h.rest)) (bytes-value (After brackets t) (length brackets) nodes place h.more h.made h.rest h.hex h.onward))
 
-back-awaited : (nodes : List TreeNode) (brackets : List Open) (phase : Phase) (place c : ℕ) → Agrees phase brackets → IfOk (awaited (ready nodes brackets phase) place c phase) (Back (ready nodes brackets phase) place c)
+back-awaited : (nodes : List TreeNode) (brackets : List Open) (phase : Phase) (place c : ℕ) → Agrees phase brackets
+    → IfOk (awaited (ready nodes brackets phase) place c phase) (Back (ready nodes brackets phase) place c)
 back-awaited nodes brackets Value place c g = back-value_begun nodes brackets Value place c tt g
-back-awaited nodes brackets Item place c g = if_ok-known (Back (ready nodes brackets Item) place c) (eqb c 41) _ _ (λ e. back-empty_list_closed nodes brackets place c g e) (λ _. back-value_begun nodes brackets Item place c tt g)
+back-awaited nodes brackets Item place c g =
+    if_ok-known (Back (ready nodes brackets Item) place c) (eqb c 41) _ _ (λ e. back-empty_list_closed nodes brackets place c g e) (λ _. back-value_begun nodes brackets Item place c tt g)
 back-awaited nodes brackets ItemEnd place c g = if_ok-known (Back (ready nodes brackets ItemEnd) place c) (eqb c 41) _ _ (λ e. back-list_closed nodes brackets place c g e)
     (λ _. if_ok-known (Back (ready nodes brackets ItemEnd) place c) (eqb c 44) _ _ (λ e. back-comma nodes brackets place c g e) (λ _. tt))
-back-awaited nodes brackets Key place c g = if_ok-known (Back (ready nodes brackets Key) place c) (eqb c 125) _ _ (λ e. back-dictionary_closed nodes brackets place c g e) (λ _. back-text_begun nodes brackets Key place c tt g)
+back-awaited nodes brackets Key place c g =
+    if_ok-known (Back (ready nodes brackets Key) place c) (eqb c 125) _ _ (λ e. back-dictionary_closed nodes brackets place c g e) (λ _. back-text_begun nodes brackets Key place c tt g)
 back-awaited nodes brackets KeyEnd place c g = if_ok-known (Back (ready nodes brackets KeyEnd) place c) (eqb c 61) _ _ (λ e. back-equals nodes brackets place c g e) (λ _. tt)
 back-awaited nodes brackets PairEnd place c g = if_ok-known (Back (ready nodes brackets PairEnd) place c) (eqb c 59) _ _ (λ e. back-semicolon nodes brackets place c g e) (λ _. tt)
 back-awaited nodes brackets (End n) place c g = tt
 
-pub back-between : (nodes : List TreeNode) (brackets : List Open) (phase : Phase) (place c : ℕ) → Agrees phase brackets → IfOk (between (ready nodes brackets phase) place c) (Back (ready nodes brackets phase) place c)
+pub back-between : (nodes : List TreeNode) (brackets : List Open) (phase : Phase) (place c : ℕ) → Agrees phase brackets
+    → IfOk (between (ready nodes brackets phase) place c) (Back (ready nodes brackets phase) place c)
 unfolding between
 back-between nodes brackets phase place c g = if_ok-known (Back (ready nodes brackets phase) place c) (is_space c) _ _
     (λ e. ((g, refl, refl), λ t cs h. back-space phase brackets g t nodes place c cs e h)) (λ _. back-awaited nodes brackets phase place c g)

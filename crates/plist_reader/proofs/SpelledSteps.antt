@@ -64,7 +64,8 @@ RestIn (End number) brackets t nodes place cs = After [] t nodes number place cs
 abbrev pub AfterKey : List Open → Tree → List TreeNode → ℕ → List ℕ → ℕ → List ℕ → Type 0
 AfterKey [] t nodes at bytes place cs = ⊥
 AfterKey (Items p done ∷ outer) t nodes at bytes place cs = ⊥
-AfterKey (Pairs d ∷ outer) t nodes at bytes place cs = (is_among bytes d.keys ≡ false) × AtSign (After (Pairs (record d { keys = d.keys ++ bytes ∷ []; key = length nodes }) ∷ outer) t) (suc (length outer)) (nodes ++ node at place (tree.Text bytes) ∷ []) place cs
+AfterKey (Pairs d ∷ outer) t nodes at bytes place cs =
+    (is_among bytes d.keys ≡ false) × AtSign (After (Pairs (record d { keys = d.keys ++ bytes ∷ []; key = length nodes }) ∷ outer) t) (suc (length outer)) (nodes ++ node at place (tree.Text bytes) ∷ []) place cs
 
 abbrev pub AfterText : Phase → List Open → Tree → List TreeNode → ℕ → List ℕ → ℕ → List ℕ → Type 0
 AfterText Value brackets t nodes at bytes place cs = After brackets t (nodes ++ node at place (tree.Text bytes) ∷ []) (length nodes) place cs
@@ -189,17 +190,20 @@ settled_in-good nodes brackets (Pairs d ∷ outer) number = (tt, refl, refl)
 pub settled-good : (nodes : List TreeNode) (brackets : List Open) (number : ℕ) → Good (settled nodes brackets number)
 settled-good nodes brackets number = settled_in-good nodes brackets brackets number
 
-settled_in-rest : (nodes : List TreeNode) (brackets around : List Open) (number : ℕ) (t : Tree) (place : ℕ) (cs : List ℕ) → Rest (ended_in (ready nodes brackets Value) number around) t place cs → After around t nodes number place cs
+settled_in-rest : (nodes : List TreeNode) (brackets around : List Open) (number : ℕ) (t : Tree) (place : ℕ) (cs : List ℕ)
+    → Rest (ended_in (ready nodes brackets Value) number around) t place cs → After around t nodes number place cs
 settled_in-rest nodes brackets [] number t place cs h = h
 settled_in-rest nodes brackets (Items at done ∷ outer) number t place cs h = h
 settled_in-rest nodes brackets (Pairs d ∷ outer) number t place cs h = h
 
-pub settled-rest : (nodes : List TreeNode) (brackets : List Open) (number : ℕ) (t : Tree) (place : ℕ) (cs : List ℕ) → Rest (settled nodes brackets number) t place cs → After brackets t nodes number place cs
+pub settled-rest : (nodes : List TreeNode) (brackets : List Open) (number : ℕ) (t : Tree) (place : ℕ) (cs : List ℕ) → Rest (settled nodes brackets number) t place cs
+    → After brackets t nodes number place cs
 settled-rest nodes brackets number t place cs h = settled_in-rest nodes brackets brackets number t place cs h
 
 -- ---- values that begin
 
-pub awaiting-from_value : (phase : Phase) (brackets : List Open) → IsAwaiting phase → Agrees phase brackets → (t : Tree) (nodes : List TreeNode) (place : ℕ) (cs : List ℕ) → AtValue (After brackets t) (length brackets) nodes place cs → RestIn phase brackets t nodes place cs
+pub awaiting-from_value : (phase : Phase) (brackets : List Open) → IsAwaiting phase → Agrees phase brackets → (t : Tree) (nodes : List TreeNode) (place : ℕ) (cs : List ℕ)
+    → AtValue (After brackets t) (length brackets) nodes place cs → RestIn phase brackets t nodes place cs
 awaiting-from_value Value brackets a g t nodes place cs h = h
 awaiting-from_value Item [] a g t nodes place cs h = elim g [ ]
 awaiting-from_value Item (Pairs d ∷ outer) a g t nodes place cs h = elim g [ ]
@@ -211,7 +215,8 @@ awaiting-from_value PairEnd brackets a g t nodes place cs h = elim a [ ]
 awaiting-from_value (End n) brackets a g t nodes place cs h = elim a [ ]
 
 -- a text that is a value
-text-value : (K : Onward) (depth : ℕ) (nodes : List TreeNode) (place : ℕ) (text bytes rest : List ℕ) → IsText text bytes → K (nodes ++ node place (place + width text) (tree.Text bytes) ∷ []) (length nodes) (place + width text) rest → AtValue K depth nodes place (text ++ rest)
+text-value : (K : Onward) (depth : ℕ) (nodes : List TreeNode) (place : ℕ) (text bytes rest : List ℕ) → IsText text bytes
+    → K (nodes ++ node place (place + width text) (tree.Text bytes) ∷ []) (length nodes) (place + width text) rest → AtValue K depth nodes place (text ++ rest)
 text-value K depth nodes place text bytes rest w h = record {
   value = grammar.Text place (place + width text) bytes;
   gap = [];
@@ -224,7 +229,9 @@ text-value K depth nodes place text bytes rest w h = record {
 }
 
 -- a byte string
-pub bytes-value : (K : Onward) (depth : ℕ) (nodes : List TreeNode) (place : ℕ) (inner bytes rest : List ℕ) → IsHex inner bytes → K (nodes ++ node place (place + 1 + width inner + 1) (tree.Bytes bytes) ∷ []) (length nodes) (place + 1 + width inner + 1) rest → AtValue K depth nodes place (60 ∷ (inner ++ 62 ∷ rest))
+pub bytes-value : (K : Onward) (depth : ℕ) (nodes : List TreeNode) (place : ℕ) (inner bytes rest : List ℕ) → IsHex inner bytes
+    → K (nodes ++ node place (place + 1 + width inner + 1) (tree.Bytes bytes) ∷ []) (length nodes) (place + 1 + width inner + 1) rest
+    → AtValue K depth nodes place (60 ∷ (inner ++ 62 ∷ rest))
 bytes-value K depth nodes place inner bytes rest q h =
     let text = 60 ∷ (inner ++ 62 ∷ []) in
     let w : width text ≡ 1 + (width inner + 1) = omega (arith, width-append inner (62 ∷ [])) in
@@ -240,7 +247,8 @@ bytes-value K depth nodes place inner bytes rest q h =
     }
 
 -- a list
-pub list-value : (K : Onward) (depth count : ℕ) (nodes : List TreeNode) (place : ℕ) (cs : List ℕ) → depth < 64 → count ≡ depth + 1 → InItems K count place [] nodes (place + 1) cs → AtValue K depth nodes place (40 ∷ cs)
+pub list-value : (K : Onward) (depth count : ℕ) (nodes : List TreeNode) (place : ℕ) (cs : List ℕ) → depth < 64 → count ≡ depth + 1 → InItems K count place [] nodes (place + 1) cs
+    → AtValue K depth nodes place (40 ∷ cs)
 list-value K depth count nodes place cs l e h =
     let text = 40 ∷ (h.inner ++ 41 ∷ []) in
     let n = length nodes in
@@ -263,7 +271,8 @@ list-value K depth count nodes place cs l e h =
     }
 
 -- a dictionary
-pub dictionary-value : (K : Onward) (depth count : ℕ) (nodes : List TreeNode) (place : ℕ) (cs : List ℕ) → depth < 64 → count ≡ depth + 1 → InEntries K count (opened place) nodes (place + 1) cs → AtValue K depth nodes place (123 ∷ cs)
+pub dictionary-value : (K : Onward) (depth count : ℕ) (nodes : List TreeNode) (place : ℕ) (cs : List ℕ) → depth < 64 → count ≡ depth + 1
+    → InEntries K count (opened place) nodes (place + 1) cs → AtValue K depth nodes place (123 ∷ cs)
 dictionary-value K depth count nodes place cs l e h =
     let text = 123 ∷ (h.inner ++ 125 ∷ []) in
     let n = length nodes in
@@ -286,11 +295,13 @@ dictionary-value K depth count nodes place cs l e h =
     }
 
 -- a text where one can begin
-pub begun-text : (phase : Phase) (brackets : List Open) → CanBegin phase → Agrees phase brackets → (t : Tree) (nodes : List TreeNode) (place : ℕ) (text bytes rest : List ℕ) → IsText text bytes → AfterText phase brackets t nodes place bytes (place + width text) rest → RestIn phase brackets t nodes place (text ++ rest)
+pub begun-text : (phase : Phase) (brackets : List Open) → CanBegin phase → Agrees phase brackets → (t : Tree) (nodes : List TreeNode) (place : ℕ) (text bytes rest : List ℕ)
+    → IsText text bytes → AfterText phase brackets t nodes place bytes (place + width text) rest → RestIn phase brackets t nodes place (text ++ rest)
 begun-text Value brackets b g t nodes place text bytes rest w h = text-value (After brackets t) (length brackets) nodes place text bytes rest w h
 begun-text Item [] b g t nodes place text bytes rest w h = elim g [ ]
 begun-text Item (Pairs d ∷ outer) b g t nodes place text bytes rest w h = elim g [ ]
-begun-text Item (Items at done ∷ outer) b g t nodes place text bytes rest w h = item-from_value outer t at done nodes place (text ++ rest) (text-value (After (Items at done ∷ outer) t) (suc (length outer)) nodes place text bytes rest w h)
+begun-text Item (Items at done ∷ outer) b g t nodes place text bytes rest w h =
+    item-from_value outer t at done nodes place (text ++ rest) (text-value (After (Items at done ∷ outer) t) (suc (length outer)) nodes place text bytes rest w h)
 begun-text Key [] b g t nodes place text bytes rest w h = elim g [ ]
 begun-text Key (Items at done ∷ outer) b g t nodes place text bytes rest w h = elim g [ ]
 begun-text Key (Pairs d ∷ outer) b g t nodes place text bytes rest w h =
@@ -303,5 +314,6 @@ begun-text PairEnd brackets b g t nodes place text bytes rest w h = elim b [ ]
 begun-text (End n) brackets b g t nodes place text bytes rest w h = elim b [ ]
 
 -- the rest of a text is one with other names for its characters
-pub rest_same : (phase : Phase) (brackets : List Open) (t : Tree) (nodes : List TreeNode) (place : ℕ) (cs ds : List ℕ) → cs ≡ ds → RestIn phase brackets t nodes place cs → RestIn phase brackets t nodes place ds
+pub rest_same : (phase : Phase) (brackets : List Open) (t : Tree) (nodes : List TreeNode) (place : ℕ) (cs ds : List ℕ) → cs ≡ ds → RestIn phase brackets t nodes place cs
+    → RestIn phase brackets t nodes place ds
 rest_same phase brackets t nodes place cs ds e h = let P : List ℕ → Type 0 = λ x. RestIn phase brackets t nodes place x in subst P e h

@@ -42,7 +42,9 @@ use Rattle.plist_reader.proofs.SpelledRuns.{after_text_same, at_char, back-betwe
 -- ---- readers between tokens
 
 ready_is : (r : Reader) → r.token ≡ Between → r.text ≡ [] → r.bytes ≡ [] → ready r.nodes r.brackets r.phase ≡ r
-ready_is r e f g = ap (λ x. in_token r.nodes r.brackets r.phase x [] []) (sym e) ∙ ap (λ x. in_token r.nodes r.brackets r.phase r.token x []) (sym f) ∙ ap (λ x. in_token r.nodes r.brackets r.phase r.token r.text x) (sym g)
+ready_is r e f g =
+    ap (λ x. in_token r.nodes r.brackets r.phase x [] []) (sym e) ∙ ap (λ x. in_token r.nodes r.brackets r.phase r.token x []) (sym f)
+    ∙ ap (λ x. in_token r.nodes r.brackets r.phase r.token r.text x) (sym g)
 
 back-between_any : (r : Reader) (place c : ℕ) → Good r → r.token ≡ Between → IfOk (between r place c) (Back r place c)
 back-between_any r place c g e =
@@ -61,18 +63,22 @@ if_ok-bind P Q (Err e) f h k = tt
 abbrev pub EndsText : List TreeNode → List Open → Phase → ℕ → ℕ → List ℕ → Reader → Type 0
 EndsText nodes brackets phase at end text s = Good s × (s.token ≡ Between) × ((t : Tree) (cs : List ℕ) → Rest s t end cs → AfterText phase brackets t nodes at text end cs)
 
-ends_value : (nodes : List TreeNode) (brackets : List Open) (at end : ℕ) (text : List ℕ) → Good (settled (nodes ++ node at end (tree.Text text) ∷ []) brackets (length nodes)) × ((settled (nodes ++ node at end (tree.Text text) ∷ []) brackets (length nodes)).token ≡ Between) × ((t : Tree) (cs : List ℕ) → Rest (settled (nodes ++ node at end (tree.Text text) ∷ []) brackets (length nodes)) t end cs → After brackets t (nodes ++ node at end (tree.Text text) ∷ []) (length nodes) end cs)
+ends_value : (nodes : List TreeNode) (brackets : List Open) (at end : ℕ) (text : List ℕ)
+    → Good (settled (nodes ++ node at end (tree.Text text) ∷ []) brackets (length nodes)) × ((settled (nodes ++ node at end (tree.Text text) ∷ []) brackets (length nodes)).token ≡ Between) × ((t : Tree) (cs : List ℕ) → Rest (settled (nodes ++ node at end (tree.Text text) ∷ []) brackets (length nodes)) t end cs → After brackets t (nodes ++ node at end (tree.Text text) ∷ []) (length nodes) end cs)
 ends_value nodes brackets at end text =
     let made = nodes ++ node at end (tree.Text text) ∷ [] in
     (settled-good made brackets (length nodes), settled-between made brackets (length nodes), λ t cs h. settled-rest made brackets (length nodes) t end cs h)
 
-back-key_ended : (nodes : List TreeNode) (brackets : List Open) (token : Token) (at end : ℕ) (text : List ℕ) → Agrees Key brackets → IfOk (text_ended (in_token nodes brackets Key token text []) at end) (EndsText nodes brackets Key at end text)
+back-key_ended : (nodes : List TreeNode) (brackets : List Open) (token : Token) (at end : ℕ) (text : List ℕ) → Agrees Key brackets
+    → IfOk (text_ended (in_token nodes brackets Key token text []) at end) (EndsText nodes brackets Key at end text)
 unfolding text_ended key_ended
 back-key_ended nodes [] token at end text g = tt
 back-key_ended nodes (Items p done ∷ outer) token at end text g = tt
-back-key_ended nodes (Pairs d ∷ outer) token at end text g = if_ok-known (EndsText nodes (Pairs d ∷ outer) Key at end text) (is_among text d.keys) _ _ (λ _. tt) (λ e. ((tt, refl, refl), refl, λ t cs h. (e, h)))
+back-key_ended nodes (Pairs d ∷ outer) token at end text g =
+    if_ok-known (EndsText nodes (Pairs d ∷ outer) Key at end text) (is_among text d.keys) _ _ (λ _. tt) (λ e. ((tt, refl, refl), refl, λ t cs h. (e, h)))
 
-pub back-text_ended : (nodes : List TreeNode) (brackets : List Open) (phase : Phase) (token : Token) (at end : ℕ) (text : List ℕ) → CanBegin phase → Agrees phase brackets → IfOk (text_ended (in_token nodes brackets phase token text []) at end) (EndsText nodes brackets phase at end text)
+pub back-text_ended : (nodes : List TreeNode) (brackets : List Open) (phase : Phase) (token : Token) (at end : ℕ) (text : List ℕ) → CanBegin phase → Agrees phase brackets
+    → IfOk (text_ended (in_token nodes brackets phase token text []) at end) (EndsText nodes brackets phase at end text)
 back-text_ended nodes brackets Value token at end text b g =
     let P : Result Reader Refusal → Type 0 = λ d. IfOk d (EndsText nodes brackets Value at end text) in
     subst P (sym (text-ended nodes brackets Value token at end text tt)) (ends_value nodes brackets at end text)
@@ -87,10 +93,12 @@ back-text_ended nodes brackets (End n) token at end text b g = elim b [ ]
 
 -- ---- words
 
-word_end : (nodes : List TreeNode) (brackets : List Open) (phase : Phase) (at place : ℕ) (text : List ℕ) (t : Tree) (cs : List ℕ) → AfterText phase brackets t nodes at text place cs → InWord phase brackets nodes text t at place cs
+word_end : (nodes : List TreeNode) (brackets : List Open) (phase : Phase) (at place : ℕ) (text : List ℕ) (t : Tree) (cs : List ℕ)
+    → AfterText phase brackets t nodes at text place cs → InWord phase brackets nodes text t at place cs
 word_end nodes brackets phase at place text t cs h = record { more = []; rest = cs; parts = refl; own = tt; onward = after_text_same phase brackets t nodes at text (text ++ []) place (place + 0) cs (sym (append-nil text)) (omega arith) h }
 
-back-in_word : (nodes : List TreeNode) (brackets : List Open) (phase : Phase) (at place c : ℕ) (text : List ℕ) → CanBegin phase → Agrees phase brackets → IfOk (in_word (in_token nodes brackets phase (Word at) text []) at place c) (Back (in_token nodes brackets phase (Word at) text []) place c)
+back-in_word : (nodes : List TreeNode) (brackets : List Open) (phase : Phase) (at place c : ℕ) (text : List ℕ) → CanBegin phase → Agrees phase brackets
+    → IfOk (in_word (in_token nodes brackets phase (Word at) text []) at place c) (Back (in_token nodes brackets phase (Word at) text []) place c)
 unfolding in_word
 back-in_word nodes brackets phase at place c text b g =
     let r = in_token nodes brackets phase (Word at) text [] in
@@ -116,7 +124,8 @@ back-in_word nodes brackets phase at place c text b g =
 
 -- ---- quoted strings
 
-back-in_quoted : (nodes : List TreeNode) (brackets : List Open) (phase : Phase) (at place c : ℕ) (text : List ℕ) → IsScalar c → CanBegin phase → Agrees phase brackets → IfOk (in_quoted (in_token nodes brackets phase (Quoted at) text []) at place c) (Back (in_token nodes brackets phase (Quoted at) text []) place c)
+back-in_quoted : (nodes : List TreeNode) (brackets : List Open) (phase : Phase) (at place c : ℕ) (text : List ℕ) → IsScalar c → CanBegin phase → Agrees phase brackets
+    → IfOk (in_quoted (in_token nodes brackets phase (Quoted at) text []) at place c) (Back (in_token nodes brackets phase (Quoted at) text []) place c)
 unfolding in_quoted
 back-in_quoted nodes brackets phase at place c text i b g =
     let r = in_token nodes brackets phase (Quoted at) text [] in
@@ -144,7 +153,8 @@ back-in_quoted nodes brackets phase at place c text i b g =
               (append_assoc text (encode k.character) q.bytes) (omega (arith, w, k.behind_is, width-append k.escape q.more)) q.onward;
         }
 
-    plain_more : eqb c 34 ≡ false → eqb c 92 ≡ false → (t : Tree) (cs : List ℕ) → InQuoted phase brackets nodes (text ++ encode c) t at (place + len_utf8 c) cs → InQuoted phase brackets nodes text t at place (c ∷ cs)
+    plain_more : eqb c 34 ≡ false → eqb c 92 ≡ false → (t : Tree) (cs : List ℕ) → InQuoted phase brackets nodes (text ++ encode c) t at (place + len_utf8 c) cs
+        → InQuoted phase brackets nodes text t at place (c ∷ cs)
     plain_more n m t cs h = record {
       more = c ∷ h.more;
       bytes = encode c ++ h.bytes;
@@ -155,24 +165,28 @@ back-in_quoted nodes brackets phase at place c text i b g =
           (append_assoc text (encode c) h.bytes) (omega arith) h.onward;
     }
 
-back-after_escape : (nodes : List TreeNode) (brackets : List Open) (phase : Phase) (at backslash place c : ℕ) (escape : EscapeState) (text : List ℕ) (out : Escaped) → CanBegin phase → Agrees phase brackets → ((front : List ℕ) → Front escape front → Means (front ++ c ∷ []) out)
+back-after_escape : (nodes : List TreeNode) (brackets : List Open) (phase : Phase) (at backslash place c : ℕ) (escape : EscapeState) (text : List ℕ) (out : Escaped)
+    → CanBegin phase → Agrees phase brackets → ((front : List ℕ) → Front escape front → Means (front ++ c ∷ []) out)
     → IfOk (after_escape (in_token nodes brackets phase (Escape at backslash escape) text []) at backslash out) (Back (in_token nodes brackets phase (Escape at backslash escape) text []) place c)
 back-after_escape nodes brackets phase at backslash place c escape text (More next) b g m = ((g, b, refl), λ t cs h front f. goes_on t cs front (h (front ++ c ∷ []) (m front f)))
   where
     goes_on : (t : Tree) (cs front : List ℕ) → EscapeRest phase brackets nodes text t at (place + len_utf8 c) (front ++ c ∷ []) cs → EscapeRest phase brackets nodes text t at place front (c ∷ cs)
     goes_on t cs front k = record { escape = k.escape; character = k.character; tail = k.tail; behind = k.behind; parts = sym (append_assoc front (c ∷ []) cs) ∙ k.parts; known = k.known; behind_is = k.behind_is ∙ omega arith; onward = k.onward }
-back-after_escape nodes brackets phase at backslash place c escape text (Whole character) b g m = ((g, b, refl), λ t cs h front f. record { escape = front ++ c ∷ []; character = character; tail = cs; behind = place + len_utf8 c; parts = sym (append_assoc front (c ∷ []) cs); known = m front f; behind_is = omega arith; onward = h })
+back-after_escape nodes brackets phase at backslash place c escape text (Whole character) b g m =
+    ((g, b, refl), λ t cs h front f. record { escape = front ++ c ∷ []; character = character; tail = cs; behind = place + len_utf8 c; parts = sym (append_assoc front (c ∷ []) cs); known = m front f; behind_is = omega arith; onward = h })
 back-after_escape nodes brackets phase at backslash place c escape text Wrong b g m = tt
 
 -- ---- byte strings
 
-after_bytes_same : (brackets : List Open) (t : Tree) (nodes : List TreeNode) (at : ℕ) (xs ys : List ℕ) (p q : ℕ) (rest : List ℕ) → xs ≡ ys → p ≡ q → After brackets t (nodes ++ node at p (tree.Bytes xs) ∷ []) (length nodes) p rest → After brackets t (nodes ++ node at q (tree.Bytes ys) ∷ []) (length nodes) q rest
+after_bytes_same : (brackets : List Open) (t : Tree) (nodes : List TreeNode) (at : ℕ) (xs ys : List ℕ) (p q : ℕ) (rest : List ℕ) → xs ≡ ys → p ≡ q
+    → After brackets t (nodes ++ node at p (tree.Bytes xs) ∷ []) (length nodes) p rest → After brackets t (nodes ++ node at q (tree.Bytes ys) ∷ []) (length nodes) q rest
 after_bytes_same brackets t nodes at xs ys p q rest e f h =
     let A : List ℕ → Type 0 = λ x. After brackets t (nodes ++ node at p (tree.Bytes x) ∷ []) (length nodes) p rest in
     let B : ℕ → Type 0 = λ x. After brackets t (nodes ++ node at x (tree.Bytes ys) ∷ []) (length nodes) x rest in
     subst B f (subst A e h)
 
-back-after_hex : (nodes : List TreeNode) (brackets : List Open) (phase : Phase) (at place c : ℕ) (bytes : List ℕ) (o : Option ℕ) → hex_value c ≡ o → IsAwaiting phase → Agrees phase brackets → IfOk (after_hex (in_token nodes brackets phase (Bytes at) [] bytes) at place c o) (Back (in_token nodes brackets phase (Bytes at) [] bytes) place c)
+back-after_hex : (nodes : List TreeNode) (brackets : List Open) (phase : Phase) (at place c : ℕ) (bytes : List ℕ) (o : Option ℕ) → hex_value c ≡ o → IsAwaiting phase
+    → Agrees phase brackets → IfOk (after_hex (in_token nodes brackets phase (Bytes at) [] bytes) at place c o) (Back (in_token nodes brackets phase (Bytes at) [] bytes) place c)
 back-after_hex nodes brackets phase at place c bytes None e a g = tt
 back-after_hex nodes brackets phase at place c bytes (Some v) e a g = (
   (g, a, refl),
@@ -186,7 +200,8 @@ back-after_hex nodes brackets phase at place c bytes (Some v) e a g = (
   }),
 )
 
-back-in_bytes : (nodes : List TreeNode) (brackets : List Open) (phase : Phase) (at place c : ℕ) (bytes : List ℕ) → IsAwaiting phase → Agrees phase brackets → IfOk (in_bytes (in_token nodes brackets phase (Bytes at) [] bytes) at place c) (Back (in_token nodes brackets phase (Bytes at) [] bytes) place c)
+back-in_bytes : (nodes : List TreeNode) (brackets : List Open) (phase : Phase) (at place c : ℕ) (bytes : List ℕ) → IsAwaiting phase → Agrees phase brackets
+    → IfOk (in_bytes (in_token nodes brackets phase (Bytes at) [] bytes) at place c) (Back (in_token nodes brackets phase (Bytes at) [] bytes) place c)
 unfolding in_bytes value_ended
 back-in_bytes nodes brackets phase at place c bytes a g =
     let r = in_token nodes brackets phase (Bytes at) [] bytes in
@@ -229,7 +244,9 @@ both_digits None p v e = absurd (no_value v None refl e)
 both_digits (Some x) None v e = absurd (no_value v None refl e)
 both_digits (Some x) (Some y) v e = (x, y, refl, refl, some_same (x * 16 + y) v (Some (x * 16 + y)) refl e)
 
-back-after_half : (nodes : List TreeNode) (brackets : List Open) (phase : Phase) (at high place c : ℕ) (bytes : List ℕ) (o : Option ℕ) → byte_of high c ≡ o → IsAwaiting phase → Agrees phase brackets → IfOk (after_half (in_token nodes brackets phase (Half at high) [] bytes) at place c o) (Back (in_token nodes brackets phase (Half at high) [] bytes) place c)
+back-after_half : (nodes : List TreeNode) (brackets : List Open) (phase : Phase) (at high place c : ℕ) (bytes : List ℕ) (o : Option ℕ) → byte_of high c ≡ o → IsAwaiting phase
+    → Agrees phase brackets
+    → IfOk (after_half (in_token nodes brackets phase (Half at high) [] bytes) at place c o) (Back (in_token nodes brackets phase (Half at high) [] bytes) place c)
 unfolding byte_of
 back-after_half nodes brackets phase at high place c bytes None e a g = tt
 back-after_half nodes brackets phase at high place c bytes (Some v) e a g = (
@@ -253,7 +270,8 @@ back-after_half nodes brackets phase at high place c bytes (Some v) e a g = (
       }),
 )
 
-back-in_half : (nodes : List TreeNode) (brackets : List Open) (phase : Phase) (at high place c : ℕ) (bytes : List ℕ) → IsAwaiting phase → Agrees phase brackets → IfOk (in_half (in_token nodes brackets phase (Half at high) [] bytes) at high place c) (Back (in_token nodes brackets phase (Half at high) [] bytes) place c)
+back-in_half : (nodes : List TreeNode) (brackets : List Open) (phase : Phase) (at high place c : ℕ) (bytes : List ℕ) → IsAwaiting phase → Agrees phase brackets
+    → IfOk (in_half (in_token nodes brackets phase (Half at high) [] bytes) at high place c) (Back (in_token nodes brackets phase (Half at high) [] bytes) place c)
 unfolding in_half
 back-in_half nodes brackets phase at high place c bytes a g =
     let r = in_token nodes brackets phase (Half at high) [] bytes in
@@ -281,20 +299,30 @@ back-in_half nodes brackets phase at high place c bytes a g =
 -- ---- any step
 
 -- the text of a token that has none, and the bytes of one that has none
-with_no_bytes : (nodes : List TreeNode) (brackets : List Open) (phase : Phase) (token : Token) (text bytes : List ℕ) (place c : ℕ) → bytes ≡ [] → IfOk (step_in (in_token nodes brackets phase token text []) place c token) (Back (in_token nodes brackets phase token text []) place c) → IfOk (step_in (in_token nodes brackets phase token text bytes) place c token) (Back (in_token nodes brackets phase token text bytes) place c)
-with_no_bytes nodes brackets phase token text bytes place c e h = let P : List ℕ → Type 0 = λ x. IfOk (step_in (in_token nodes brackets phase token text x) place c token) (Back (in_token nodes brackets phase token text x) place c) in subst P (sym e) h
+with_no_bytes : (nodes : List TreeNode) (brackets : List Open) (phase : Phase) (token : Token) (text bytes : List ℕ) (place c : ℕ) → bytes ≡ []
+    → IfOk (step_in (in_token nodes brackets phase token text []) place c token) (Back (in_token nodes brackets phase token text []) place c)
+    → IfOk (step_in (in_token nodes brackets phase token text bytes) place c token) (Back (in_token nodes brackets phase token text bytes) place c)
+with_no_bytes nodes brackets phase token text bytes place c e h =
+    let P : List ℕ → Type 0 = λ x. IfOk (step_in (in_token nodes brackets phase token text x) place c token) (Back (in_token nodes brackets phase token text x) place c) in subst P (sym e) h
 
-with_no_text : (nodes : List TreeNode) (brackets : List Open) (phase : Phase) (token : Token) (text bytes : List ℕ) (place c : ℕ) → text ≡ [] → IfOk (step_in (in_token nodes brackets phase token [] bytes) place c token) (Back (in_token nodes brackets phase token [] bytes) place c) → IfOk (step_in (in_token nodes brackets phase token text bytes) place c token) (Back (in_token nodes brackets phase token text bytes) place c)
-with_no_text nodes brackets phase token text bytes place c e h = let P : List ℕ → Type 0 = λ x. IfOk (step_in (in_token nodes brackets phase token x bytes) place c token) (Back (in_token nodes brackets phase token x bytes) place c) in subst P (sym e) h
+with_no_text : (nodes : List TreeNode) (brackets : List Open) (phase : Phase) (token : Token) (text bytes : List ℕ) (place c : ℕ) → text ≡ []
+    → IfOk (step_in (in_token nodes brackets phase token [] bytes) place c token) (Back (in_token nodes brackets phase token [] bytes) place c)
+    → IfOk (step_in (in_token nodes brackets phase token text bytes) place c token) (Back (in_token nodes brackets phase token text bytes) place c)
+with_no_text nodes brackets phase token text bytes place c e h =
+    let P : List ℕ → Type 0 = λ x. IfOk (step_in (in_token nodes brackets phase token x bytes) place c token) (Back (in_token nodes brackets phase token x bytes) place c) in subst P (sym e) h
 
-back-step_in : (nodes : List TreeNode) (brackets : List Open) (phase : Phase) (token : Token) (text bytes : List ℕ) (place c : ℕ) → IsScalar c → Good (in_token nodes brackets phase token text bytes) → IfOk (step_in (in_token nodes brackets phase token text bytes) place c token) (Back (in_token nodes brackets phase token text bytes) place c)
+back-step_in : (nodes : List TreeNode) (brackets : List Open) (phase : Phase) (token : Token) (text bytes : List ℕ) (place c : ℕ) → IsScalar c
+    → Good (in_token nodes brackets phase token text bytes)
+    → IfOk (step_in (in_token nodes brackets phase token text bytes) place c token) (Back (in_token nodes brackets phase token text bytes) place c)
 back-step_in nodes brackets phase Between text bytes place c i g = back-between_any (in_token nodes brackets phase Between text bytes) place c g refl
 back-step_in nodes brackets phase (Word at) text bytes place c i g = with_no_bytes nodes brackets phase (Word at) text bytes place c g.2 (back-in_word nodes brackets phase at place c text g.1 g.0)
-back-step_in nodes brackets phase (Quoted at) text bytes place c i g = with_no_bytes nodes brackets phase (Quoted at) text bytes place c g.2 (back-in_quoted nodes brackets phase at place c text i g.1 g.0)
+back-step_in nodes brackets phase (Quoted at) text bytes place c i g =
+    with_no_bytes nodes brackets phase (Quoted at) text bytes place c g.2 (back-in_quoted nodes brackets phase at place c text i g.1 g.0)
 back-step_in nodes brackets phase (Escape at backslash escape) text bytes place c i g = with_no_bytes nodes brackets phase (Escape at backslash escape) text bytes place c g.2
     (back-after_escape nodes brackets phase at backslash place c escape text (escape_next escape c) g.1 g.0 (λ front f. means-next escape front f c))
 back-step_in nodes brackets phase (Bytes at) text bytes place c i g = with_no_text nodes brackets phase (Bytes at) text bytes place c g.2 (back-in_bytes nodes brackets phase at place c bytes g.1 g.0)
-back-step_in nodes brackets phase (Half at high) text bytes place c i g = with_no_text nodes brackets phase (Half at high) text bytes place c g.2 (back-in_half nodes brackets phase at high place c bytes g.1 g.0)
+back-step_in nodes brackets phase (Half at high) text bytes place c i g =
+    with_no_text nodes brackets phase (Half at high) text bytes place c g.2 (back-in_half nodes brackets phase at high place c bytes g.1 g.0)
 
 pub back-step : (r : Reader) (place c : ℕ) → IsScalar c → Good r → IfOk (step r place c) (Back r place c)
 unfolding step
@@ -322,7 +350,9 @@ whole_any-rest s place e =
     between_is : (s : Reader) (t : Tree) (place : ℕ) → s.token ≡ Between → RestIn s.phase s.brackets t s.nodes place [] → Rest s t place []
     between_is s t place e h = let P : Token → Type 0 = λ x. RestOf x s t place [] in subst P (sym e) h
 
-finish_in-rest : (nodes : List TreeNode) (brackets : List Open) (phase : Phase) (token : Token) (text bytes : List ℕ) (place : ℕ) → Good (in_token nodes brackets phase token text bytes) → IfOk (finish_in (in_token nodes brackets phase token text bytes) place token) (λ t. Rest (in_token nodes brackets phase token text bytes) t place [])
+finish_in-rest : (nodes : List TreeNode) (brackets : List Open) (phase : Phase) (token : Token) (text bytes : List ℕ) (place : ℕ)
+    → Good (in_token nodes brackets phase token text bytes)
+    → IfOk (finish_in (in_token nodes brackets phase token text bytes) place token) (λ t. Rest (in_token nodes brackets phase token text bytes) t place [])
 finish_in-rest nodes brackets phase Between text bytes place g = whole-rest (in_token nodes brackets phase Between text bytes) place
 finish_in-rest nodes brackets phase (Word at) text bytes place g =
     let P : List ℕ → Type 0 = λ x. IfOk (finish_in (in_token nodes brackets phase (Word at) text x) place (Word at)) (λ t. Rest (in_token nodes brackets phase (Word at) text x) t place []) in
@@ -360,7 +390,8 @@ run-spelled cs i = IfOk-weaker (run (ready [] [] Value) 0 cs) (λ t. Rest (ready
     (run-rest cs (ready [] [] Value) 0 i (tt, refl, refl))
 
 read_of-spelled_if : (source : List ℕ) (b : Bool) → is_utf8 source ≡ b → IfOk (cond b (run start 0 (chars source)) (Err (refusal NotUtf8 (utf8_valid_len source)))) (HasTree source)
-read_of-spelled_if source true e = IfOk-weaker (run start 0 (chars source)) (Spelled (chars source)) (HasTree source) (λ t h. record { utf8 = IsUtf8-from_is_utf8 source e; value = h.0; spelled = h.1; numbered = h.2 }) (run-spelled (chars source) (source-scalars source (IsUtf8-from_is_utf8 source e)))
+read_of-spelled_if source true e =
+    IfOk-weaker (run start 0 (chars source)) (Spelled (chars source)) (HasTree source) (λ t h. record { utf8 = IsUtf8-from_is_utf8 source e; value = h.0; spelled = h.1; numbered = h.2 }) (run-spelled (chars source) (source-scalars source (IsUtf8-from_is_utf8 source e)))
 read_of-spelled_if source false e = tt
 
 -- what a source gives is spelled so

@@ -44,7 +44,8 @@ settled-started nodes brackets number front = none-started (settled nodes bracke
 started-more : (front : List ℕ) (c at : ℕ) (nodes : List TreeNode) (brackets : List Open) (phase : Phase) → Started front at nodes brackets phase → Started (front ++ c ∷ []) at nodes brackets phase
 started-more front c at nodes brackets phase h = record { before = h.before; more = h.more ++ c ∷ []; parts = ap (λ x. x ++ c ∷ []) h.parts ∙ append_assoc h.before h.more (c ∷ []); place = h.place; reached = h.reached }
 
-started-here : (front : List ℕ) (place c : ℕ) (nodes : List TreeNode) (brackets : List Open) (phase : Phase) → place ≡ width front → Reached front (ready nodes brackets phase) → Started (front ++ c ∷ []) place nodes brackets phase
+started-here : (front : List ℕ) (place c : ℕ) (nodes : List TreeNode) (brackets : List Open) (phase : Phase) → place ≡ width front → Reached front (ready nodes brackets phase)
+    → Started (front ++ c ∷ []) place nodes brackets phase
 started-here front place c nodes brackets phase e h = record { before = front; more = c ∷ []; parts = refl; place = e; reached = h }
 
 -- behind a text no other begins

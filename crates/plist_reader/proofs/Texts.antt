@@ -65,8 +65,10 @@ settled-texts q number nodes (Pairs d ∷ outer) = refl
 other-texts : (q : ℕ) (nodes : List TreeNode) (n : TreeNode) (brackets : List Open) → is_text_at q n ≡ false → Texts q (settled (nodes ++ n ∷ []) brackets (length nodes)) ≡ texts_at q nodes + 0
 other-texts q nodes n brackets e = let none : bit (is_text_at q n) ≡ 0 = ap bit e in settled-texts q (length nodes) (nodes ++ n ∷ []) brackets ∙ omega (arith, texts_at-push q nodes n, none)
 
-ended-texts : (q : ℕ) (nodes : List TreeNode) (brackets : List Open) (phase : Phase) (at end : ℕ) (text : List ℕ) (u : Reader) → TextEnds nodes brackets phase at end text u → Texts q u ≡ texts_at q nodes + bit (eqb at q)
-ended-texts q nodes _ _ _ _ _ _ (as_value brackets phase at end text a) = settled-texts q (length nodes) (nodes ++ node at end (tree.Text text) ∷ []) brackets ∙ omega (arith, texts_at-push q nodes (node at end (tree.Text text)))
+ended-texts : (q : ℕ) (nodes : List TreeNode) (brackets : List Open) (phase : Phase) (at end : ℕ) (text : List ℕ) (u : Reader) → TextEnds nodes brackets phase at end text u
+    → Texts q u ≡ texts_at q nodes + bit (eqb at q)
+ended-texts q nodes _ _ _ _ _ _ (as_value brackets phase at end text a) =
+    settled-texts q (length nodes) (nodes ++ node at end (tree.Text text) ∷ []) brackets ∙ omega (arith, texts_at-push q nodes (node at end (tree.Text text)))
 ended-texts q nodes _ _ _ _ _ _ (as_key d outer at end text e) = omega (arith, texts_at-push q nodes (node at end (tree.Text text)))
 
 -- behind a text no other begins
@@ -88,8 +90,10 @@ begun-texts q place c n r s e f b = elim (cases_Bool (eqb place q)) [
 
 moves-texts : (q place c : ℕ) (r s : Reader) → Moves place c r s → TextsAfter q place c r s
 moves-texts q place c _ _ (space_between nodes brackets phase e) = inl refl
-moves-texts q place c _ _ (string_begins nodes brackets phase b e) = begun-texts q place c (texts_at q nodes) (ready nodes brackets phase) (in_token nodes brackets phase (Quoted place) [] []) refl refl (record { nodes = nodes; brackets = brackets; phase = phase; same = refl; can_begin = b; first = inl e })
-moves-texts q place c _ _ (word_begins nodes brackets phase b w) = begun-texts q place c (texts_at q nodes) (ready nodes brackets phase) (in_token nodes brackets phase (Word place) (c ∷ []) []) refl refl (record { nodes = nodes; brackets = brackets; phase = phase; same = refl; can_begin = b; first = inr w })
+moves-texts q place c _ _ (string_begins nodes brackets phase b e) =
+    begun-texts q place c (texts_at q nodes) (ready nodes brackets phase) (in_token nodes brackets phase (Quoted place) [] []) refl refl (record { nodes = nodes; brackets = brackets; phase = phase; same = refl; can_begin = b; first = inl e })
+moves-texts q place c _ _ (word_begins nodes brackets phase b w) =
+    begun-texts q place c (texts_at q nodes) (ready nodes brackets phase) (in_token nodes brackets phase (Word place) (c ∷ []) []) refl refl (record { nodes = nodes; brackets = brackets; phase = phase; same = refl; can_begin = b; first = inr w })
 moves-texts q place c _ _ (bytes_begin nodes brackets phase a) = inl refl
 moves-texts q place c _ _ (list_begins nodes brackets phase a d) = inl refl
 moves-texts q place c _ _ (dictionary_begins nodes brackets phase a d) = inl refl
@@ -150,7 +154,8 @@ open-text front before r h l e rest v s =
     omega (arith, k, e)
 
 -- and where a text begins, its first character has begun it
-pub text-begun : (before : List ℕ) (c : ℕ) (rest : List ℕ) (r : Reader) (t : Tree) → AreScalars (c ∷ rest) → Reached before r → run r (width before) (c ∷ rest) ≡ Ok t → 0 < texts_at (width before) t.nodes → Begins r c
+pub text-begun : (before : List ℕ) (c : ℕ) (rest : List ℕ) (r : Reader) (t : Tree) → AreScalars (c ∷ rest) → Reached before r → run r (width before) (c ∷ rest) ≡ Ok t
+    → 0 < texts_at (width before) t.nodes → Begins r c
 text-begun before c rest r t a h e l =
     let q = width before in
     let u = ok_bind (step r q c) (λ s. run s (q + len_utf8 c) rest) t e in

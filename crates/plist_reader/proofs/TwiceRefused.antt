@@ -33,17 +33,23 @@ use Rattle.plist_reader.proofs.Dictionaries.{HasKeys, cons_parts, keys-more, key
 
 -- ---- from where a text begins to its end
 
-word-leads : (nodes : List TreeNode) (brackets : List Open) (phase : Phase) (q : ℕ) (word bytes more : List ℕ) → CanBegin phase → IsWord word bytes → run (ready nodes brackets phase) q (word ++ more) ≡ run (in_token nodes brackets phase (Word q) bytes []) (q + width word) more
-word-leads nodes brackets phase q word bytes more b w = run-word word nodes brackets phase q more b w.some w.own ∙ ap (λ x. run (in_token nodes brackets phase (Word q) x []) (q + width word) more) (sym w.same)
+word-leads : (nodes : List TreeNode) (brackets : List Open) (phase : Phase) (q : ℕ) (word bytes more : List ℕ) → CanBegin phase → IsWord word bytes
+    → run (ready nodes brackets phase) q (word ++ more) ≡ run (in_token nodes brackets phase (Word q) bytes []) (q + width word) more
+word-leads nodes brackets phase q word bytes more b w =
+    run-word word nodes brackets phase q more b w.some w.own ∙ ap (λ x. run (in_token nodes brackets phase (Word q) x []) (q + width word) more) (sym w.same)
 
-string-leads : (nodes : List TreeNode) (brackets : List Open) (phase : Phase) (q : ℕ) (inner bytes more : List ℕ) → CanBegin phase → IsQuoted inner bytes → run (ready nodes brackets phase) q (34 ∷ (inner ++ more)) ≡ run (in_token nodes brackets phase (Quoted q) bytes []) (q + 1 + width inner) more
-string-leads nodes brackets phase q inner bytes more b k = run_step _ _ q 34 (inner ++ more) (step-quote_begun nodes brackets phase q b) ∙ run-quoted inner bytes k nodes brackets phase q (q + 1) [] more
+string-leads : (nodes : List TreeNode) (brackets : List Open) (phase : Phase) (q : ℕ) (inner bytes more : List ℕ) → CanBegin phase → IsQuoted inner bytes
+    → run (ready nodes brackets phase) q (34 ∷ (inner ++ more)) ≡ run (in_token nodes brackets phase (Quoted q) bytes []) (q + 1 + width inner) more
+string-leads nodes brackets phase q inner bytes more b k =
+    run_step _ _ q 34 (inner ++ more) (step-quote_begun nodes brackets phase q b) ∙ run-quoted inner bytes k nodes brackets phase q (q + 1) [] more
 
-step-known_word : (nodes : List TreeNode) (d : Dictionary) (outer : List Open) (at place c : ℕ) (text : List ℕ) → is_word c ≡ false → is_among text d.keys ≡ true → step (in_token nodes (Pairs d ∷ outer) Key (Word at) text []) place c ≡ Err (refusal DuplicateKey at)
+step-known_word : (nodes : List TreeNode) (d : Dictionary) (outer : List Open) (at place c : ℕ) (text : List ℕ) → is_word c ≡ false → is_among text d.keys ≡ true
+    → step (in_token nodes (Pairs d ∷ outer) Key (Word at) text []) place c ≡ Err (refusal DuplicateKey at)
 unfolding step in_word text_ended key_ended
 step-known_word nodes d outer at place c text w k = rw (w, k) refl
 
-step-known_string : (nodes : List TreeNode) (d : Dictionary) (outer : List Open) (at place : ℕ) (text : List ℕ) → is_among text d.keys ≡ true → step (in_token nodes (Pairs d ∷ outer) Key (Quoted at) text []) place 34 ≡ Err (refusal DuplicateKey at)
+step-known_string : (nodes : List TreeNode) (d : Dictionary) (outer : List Open) (at place : ℕ) (text : List ℕ) → is_among text d.keys ≡ true
+    → step (in_token nodes (Pairs d ∷ outer) Key (Quoted at) text []) place 34 ≡ Err (refusal DuplicateKey at)
 unfolding step in_quoted text_ended key_ended
 step-known_string nodes d outer at place text k = rw k refl
 
@@ -51,8 +57,10 @@ pub err-run : (r : Reader) (place c : ℕ) (cs : List ℕ) (e : Refusal) → ste
 err-run r place c cs e s = ap (λ d. d >>= (λ u. run u (place + len_utf8 c) cs)) s
 
 -- a known key that ends
-known-refused : (nodes : List TreeNode) (d : Dictionary) (outer : List Open) (q c : ℕ) (text bytes more : List ℕ) → EndsText text c bytes → is_among bytes d.keys ≡ true → run (ready nodes (Pairs d ∷ outer) Key) q (text ++ c ∷ more) ≡ Err (refusal DuplicateKey q)
-known-refused nodes d outer q c text bytes more (inl (w, n)) k = word-leads nodes (Pairs d ∷ outer) Key q text bytes (c ∷ more) tt w ∙ err-run _ (q + width text) c more _ (step-known_word nodes d outer q (q + width text) c bytes n k)
+known-refused : (nodes : List TreeNode) (d : Dictionary) (outer : List Open) (q c : ℕ) (text bytes more : List ℕ) → EndsText text c bytes → is_among bytes d.keys ≡ true
+    → run (ready nodes (Pairs d ∷ outer) Key) q (text ++ c ∷ more) ≡ Err (refusal DuplicateKey q)
+known-refused nodes d outer q c text bytes more (inl (w, n)) k =
+    word-leads nodes (Pairs d ∷ outer) Key q text bytes (c ∷ more) tt w ∙ err-run _ (q + width text) c more _ (step-known_word nodes d outer q (q + width text) c bytes n k)
 known-refused nodes d outer q c text bytes more (inr (x, inner, f, i)) k =
     ap (λ z. run (ready nodes (Pairs d ∷ outer) Key) q (z ++ c ∷ more)) f ∙ ap (λ z. run (ready nodes (Pairs d ∷ outer) Key) q (34 ∷ (inner ++ z ∷ more))) x
     ∙ string-leads nodes (Pairs d ∷ outer) Key q inner bytes (34 ∷ more) tt i ∙ err-run _ (q + 1 + width inner) 34 more _ (step-known_string nodes d outer q (q + 1 + width inner) bytes k)

@@ -87,7 +87,8 @@ pub record GoesOn (front : List ℕ) (text : List ℕ) (at : ℕ) : Type 0 where
   pub spelled : IsTextOf other (front ++ rest)
   pub behind : IsKeyBehind text at (tree_of other)
 
-key-goes_on : (front : List ℕ) (nodes : List TreeNode) (d : Dictionary) (outer : List Open) (at : ℕ) (text : List ℕ) (r : Reader) → Reached front r → KeyWay nodes d outer at r (width front) → has_key nodes text d.pairs ≡ true → GoesOn front text at
+key-goes_on : (front : List ℕ) (nodes : List TreeNode) (d : Dictionary) (outer : List Open) (at : ℕ) (text : List ℕ) (r : Reader) → Reached front r
+    → KeyWay nodes d outer at r (width front) → has_key nodes text d.pairs ≡ true → GoesOn front text at
 key-goes_on front nodes d outer at text r h w k =
     let q = w.next in
     let all = valued nodes at w.end w.key q in
@@ -98,7 +99,9 @@ key-goes_on front nodes d outer at text r h w k =
     let s = spelled-ok (front ++ rest) x.whole.tree (all-append IsScalar front rest (reached-scalars front r h) i) (reached-run front r h rest ∙ w.leads (ending ++ x.whole.rest) ∙ run-ending nodes d outer at w.end q w.key x.whole.rest ∙ x.whole.runs) in
     record { rest = rest; other = s.0; spelled = s.1; behind = key-behind nodes x.more d at w.end q w.key text (tree_of s.0) k (ap (λ t. t.nodes) (sym s.2) ∙ x.grows) }
 
-pub twice-goes_on : (front : List ℕ) (nodes : List TreeNode) (d : Dictionary) (outer : List Open) (token : Token) (at : ℕ) (text : List ℕ) → Reached front (in_token nodes (Pairs d ∷ outer) Key token text []) → KeyWay nodes d outer at (in_token nodes (Pairs d ∷ outer) Key token text []) (width front) → is_among text d.keys ≡ true → GoesOn front text at
+pub twice-goes_on : (front : List ℕ) (nodes : List TreeNode) (d : Dictionary) (outer : List Open) (token : Token) (at : ℕ) (text : List ℕ)
+    → Reached front (in_token nodes (Pairs d ∷ outer) Key token text []) → KeyWay nodes d outer at (in_token nodes (Pairs d ∷ outer) Key token text []) (width front)
+    → is_among text d.keys ≡ true → GoesOn front text at
 twice-goes_on front nodes d outer token at text h w k =
     let r = in_token nodes (Pairs d ∷ outer) Key token text [] in
     key-goes_on front nodes d outer at text r h w (strong-has nodes d.pairs text d.keys (reached-keyed front r h).top k)
