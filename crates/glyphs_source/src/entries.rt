@@ -86,7 +86,7 @@ fn read_text(alloc: Global, tree: &Tree, glyph: u32, key: &[u8]) -> Result<Optio
     ensures { IfOk result (λ text. text ≡ glyph_text tree.now glyph key.now) }
 {
     match text_under(tree, glyph, key) {
-        Some(text) => Ok(Some(text.copy(alloc)?)),
+        Some(text) => Ok(Some(copied(alloc, Some(text))?)),
         None => Ok(None),
     }
 }

@@ -81,18 +81,18 @@ pub fn note_optional_empty_list(tree: &Tree, pairs: u32, key: &[u8], first: &mut
 }
 
 /// The text that a dictionary has under a key.
-pub fn text_under<'t>(tree: &'t Tree, pairs: u32, key: &[u8]) -> Option<&'t Text>
+pub fn text_under<'t>(tree: &'t Tree, pairs: u32, key: &[u8]) -> Option<&'t str>
     ensures { option_copied result ≡ option_and_then (text_at tree.now) (find_in tree.now pairs key.now) }
 {
     text_at(tree, tree.find(pairs, key)?)
 }
 
 /// A text of its own, empty where there is none.
-pub fn copied(alloc: Global, text: Option<&Text>) -> Result<Text, AllocError>
+pub fn copied(alloc: Global, text: Option<&str>) -> Result<Text, AllocError>
     ensures { IfOk result (λ copy. copy ≡ unwrap_or (option_copied text.entry) []) }
 {
     match text {
-        Some(text) => text.copy(alloc),
+        Some(text) => Ok(Text::from_string(String::from_str(alloc, text)?)),
         None => Ok(Text::from_string(String::new(alloc))),
     }
 }

@@ -4,8 +4,7 @@ ghost use Rattle.glyphs_source.specs.Decimals.{cut, is_natural_in};
 ghost use Rattle.glyphs_source.specs.Values.{place_at, text_at, items_at, is_dictionary, decimal_at, pairs_at, is_code, is_empty_list, is_empty_dictionary, fails, in_range, range_rule, whole_failures, text_failures, name_failures, empty_list_failures, empty_dictionary_failures};
 
 use crate::decimals::{Decimal, read_decimal};
-use plain_lists::Text;
-use plist_reader::{Tree, TreeValue};
+use plist_reader::{Tree, ValueRef};
 use refusal_codes::{FirstFailure, Rule};
 
 /// A range of whole numbers.
@@ -63,18 +62,18 @@ fn is_code(number: u32) -> bool
 pub fn place_at(tree: &Tree, number: u32) -> u64
     ensures { result ≡ place_at tree.now number }
 {
-    match tree.nodes.as_slice().get(number as usize) {
+    match tree.nodes.get(number) {
         Some(node) => node.place,
         None => 0,
     }
 }
 
 /// The text that a value is, where it is one.
-pub fn text_at(tree: &Tree, number: u32) -> Option<&Text>
+pub fn text_at(tree: &Tree, number: u32) -> Option<&str>
     ensures { option_copied result ≡ text_at tree.now number }
 {
-    match &tree.nodes.as_slice().get(number as usize)?.value {
-        TreeValue::Text(text) => Some(text),
+    match tree.nodes.get(number)?.value {
+        ValueRef::Text(text) => Some(text),
         _ => None,
     }
 }
@@ -83,8 +82,8 @@ pub fn text_at(tree: &Tree, number: u32) -> Option<&Text>
 pub fn items_at(tree: &Tree, number: u32) -> Option<&[u32]>
     ensures { option_map (λ items. items.now) result ≡ items_at tree.now number }
 {
-    match &tree.nodes.as_slice().get(number as usize)?.value {
-        TreeValue::Items(items) => Some(items.as_slice()),
+    match tree.nodes.get(number)?.value {
+        ValueRef::Items(items) => Some(items),
         _ => None,
     }
 }
@@ -93,8 +92,8 @@ pub fn items_at(tree: &Tree, number: u32) -> Option<&[u32]>
 pub fn is_dictionary(tree: &Tree, number: u32) -> bool
     ensures { result ≡ is_dictionary tree.now number }
 {
-    match tree.nodes.as_slice().get(number as usize) {
-        Some(node) => matches!(node.value, TreeValue::Pairs(_)),
+    match tree.nodes.get(number) {
+        Some(node) => matches!(node.value, ValueRef::Pairs(_)),
         None => false,
     }
 }
@@ -188,9 +187,9 @@ pub fn note_empty_dictionary(tree: &Tree, number: u32, first: &mut FirstFailure)
 fn is_empty_dictionary(tree: &Tree, number: u32) -> bool
     ensures { result ≡ is_empty_dictionary (pairs_at tree.now number) }
 {
-    match tree.nodes.as_slice().get(number as usize) {
-        Some(node) => match &node.value {
-            TreeValue::Pairs(pairs) => pairs.is_empty(),
+    match tree.nodes.get(number) {
+        Some(node) => match node.value {
+            ValueRef::Pairs(pairs) => pairs.is_empty(),
             _ => false,
         },
         None => false,

@@ -1,3 +1,5 @@
+pub mod SameLemmas
+pub mod StoredLemmas
 pub mod RunLemmas
 pub mod Examples
 pub mod SoundLemmas

@@ -6,3 +6,5 @@ pub mod Reading
 pub mod Refusals
 pub mod Sources
 pub mod Tree
+pub mod Same
+pub mod Stored

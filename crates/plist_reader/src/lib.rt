@@ -4,16 +4,19 @@
 mod characters;
 mod escape;
 mod keys;
+mod nodes;
+mod pools;
 mod reader;
 mod source;
 mod stack;
 mod tree;
 
+pub use nodes::Nodes;
 pub use source::{
     fronts_end_where_nothing_goes_on, keys_lead_to_their_values, read, sources_have_one_answer,
     trees_are_unique, trees_stand_in_their_sources,
 };
-pub use tree::{Tree, TreeNode, TreeValue};
+pub use tree::{NodeRef, Tree, TreeNode, TreeValue, ValueRef};
 
 #[cfg(test)]
 mod tests;

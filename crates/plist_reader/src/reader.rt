@@ -6,8 +6,9 @@ ghost use Rattle.plist_reader.specs.Reading.{refusal};
 use crate::characters::{byte_of, hex_value, is_space, is_word};
 use crate::escape::{Escape, Escaped};
 use crate::keys::Keys;
+use crate::nodes::Nodes;
 use crate::stack::Stack;
-use crate::tree::{Tree, TreeNode, TreeValue};
+use crate::tree::{Tree, TreeValue};
 use plain_lists::{Sequence, Text};
 use refusal_codes::{ReadError, Refusal, Rule};
 use std::alloc::Global;
@@ -41,22 +42,22 @@ pub(crate) enum Token {
     /// None.
     Between,
     /// A bare word.
-    Word(u64),
+    Word(u32),
     /// A quoted string.
-    Quoted(u64),
+    Quoted(u32),
     /// An escape of a quoted string, with the place of its backslash.
-    Escape(u64, u64, Escape),
+    Escape(u32, u32, Escape),
     /// A byte string.
-    Bytes(u64),
+    Bytes(u32),
     /// A byte string, behind the first digit of a byte.
-    Half(u64, char),
+    Half(u32, char),
 }
 
 /// A dictionary that is being read.
 #[derive(Drop)]
 pub(crate) struct Dictionary {
     /// The place of its bracket.
-    pub(crate) place: u64,
+    pub(crate) place: u32,
     /// Its keys so far.
     pub(crate) keys: Keys,
     /// Its whole pairs.
@@ -69,7 +70,7 @@ pub(crate) struct Dictionary {
 #[derive(Drop)]
 pub(crate) enum Open {
     /// That of a list: its place, and the values so far.
-    Items(u64, Sequence<u32>),
+    Items(u32, Sequence<u32>),
     /// That of a dictionary.
     Pairs(Dictionary),
 }
@@ -78,7 +79,7 @@ pub(crate) enum Open {
 #[derive(Drop)]
 pub(crate) struct Reader {
     /// The values that have ended.
-    pub(crate) nodes: Sequence<TreeNode>,
+    pub(crate) nodes: Nodes,
     /// The brackets that are open.
     pub(crate) brackets: Stack<Open>,
     /// What is awaited between tokens.
@@ -92,7 +93,7 @@ pub(crate) struct Reader {
 }
 
 /// The refusal of a property list.
-pub(crate) fn refusal(alloc: Global, rule: Rule, place: u64) -> ReadError
+pub(crate) fn refusal(alloc: Global, rule: Rule, place: u32) -> ReadError
     ensures { result ≡ read_errors.Refused (refusal rule place) }
 {
     ReadError::Refused(Refusal {
@@ -100,7 +101,7 @@ pub(crate) fn refusal(alloc: Global, rule: Rule, place: u64) -> ReadError
         kind: 0,
         name: Text::new(alloc),
         rule,
-        place,
+        place: u64::from(place),
     })
 }
 
@@ -114,7 +115,7 @@ impl Reader {
         ensures { result ≡ start }
     {
         Reader {
-            nodes: Sequence::new(alloc),
+            nodes: Nodes::new(alloc),
             brackets: Stack::new(alloc),
             phase: Phase::Value,
             token: Token::Between,
@@ -124,20 +125,20 @@ impl Reader {
     }
 
     /// Numbers a value that has ended.
-    fn number(&mut self, place: u64, end: u64, value: TreeValue) -> Result<u32, ReadError>
+    fn number(&mut self, place: u32, end: u32, value: TreeValue) -> Result<u32, ReadError>
         ensures ok { IfOk result (λ number. (number ≡ length self.old.nodes) × (self.new ≡ with_node self.old place end value)) }
         ensures err { IfErr result (λ e. e ≡ read_errors.NoMemory) }
     {
         let Ok(number) = u32::try_from(self.nodes.len()) else {
             return Err(ReadError::NoMemory);
         };
-        self.nodes.push(TreeNode { place, end, value })?;
+        self.nodes.push(place, end, &value)?;
         Ok(number)
     }
 
     /// Puts a value that has ended into what is open around it.
     #[tactic(auto, unfolding(crate::specs::Reading::value_ended))]
-    fn value_ended(&mut self, place: u64, end: u64, value: TreeValue) -> Result<(), ReadError>
+    fn value_ended(&mut self, place: u32, end: u32, value: TreeValue) -> Result<(), ReadError>
         ensures { Changes result self.new (Ok (value_ended self.old place end value)) }
     {
         let number = self.number(place, end, value)?;
@@ -162,8 +163,8 @@ impl Reader {
     fn key_ended(
         &mut self,
         alloc: Global,
-        place: u64,
-        end: u64,
+        place: u32,
+        end: u32,
         text: Text,
     ) -> Result<(), ReadError>
         ensures { Changes result self.new (key_ended self.old place end text) }
@@ -182,7 +183,7 @@ impl Reader {
 
     /// Ends a word or a quoted string.
     #[tactic(auto, unfolding(crate::specs::Reading::text_ended))]
-    fn text_ended(&mut self, alloc: Global, place: u64, end: u64) -> Result<(), ReadError>
+    fn text_ended(&mut self, alloc: Global, place: u32, end: u32) -> Result<(), ReadError>
         ensures { Changes result self.new (text_ended self.old place end) }
     {
         let text = mem::replace(&mut self.text, Text::new(alloc));
@@ -208,7 +209,7 @@ impl Reader {
     }
 
     /// The refusal of a character with which the text can't go on.
-    fn unexpected(&self, alloc: Global, place: u64, character: char) -> Result<(), ReadError>
+    fn unexpected(&self, alloc: Global, place: u32, character: char) -> Result<(), ReadError>
         ensures { result ≡ Err (read_errors.Refused (refusal (unexpected_rule self.now character) place)) }
     {
         Err(refusal(alloc, self.unexpected_rule(character), place))
@@ -216,7 +217,7 @@ impl Reader {
 
     /// Begins a word or a quoted string.
     #[tactic(auto, unfolding(crate::specs::Reading::text_begun))]
-    fn text_begun(&mut self, alloc: Global, place: u64, character: char) -> Result<(), ReadError>
+    fn text_begun(&mut self, alloc: Global, place: u32, character: char) -> Result<(), ReadError>
         ensures { Changes result self.new (text_begun self.old place character) }
     {
         if character == '"' {
@@ -236,7 +237,7 @@ impl Reader {
     fn bracket_opened(
         &mut self,
         alloc: Global,
-        place: u64,
+        place: u32,
         character: char,
     ) -> Result<(), ReadError>
         ensures { Changes result self.new (bracket_opened self.old place character) }
@@ -262,7 +263,7 @@ impl Reader {
 
     /// Begins a value.
     #[tactic(auto, unfolding(crate::specs::Reading::value_begun))]
-    fn value_begun(&mut self, alloc: Global, place: u64, character: char) -> Result<(), ReadError>
+    fn value_begun(&mut self, alloc: Global, place: u32, character: char) -> Result<(), ReadError>
         ensures { Changes result self.new (value_begun self.old place character) }
     {
         if character == '(' || character == '{' {
@@ -277,8 +278,8 @@ impl Reader {
 
     /// Closes a list.
     #[tactic(auto, unfolding(crate::specs::Reading::list_closed))]
-    fn list_closed(&mut self, alloc: Global, place: u64) -> Result<(), ReadError>
-        requires { place + 1 < 2 ^ 64 }
+    fn list_closed(&mut self, alloc: Global, place: u32) -> Result<(), ReadError>
+        requires { place + 1 < 2 ^ 32 }
         ensures { Changes result self.new (list_closed self.old place) }
     {
         let Some(Open::Items(at, items)) = self.brackets.pop() else {
@@ -289,8 +290,8 @@ impl Reader {
 
     /// Closes a dictionary.
     #[tactic(auto, unfolding(crate::specs::Reading::dictionary_closed))]
-    fn dictionary_closed(&mut self, alloc: Global, place: u64) -> Result<(), ReadError>
-        requires { place + 1 < 2 ^ 64 }
+    fn dictionary_closed(&mut self, alloc: Global, place: u32) -> Result<(), ReadError>
+        requires { place + 1 < 2 ^ 32 }
         ensures { Changes result self.new (dictionary_closed self.old place) }
     {
         let Some(Open::Pairs(dictionary)) = self.brackets.pop() else {
@@ -305,8 +306,8 @@ impl Reader {
 
     /// Takes a character between two tokens.
     #[tactic(auto, unfolding(crate::specs::Reading::between))]
-    fn between(&mut self, alloc: Global, place: u64, character: char) -> Result<(), ReadError>
-        requires { place + 1 < 2 ^ 64 }
+    fn between(&mut self, alloc: Global, place: u32, character: char) -> Result<(), ReadError>
+        requires { place + 1 < 2 ^ 32 }
         ensures { Changes result self.new (between self.old place character) }
     {
         if is_space(character) {
@@ -338,11 +339,11 @@ impl Reader {
     fn in_word(
         &mut self,
         alloc: Global,
-        at: u64,
-        place: u64,
+        at: u32,
+        place: u32,
         character: char,
     ) -> Result<(), ReadError>
-        requires { place + 1 < 2 ^ 64 }
+        requires { place + 1 < 2 ^ 32 }
         ensures { Changes result self.new (in_word self.old at place character) }
     {
         if is_word(character) {
@@ -358,11 +359,11 @@ impl Reader {
     fn in_quoted(
         &mut self,
         alloc: Global,
-        at: u64,
-        place: u64,
+        at: u32,
+        place: u32,
         character: char,
     ) -> Result<(), ReadError>
-        requires { place + 1 < 2 ^ 64 }
+        requires { place + 1 < 2 ^ 32 }
         ensures { Changes result self.new (in_quoted self.old at place character) }
     {
         match character {
@@ -382,8 +383,8 @@ impl Reader {
     fn after_escape(
         &mut self,
         alloc: Global,
-        at: u64,
-        backslash: u64,
+        at: u32,
+        backslash: u32,
         escaped: Escaped,
     ) -> Result<(), ReadError>
         ensures { Changes result self.new (after_escape self.old at backslash escaped) }
@@ -407,11 +408,11 @@ impl Reader {
     fn in_bytes(
         &mut self,
         alloc: Global,
-        at: u64,
-        place: u64,
+        at: u32,
+        place: u32,
         character: char,
     ) -> Result<(), ReadError>
-        requires { place + 1 < 2 ^ 64 }
+        requires { place + 1 < 2 ^ 32 }
         ensures { Changes result self.new (in_bytes self.old at place character) }
     {
         if is_space(character) {
@@ -434,9 +435,9 @@ impl Reader {
     fn in_half(
         &mut self,
         alloc: Global,
-        at: u64,
+        at: u32,
         high: char,
-        place: u64,
+        place: u32,
         character: char,
     ) -> Result<(), ReadError>
         ensures { Changes result self.new (in_half self.old at high place character) }
@@ -459,10 +460,10 @@ impl Reader {
     pub(crate) fn step(
         &mut self,
         alloc: Global,
-        place: u64,
+        place: u32,
         character: char,
     ) -> Result<(), ReadError>
-        requires { place + 1 < 2 ^ 64 }
+        requires { place + 1 < 2 ^ 32 }
         ensures { Changes result self.new (step self.old place character) }
     {
         match self.token {
@@ -482,7 +483,7 @@ impl Reader {
 
     /// The tree of the text that ends here.
     #[tactic(auto, unfolding(crate::specs::Reading::whole))]
-    fn whole(self, alloc: Global, length: u64) -> Result<Tree, ReadError>
+    fn whole(self, alloc: Global, length: u32) -> Result<Tree, ReadError>
         ensures { Gives (λ t. t) result (whole self length) }
     {
         match self.phase {
@@ -496,7 +497,7 @@ impl Reader {
 
     /// Ends the text.
     #[tactic(auto, unfolding(crate::specs::Reading::finish))]
-    pub(crate) fn finish(mut self, alloc: Global, length: u64) -> Result<Tree, ReadError>
+    pub(crate) fn finish(mut self, alloc: Global, length: u32) -> Result<Tree, ReadError>
         ensures { Gives (λ t. t) result (finish self length) }
     {
         match self.token {

@@ -45,7 +45,7 @@ pub fn read(alloc: Global, source: &[u8]) -> Result<Tree, ReadError>
 {
     match str::from_utf8(source) {
         Ok(text) => read_text(alloc, text),
-        Err(error) => Err(refusal(alloc, Rule::NotUtf8, error.valid_up_to() as u64)),
+        Err(error) => Err(refusal(alloc, Rule::NotUtf8, error.valid_up_to() as u32)),
     }
 }
 
@@ -55,10 +55,10 @@ fn read_text(alloc: Global, text: &str) -> Result<Tree, ReadError>
     ensures { Gives (λ t. t) result (run start 0 (chars text.now)) }
 {
     let mut reader = Reader::new(alloc);
-    let mut place = 0u64;
+    let mut place = 0u32;
     for character in text.chars() {
         reader.step(alloc, place, character)?;
-        place += character.len_utf8() as u64;
+        place += character.len_utf8() as u32;
     }
     reader.finish(alloc, place)
 }

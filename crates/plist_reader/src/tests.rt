@@ -37,15 +37,12 @@ fn many_keys(alloc: Global, count: u32) -> Result<String, AllocError> {
 fn a_source_is_read_and_its_values_are_found(rt: HostRuntime) -> Result<(), Fail> {
     let tree = read(rt.alloc(), TRIANGLE)?;
     let glyphs = tree.find(tree.top, b"glyphs").ok_or("no glyphs")?;
-    let node = tree.nodes.as_slice().get(glyphs as usize).ok_or("no node")?;
+    let node = tree.nodes.get(glyphs).ok_or("no node")?;
     assert_eq!(rt; node.place, 80);
     assert_eq!(rt; node.end, 236);
     let units = tree.find(tree.top, b"unitsPerEm").ok_or("no units")?;
-    let node = tree.nodes.as_slice().get(units as usize).ok_or("no node")?;
-    match &node.value {
-        TreeValue::Text(text) => assert_eq!(rt; text.as_bytes(), b"1000".as_slice()),
-        _ => return Err("no text".into()),
-    }
+    let node = tree.nodes.get(units).ok_or("no node")?;
+    assert!(rt; node.value == ValueRef::Text("1000"));
     assert!(rt; tree.find(tree.top, b"glyph").is_none());
     assert!(rt; tree.find(units, b"glyphs").is_none());
     Ok(())
@@ -56,26 +53,36 @@ fn escapes_are_undone_and_hexadecimal_digits_are_bytes(rt: HostRuntime) -> Resul
     let tree = read(rt.alloc(), ESCAPES)?;
     assert_eq!(rt; tree.nodes.len(), 3);
     assert_eq!(rt; tree.top, 2);
-    let node = tree.nodes.as_slice().get(0).ok_or("no string")?;
+    let node = tree.nodes.get(0).ok_or("no string")?;
     assert_eq!(rt; node.place, 1);
     assert_eq!(rt; node.end, 21);
-    match &node.value {
-        TreeValue::Text(text) => assert_eq!(rt; text.as_bytes(), b"\xf0\x9f\x98\x80\nA".as_slice()),
-        _ => return Err("no text".into()),
-    }
-    let node = tree.nodes.as_slice().get(1).ok_or("no byte string")?;
+    assert!(rt; node.value == ValueRef::Text("\u{1f600}\nA"));
+    let node = tree.nodes.get(1).ok_or("no byte string")?;
     assert_eq!(rt; node.place, 22);
     assert_eq!(rt; node.end, 29);
-    match &node.value {
-        TreeValue::Bytes(bytes) => assert_eq!(rt; bytes.as_slice(), b"\n\xff".as_slice()),
-        _ => return Err("no bytes".into()),
-    }
-    let node = tree.nodes.as_slice().get(2).ok_or("no list")?;
+    assert!(rt; node.value == ValueRef::Bytes(b"\n\xff".as_slice()));
+    let node = tree.nodes.get(2).ok_or("no list")?;
     assert_eq!(rt; node.place, 0);
     assert_eq!(rt; node.end, 32);
-    match &node.value {
-        TreeValue::Items(items) => assert_eq!(rt; items.as_slice(), [0, 1].as_slice()),
-        _ => return Err("no values".into()),
+    assert!(rt; node.value == ValueRef::Items([0, 1].as_slice()));
+    assert!(rt; tree.nodes.get(3).is_none());
+    Ok(())
+}
+
+#[test]
+fn trees_are_equal_where_their_values_and_places_are(rt: HostRuntime) -> Result<(), Fail> {
+    let tree = read(rt.alloc(), b"{a=(1,<2f>);}")?;
+    assert!(rt; tree == read(rt.alloc(), b"{a=(1,<2F>);}")?);
+    for other in [
+        b"{a=(1,<2e>);}".as_slice(),
+        b"{b=(1,<2f>);}".as_slice(),
+        b"{a=(1, 2f );}".as_slice(),
+        b"{a=(1,<2f>) ;}".as_slice(),
+        b" {a=(1,<2f>);}".as_slice(),
+        b"{a=(1,1,<2f>);}".as_slice(),
+    ] {
+        assert!(rt; other.len() < 20);
+        assert!(rt; tree != read(rt.alloc(), other)?);
     }
     Ok(())
 }

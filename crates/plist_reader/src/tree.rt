@@ -1,5 +1,10 @@
 ghost use Rattle.std.specs.Prelude.{◌≡◌};
+ghost use Rattle.std.specs.Cmp.{on_equiv, partial_equiv_from_equiv};
+ghost use Rattle.std.specs.Ordering.{on};
+ghost use Rattle.plist_reader.specs.Same.{same_value, same_node, same_value_equiv, same_node_equiv};
+ghost use Rattle.plist_reader.specs.Stored.{seen, seen_node};
 
+use crate::nodes::Nodes;
 use plain_lists::{Sequence, Text};
 
 /// What a value is. Values inside it are named by their numbers in the tree.
@@ -26,11 +31,71 @@ pub struct TreeNode {
     pub value: TreeValue,
 }
 
+/// A value of a tree, borrowed.
+#[derive(Clone, Copy, Debug)]
+pub enum ValueRef<'t> {
+    /// A bare word or a quoted string, its escapes undone.
+    Text(&'t str),
+    /// A byte string.
+    Bytes(&'t [u8]),
+    /// A list: its values in order.
+    Items(&'t [u32]),
+    /// A dictionary: each key, which is a text, and its value, in order.
+    Pairs(&'t [(u32, u32)]),
+}
+
+/// A node of a tree, borrowed.
+#[derive(Clone, Copy, Debug)]
+pub struct NodeRef<'t> {
+    /// The place of its first byte, counted from 0.
+    pub place: u64,
+    /// The place behind its last byte.
+    pub end: u64,
+    /// What it is.
+    pub value: ValueRef<'t>,
+}
+
+/// Two are equal where what they show is.
+impl PartialEq for ValueRef<'_> {
+    ghost eq = { on seen same_value };
+
+    ghost laws = { partial_equiv_from_equiv (on_equiv seen same_value_equiv) };
+
+    fn eq(&self, other: &Self) -> bool {
+        match (*self, *other) {
+            (ValueRef::Text(own), ValueRef::Text(others)) => own.as_bytes() == others.as_bytes(),
+            (ValueRef::Bytes(own), ValueRef::Bytes(others)) => own == others,
+            (ValueRef::Items(own), ValueRef::Items(others)) => own == others,
+            (ValueRef::Pairs(own), ValueRef::Pairs(others)) => own == others,
+            _ => false,
+        }
+    }
+}
+
+impl Eq for ValueRef<'_> {
+    ghost laws = { on_equiv seen same_value_equiv };
+}
+
+/// Two are equal where what they show is.
+impl PartialEq for NodeRef<'_> {
+    ghost eq = { on seen_node same_node };
+
+    ghost laws = { partial_equiv_from_equiv (on_equiv seen_node same_node_equiv) };
+
+    fn eq(&self, other: &Self) -> bool {
+        self.place == other.place && self.end == other.end && self.value == other.value
+    }
+}
+
+impl Eq for NodeRef<'_> {
+    ghost laws = { on_equiv seen_node same_node_equiv };
+}
+
 /// A property list. Its values are numbered in the order in which they end, so each value stands behind those in it.
 #[derive(Debug, PartialEq, Eq, Drop)]
 pub struct Tree {
     /// All values, keys of dictionaries among them.
-    pub nodes: Sequence<TreeNode>,
+    pub nodes: Nodes,
     /// The number of the whole value.
     pub top: u32,
 }
@@ -43,9 +108,8 @@ impl Tree {
     pub fn find(&self, pairs: u32, key: &[u8]) -> Option<u32>
         ensures { result ≡ find_in self.now pairs key.now }
     {
-        let node = self.nodes.as_slice().get(pairs as usize)?;
-        match &node.value {
-            TreeValue::Pairs(pairs) => self.value_with(pairs.as_slice(), key),
+        match self.nodes.get(pairs)?.value {
+            ValueRef::Pairs(pairs) => self.value_with(pairs, key),
             _ => None,
         }
     }
@@ -66,12 +130,14 @@ impl Tree {
     fn is_key(&self, number: u32, key: &[u8]) -> bool
         ensures { result ≡ is_key self.now key.now number }
     {
-        match self.nodes.as_slice().get(number as usize) {
-            Some(node) => match &node.value {
-                TreeValue::Text(text) => text.as_bytes() == key,
-                _ => false,
-            },
-            None => false,
+        match self.nodes.get(number) {
+            Some(
+                NodeRef {
+                    value: ValueRef::Text(text),
+                    ..
+                },
+            ) => text.as_bytes() == key,
+            _ => false,
         }
     }
 }
