@@ -1,1 +1,5 @@
 mod Names
+pub mod ExtremesLaws
+pub mod FieldLemmas
+pub mod OutlineLemmas
+pub mod TableLemmas

@@ -1,5 +1,8 @@
+pub mod DataTypes
+pub mod Extremes
 pub mod FlatGlyphs
 pub mod Glyphs
 pub mod Notdef
+pub mod Outlines
 pub mod ReadGlyphs
 pub mod Tables

@@ -1,7 +1,6 @@
 -- The glyphs that are read from a source: what their layers fulfil. The limits are fontc's own.
-use Rattle.std.specs.Prelude.{◌≡◌, ℕ, ◌<◌, ◌≤◌, ℤ, pos, ◌≤ℤ◌, Bool, List, length, map}
+use Rattle.std.specs.Prelude.{◌≡◌, ℕ, ◌<◌, ◌≤◌, pos, ◌≤ℤ◌, Bool, List, length, map}
 use Rattle.std.specs.List.{All, AllPairs}
-use Rattle.font_ir.specs.declared.glyph.Contour.{Contour}
 use Rattle.font_ir.specs.declared.glyph.Shape.{Shape}
 use Rattle.font_ir.specs.declared.glyph.Shape.TheVariants.{Path, Component}
 use Rattle.font_ir.specs.declared.glyph.LayerIr.{LayerIr}

@@ -1,5 +1,5 @@
 use super::*;
-use fixed_math::F2Dot14;
+use fixed_math::{F2Dot14, Fixed};
 use plain_lists::Sequence;
 use std::alloc::Global;
 use std::test::Fail;
@@ -47,5 +47,56 @@ fn a_glyph_has_the_number_of_its_place(rt: HostRuntime) -> Result<(), Fail> {
     assert!(rt; order.push(rt.alloc(), None, b".notdef")?);
     assert_eq!(rt; order.gid(b".notdef"), Some(0));
     assert_eq!(rt; order.gid(b"A"), None);
+    Ok(())
+}
+
+#[test]
+fn half_a_unit_is_stored_as_the_next_greater_number(rt: HostRuntime) -> Result<(), Fail> {
+    let point = DrawnPoint {
+        x: Fixed(32768),
+        y: Fixed(-32768),
+        on: true,
+    };
+    let stored = StoredPoint {
+        x: 1,
+        y: 0,
+        on: true,
+    };
+    assert_eq!(rt; stored_point(point), stored);
+    Ok(())
+}
+
+#[test]
+fn the_bounds_are_of_all_points(rt: HostRuntime) -> Result<(), Fail> {
+    let points = vec![in rt.alloc();
+        DrawnPoint {
+            x: Fixed(16384000),
+            y: Fixed(-655360),
+            on: true
+        },
+        DrawnPoint {
+            x: Fixed(-65536),
+            y: Fixed(45875200),
+            on: false
+        },
+    ]?;
+    let contours = vec![in rt.alloc();
+        Contour {
+            points: Sequence::from_vec(points)
+        },
+    ]?;
+    assert_eq!(rt; bounds_of(contours.as_slice()), Some([-1, -10, 250, 700]));
+    Ok(())
+}
+
+#[test]
+fn the_highest_byte_stands_first(rt: HostRuntime) -> Result<(), Fail> {
+    let mut bytes = Vec::new(rt.alloc());
+    push_uint16(&mut bytes, 1000)?;
+    push_int16(&mut bytes, -200)?;
+    push_uint32(&mut bytes, 0x5F0F3CF5)?;
+    push_zeros(&mut bytes, padding(54))?;
+    let expected = [0x03, 0xe8, 0xff, 0x38, 0x5f, 0x0f, 0x3c, 0xf5, 0, 0];
+    assert_eq!(rt; bytes.as_slice(), expected.as_slice());
     Ok(())
 }

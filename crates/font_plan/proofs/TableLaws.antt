@@ -10,7 +10,7 @@ use Rattle.std.proofs.lemmas.List.{length-map}
 use Rattle.font_ir.specs.declared.header.Header.{Header}
 use Rattle.font_ir.specs.declared.glyph.FlatGlyph.{FlatGlyph}
 use Rattle.glyf_writer.specs.GlyphData.{simple_data}
-use Rattle.glyf_writer.specs.Outlines.{outline_at}
+use Rattle.font_ir.specs.Outlines.{outline_at}
 use Rattle.metrics_tables.specs.declared.measures.Measures.{Measures}
 use Rattle.metrics_tables.specs.Measuring.{glyphs_of}
 use Rattle.metrics_tables.specs.Tables.{head_table}

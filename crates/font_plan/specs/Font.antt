@@ -19,7 +19,7 @@ use Rattle.glyphs_source.specs.IndexReading.{index_of}
 use Rattle.glyphs_layers.specs.LayerReading.{glyph_of}
 use Rattle.component_flatten.specs.Flattening.{flat_of}
 use Rattle.glyf_writer.specs.GlyphData.{simple_data}
-use Rattle.glyf_writer.specs.Outlines.{outline_at}
+use Rattle.font_ir.specs.Outlines.{outline_at}
 use Rattle.glyf_writer.specs.Tables as outlines
 use Rattle.metrics_tables.specs.declared.measures.Measures.{Measures}
 use Rattle.metrics_tables.specs.Measuring.{measures_of}

@@ -5,7 +5,7 @@ ghost use Rattle.std.specs.List.{All};
 ghost use Rattle.refusal_codes.specs.Gives.{Compiles};
 ghost use Rattle.glyphs_source.specs.HeaderReading.{IsReadHeader};
 ghost use Rattle.glyf_writer.specs.GlyphData.{simple_data};
-ghost use Rattle.glyf_writer.specs.Outlines.{outline_at};
+ghost use Rattle.font_ir.specs.Outlines.{outline_at};
 ghost use Rattle.metrics_tables.specs.Measuring.{glyphs_of, measures_of};
 ghost use Rattle.metrics_tables.specs.Tables.{AreMeasures};
 ghost use Rattle.font_assembly.specs.File.{TagsRise, HasHead};

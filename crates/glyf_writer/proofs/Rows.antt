@@ -1,8 +1,8 @@
 -- Worked examples: the bytes of outlines, as fonts from outside have them.
-use Rattle.std.proofs.Common.{◌≡◌, ℕ, ℤ, pos, Bool, true, false, List, [], ◌∷◌, replicate, ◌++◌, refl}
-use Rattle.glyf_writer.specs.declared.outline.StoredPoint.{StoredPoint}
+use Rattle.std.proofs.Common.{◌≡◌, ℕ, ℤ, pos, true, false, List, [], ◌∷◌, replicate, ◌++◌, refl}
+use Rattle.font_ir.specs.declared.outline.StoredPoint.{StoredPoint}
 use Rattle.glyf_writer.specs.GlyphData.{simple_data, with_repeats}
-use Rattle.glyf_writer.specs.Tables.{glyf_bytes, loca_bytes}
+use Rattle.glyf_writer.specs.Tables.{loca_bytes}
 
 -- a point on the curve
 abbrev point : ℤ → ℤ → StoredPoint

@@ -3,17 +3,12 @@
 -- flags is written as a repeat.
 use Rattle.std.specs.Prelude.{ℕ, ◌+◌, ◌-◌, ◌/◌, ◌%◌, ℤ, pos, Bool, List, [], ◌∷◌, ◌++◌, map, length, replicate, nat_lt, ◌==◌, if◌then◌else◌, unsigned_abs, int_lt, bit_or}
 use Rattle.std.specs.List.{flat_map}
-use Rattle.std.specs.Int.{w16, to_be_bytes, cast_unsigned}
-use Rattle.glyf_writer.specs.declared.outline.StoredPoint.{StoredPoint}
+use Rattle.font_ir.specs.declared.outline.StoredPoint.{StoredPoint}
+use Rattle.font_ir.specs.DataTypes.{uint16, int16, padded}
 use Rattle.glyf_writer.specs.declared.outline.Step.{Step}
-use Rattle.glyf_writer.specs.Outlines.{all_points, steps_of, end_points, least, greatest}
-
--- an unsigned and a signed word: two bytes, the high one first, a negative number as its two's complement
-abbrev pub word : ℕ → List ℕ
-word n = to_be_bytes w16 n
-
-abbrev pub signed_word : ℤ → List ℕ
-signed_word z = word (cast_unsigned w16 z)
+use Rattle.font_ir.specs.Extremes.{least, greatest}
+use Rattle.font_ir.specs.Outlines.{all_points}
+use Rattle.glyf_writer.specs.Outlines.{steps_of, end_points}
 
 -- ---- flags
 
@@ -60,7 +55,7 @@ with_repeats flags = flat_map (λ run. flat_map flag_bytes (cut_at_256 run)) (lo
 -- a difference of 0 takes no byte, one of up to 255 in size that size as a byte, and any other a signed word
 abbrev pub coordinate_bytes : ℤ → List ℕ
 coordinate_bytes z =
-    if unsigned_abs z == 0 then [] else (if nat_lt 255 (unsigned_abs z) then signed_word z else unsigned_abs z ∷ [])
+    if unsigned_abs z == 0 then [] else (if nat_lt 255 (unsigned_abs z) then int16 z else unsigned_abs z ∷ [])
 
 -- ---- the whole
 
@@ -93,18 +88,14 @@ glyph_of variable outline = record {
 
 abbrev pub glyph_bytes : SimpleGlyph → List ℕ
 glyph_bytes glyph =
-    word glyph.contour_count
-    ++ signed_word glyph.x_min ++ signed_word glyph.y_min ++ signed_word glyph.x_max ++ signed_word glyph.y_max
-    ++ flat_map word glyph.end_points
-    ++ word glyph.instruction_length
+    uint16 glyph.contour_count
+    ++ int16 glyph.x_min ++ int16 glyph.y_min ++ int16 glyph.x_max ++ int16 glyph.y_max
+    ++ flat_map uint16 glyph.end_points
+    ++ uint16 glyph.instruction_length
     ++ with_repeats glyph.flags
     ++ flat_map coordinate_bytes glyph.x_differences
     ++ flat_map coordinate_bytes glyph.y_differences
 
--- zeros follow up to a multiple of four bytes
-abbrev pub padded : List ℕ → List ℕ
-padded bytes = bytes ++ replicate ((4 - length bytes % 4) % 4) 0
-
--- what is stored of an outline; nothing where it has no point
+-- what is stored of an outline, with zeros up to a multiple of four bytes; nothing where it has no point
 abbrev pub simple_data : Bool → List (List StoredPoint) → List ℕ
 simple_data variable outline = if length (all_points outline) == 0 then [] else padded (glyph_bytes (glyph_of variable outline))

@@ -1,8 +1,9 @@
 -- The tables "glyf" and "loca" (OpenType 1.9) of the data of each glyph, in the order of the glyph numbers. "loca" is in its long
 -- format.
-use Rattle.std.specs.Prelude.{ℕ, ◌+◌, ◌-◌, ◌*◌, ◌^◌, min, List, [], ◌∷◌, map, length, Option, Some, None, nat_lt, if◌then◌else◌}
+use Rattle.std.specs.Prelude.{ℕ, ◌+◌, List, [], ◌∷◌, map, length, Option, nat_lt, if◌then◌else◌}
 use Rattle.std.specs.List.{concat, flat_map}
-use Rattle.std.specs.Int.{w32, to_be_bytes}
+use Rattle.font_ir.specs.DataTypes.{uint32}
+use Rattle.font_ir.specs.Tables.{over_limit}
 
 -- where each glyph's data begin in "glyf", and last where the last ones end
 abbrev pub offsets : List (List ℕ) → List ℕ
@@ -15,11 +16,7 @@ glyf_bytes parts = concat parts
 
 -- each offset in four bytes, the highest first
 abbrev pub loca_bytes : List (List ℕ) → List ℕ
-loca_bytes parts = flat_map (to_be_bytes w32) (offsets parts)
-
--- a length that is more than four bytes can say. A number that is above the greatest of 64 bits is told as that one.
-abbrev pub over_limit : ℕ → Option ℕ
-over_limit n = if nat_lt 4294967295 n then Some (min n 18446744073709551615) else None
+loca_bytes parts = flat_map uint32 (offsets parts)
 
 -- the length of "glyf" where that is too large, or else of "loca" where that is
 abbrev pub too_large : List (List ℕ) → Option ℕ

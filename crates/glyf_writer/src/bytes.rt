@@ -1,50 +1,36 @@
-ghost use Rattle.std.specs.Prelude.{◌≡◌, ◌<◌, ◌≤◌, ◌++◌, length, map, OnOk};
+ghost use Rattle.std.specs.Prelude.{◌≡◌, ◌<◌, ◌≤◌, ◌++◌, pos, length, map, slice_index_or, OnOk};
 ghost use Rattle.std.specs.List.{All, flat_map};
 ghost use Rattle.font_ir.specs.FlatGlyphs.{point_count};
+ghost use Rattle.font_ir.specs.DataTypes.{uint16, int16, padded};
 ghost use Rattle.glyf_writer.specs.Outlines.{end_points};
-ghost use Rattle.glyf_writer.specs.GlyphData.{word, signed_word, coordinate_bytes, padded};
+ghost use Rattle.glyf_writer.specs.GlyphData.{coordinate_bytes};
 
-use crate::outline::{Bounds, Step};
-use font_ir::Contour;
+use crate::outline::Step;
+use font_ir::{Contour, padding, push_int16, push_uint16, push_zeros};
 use refusal_codes::NoMemory;
 
-/// Writes an unsigned word.
-pub fn push_word(bytes: &mut Vec<u8>, number: u16) -> Result<(), NoMemory>
-    ensures { OnOk result (bytes.new.items ≡ bytes.old.items ++ word number) }
+/// Writes the bounds xMin, yMin, xMax and yMax.
+pub fn push_bounds(bytes: &mut Vec<u8>, bounds: [i16; 4]) -> Result<(), NoMemory>
+    ensures { OnOk result (bytes.new.items ≡ bytes.old.items ++ int16 (slice_index_or bounds 0 (pos 0)) ++ int16 (slice_index_or bounds 1 (pos 0))
+        ++ int16 (slice_index_or bounds 2 (pos 0)) ++ int16 (slice_index_or bounds 3 (pos 0))) }
 {
-    bytes.extend_from_slice(&number.to_be_bytes())?;
+    push_int16(bytes, bounds[0])?;
+    push_int16(bytes, bounds[1])?;
+    push_int16(bytes, bounds[2])?;
+    push_int16(bytes, bounds[3])?;
     Ok(())
-}
-
-/// Writes a signed word.
-pub fn push_signed_word(bytes: &mut Vec<u8>, number: i16) -> Result<(), NoMemory>
-    ensures { OnOk result (bytes.new.items ≡ bytes.old.items ++ signed_word number) }
-{
-    bytes.extend_from_slice(&number.to_be_bytes())?;
-    Ok(())
-}
-
-/// Writes the bounds: the least and then the greatest coordinates.
-pub fn push_bounds(bytes: &mut Vec<u8>, bounds: Bounds) -> Result<(), NoMemory>
-    ensures { OnOk result (bytes.new.items ≡ bytes.old.items ++ signed_word bounds.x_min ++ signed_word bounds.y_min
-        ++ signed_word bounds.x_max ++ signed_word bounds.y_max) }
-{
-    push_signed_word(bytes, bounds.x_min)?;
-    push_signed_word(bytes, bounds.y_min)?;
-    push_signed_word(bytes, bounds.x_max)?;
-    push_signed_word(bytes, bounds.y_max)
 }
 
 /// Writes the number of each contour's last point.
 pub fn push_end_points(bytes: &mut Vec<u8>, contours: &[Contour]) -> Result<(), NoMemory>
     requires few { point_count contours.now ≤ 8000 }
     requires none_empty { All (λ contour. 0 < length contour.points) contours.now }
-    ensures { OnOk result (bytes.new.items ≡ bytes.old.items ++ flat_map word (end_points (map (λ contour. length contour.points) contours.now))) }
+    ensures { OnOk result (bytes.new.items ≡ bytes.old.items ++ flat_map uint16 (end_points (map (λ contour. length contour.points) contours.now))) }
 {
     let mut count: usize = 0;
     for contour in contours {
         count += contour.points.len();
-        push_word(bytes, (count - 1) as u16)?;
+        push_uint16(bytes, (count - 1) as u16)?;
     }
     Ok(())
 }
@@ -57,7 +43,7 @@ fn push_coordinate(bytes: &mut Vec<u8>, difference: i16) -> Result<(), NoMemory>
     if size == 0 {
         Ok(())
     } else if size > 255 {
-        push_signed_word(bytes, difference)
+        Ok(push_int16(bytes, difference)?)
     } else {
         bytes.push(size as u8)?;
         Ok(())
@@ -88,7 +74,7 @@ pub fn push_y_coordinates(bytes: &mut Vec<u8>, steps: &[Step]) -> Result<(), NoM
 pub fn pad(bytes: &mut Vec<u8>) -> Result<(), NoMemory>
     ensures { OnOk result (bytes.new.items ≡ padded bytes.old.items) }
 {
-    let zeros = (4 - bytes.len() % 4) % 4;
-    bytes.extend_from_slice(&[0; 3][..zeros])?;
+    let zeros = padding(bytes.len());
+    push_zeros(bytes, zeros)?;
     Ok(())
 }

@@ -1,15 +1,14 @@
-ghost use Rattle.std.specs.Prelude.{◌≡◌, ◌<◌, ◌≤◌, [], ◌∷◌, length, IfOk, OnOk};
+ghost use Rattle.std.specs.Prelude.{◌≡◌, ◌<◌, ◌≤◌, [], length, Some, IfOk, OnOk};
 ghost use Rattle.std.specs.List.{All};
 ghost use Rattle.font_ir.specs.FlatGlyphs.{IsFlatGlyph, point_count};
-ghost use Rattle.glyf_writer.specs.Outlines.{outline_at, all_points, stored_contours, AreSmall};
+ghost use Rattle.font_ir.specs.Outlines.{outline_at, stored_contours, stored_points, bounds_of};
+ghost use Rattle.glyf_writer.specs.Outlines.{AreSmall};
 ghost use Rattle.glyf_writer.specs.GlyphData.{simple_data, glyph_bytes, glyph_of};
 
-use crate::bytes::{
-    pad, push_bounds, push_end_points, push_word, push_x_coordinates, push_y_coordinates,
-};
+use crate::bytes::{pad, push_bounds, push_end_points, push_x_coordinates, push_y_coordinates};
 use crate::flags::{flags_of, push_flags};
-use crate::outline::{StoredPoint, bounds_of, steps_of, stored_points_of};
-use font_ir::{Contour, FlatGlyph};
+use crate::outline::{steps_of, stored_points_of};
+use font_ir::{Contour, FlatGlyph, StoredPoint, bounds_of, push_uint16};
 use refusal_codes::NoMemory;
 use std::alloc::Global;
 
@@ -29,12 +28,19 @@ pub fn simple_bytes(
     ensures { IfOk result (λ bytes. bytes.items ≡ simple_data variable (outline_at origin glyph.now)) }
 {
     let contours = glyph.drawn.as_slice()[origin as usize].as_slice();
-    let points = stored_points_of(alloc, contours)?;
-    if points.is_empty() {
+    let Some(bounds) = bounds_of(contours) else {
         return Ok(Vec::new(alloc));
-    }
+    };
+    let points = stored_points_of(alloc, contours)?;
     let mut bytes = Vec::with_capacity(alloc, 16 + 2 * contours.len() + 5 * points.len())?;
-    push_glyph(alloc, &mut bytes, contours, points.as_slice(), variable)?;
+    push_glyph(
+        alloc,
+        &mut bytes,
+        contours,
+        points.as_slice(),
+        bounds,
+        variable,
+    )?;
     pad(&mut bytes)?;
     Ok(bytes)
 }
@@ -45,10 +51,11 @@ fn push_glyph(
     bytes: &mut Vec<u8>,
     contours: &[Contour],
     points: &[StoredPoint],
+    bounds: [i16; 4],
     variable: bool,
 ) -> Result<(), NoMemory>
-    requires some { 0 < length points.now }
-    requires points { points.now ≡ all_points (stored_contours contours.now) }
+    requires points { points.now ≡ stored_points contours.now }
+    requires bounds { bounds_of points.now ≡ Some bounds }
     requires small { AreSmall points.now }
     requires few { point_count contours.now ≤ 8000 }
     requires none_empty { All (λ contour. 0 < length contour.points) contours.now }
@@ -57,10 +64,10 @@ fn push_glyph(
 {
     let steps = steps_of(alloc, points)?;
     let flags = flags_of(alloc, steps.as_slice(), variable)?;
-    push_word(bytes, count_of(contours))?;
-    push_bounds(bytes, bounds_of(points))?;
+    push_uint16(bytes, count_of(contours))?;
+    push_bounds(bytes, bounds)?;
     push_end_points(bytes, contours)?;
-    push_word(bytes, 0)?;
+    push_uint16(bytes, 0)?;
     push_flags(bytes, flags.as_slice())?;
     push_x_coordinates(bytes, steps.as_slice())?;
     push_y_coordinates(bytes, steps.as_slice())?;

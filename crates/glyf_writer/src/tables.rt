@@ -3,7 +3,7 @@ ghost use Rattle.std.specs.List.{concat};
 ghost use Rattle.font_ir.specs.Tables.{Builds};
 ghost use Rattle.glyf_writer.specs.Tables.{glyf_bytes, loca_bytes, too_large};
 
-use font_ir::TableError;
+use font_ir::{TableError, push_uint32};
 use refusal_codes::NoMemory;
 use std::alloc::Global;
 use std::sync::Arc;
@@ -72,9 +72,9 @@ fn loca_of(alloc: Global, parts: &[Arc<Vec<u8>>]) -> Result<Vec<u8>, NoMemory>
     let mut loca = Vec::with_capacity(alloc, 4 * (parts.len() + 1))?;
     let mut offset: u32 = 0;
     for part in parts {
-        loca.extend_from_slice(&offset.to_be_bytes())?;
+        push_uint32(&mut loca, offset)?;
         offset += part.len() as u32;
     }
-    loca.extend_from_slice(&offset.to_be_bytes())?;
+    push_uint32(&mut loca, offset)?;
     Ok(loca)
 }

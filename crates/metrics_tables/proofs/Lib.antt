@@ -1,5 +1,3 @@
 pub mod LeastLemmas
-pub mod OutlineLemmas
 pub mod MeasuringLemmas
-pub mod LeastLaws
 pub mod Examples

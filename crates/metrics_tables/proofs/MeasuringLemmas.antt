@@ -1,7 +1,9 @@
 -- The glyphs that are measured, behind their references.
-use Rattle.std.proofs.Common.{◌≡◌, ℕ, ◌<◌, ◌∷◌, List, [], length, map, get_or, unsigned_abs, refl, ap, ◌∙◌, subst, arith}
+use Rattle.std.proofs.Common.{◌≡◌, ℕ, ◌<◌, List, [], length, map, get_or, unsigned_abs, sym, ap, ◌∙◌, subst, arith}
 use Rattle.std.proofs.Math.ListN.{get_or-map}
 use Rattle.std.proofs.lemmas.List.{length-map}
+use Rattle.std.proofs.lemmas.Simd.{map-map}
+use Rattle.std.specs.Arc.{arc_value}
 use Rattle.std.specs.List.{All}
 use Rattle.std.specs.declared.alloc.Global.{Global}
 use Rattle.std.specs.declared.sync.Arc.{Arc}
@@ -10,13 +12,12 @@ use Rattle.font_ir.specs.declared.header.Header.{Header}
 use Rattle.font_ir.specs.declared.glyph.FlatGlyph.{FlatGlyph}
 use Rattle.metrics_tables.specs.declared.measures.Measures.{Measures}
 use Rattle.metrics_tables.specs.Least.{greatest_count}
-use Rattle.metrics_tables.specs.Measuring.{glyphs_of, measures_of, IsMeasurable, HasMastersPlaces}
-use Rattle.metrics_tables.specs.Outlines.{contours_at, points_at, width_at, bounds_of}
+use Rattle.metrics_tables.specs.Measuring.{glyphs_of, measures_of, width_at, IsMeasurable, HasMastersPlaces}
+use Rattle.font_ir.specs.Outlines.{contours_at, points_at, bounds_of}
 
 -- what is said of the glyphs in order, said of the references
 each : {Y : Type 0} (f : FlatGlyph → Y) (glyphs : List (Arc FlatGlyph Global)) → map (λ glyph. f glyph.value) glyphs ≡ map f (glyphs_of glyphs)
-each f [] = refl
-each f (glyph ∷ glyphs) = ap (λ ys. f glyph.value ∷ ys) (each f glyphs)
+each f glyphs = sym (map-map f arc_value glyphs)
 
 glyph_at : (glyphs : List (Arc FlatGlyph Global)) (k : ℕ) (d : Arc FlatGlyph Global) → get_or (glyphs_of glyphs) k d.value ≡ (get_or glyphs k d).value
 glyph_at glyphs k d = get_or-map (λ (glyph : Arc FlatGlyph Global). glyph.value) glyphs k d
@@ -32,13 +33,13 @@ measurable header glyphs flat places origin = λ k d h.
 
 -- measures are those of the glyphs where each of their fields is
 pub measures_are : (header : Header) (glyphs : List (Arc FlatGlyph Global)) (measures : Measures)
-    → measures.advances ≡ map (λ glyph. unsigned_abs (width_at glyph.value header.origin)) glyphs
-    → measures.bounds ≡ map (λ glyph. bounds_of (points_at glyph.value header.origin)) glyphs
+    → measures.advances ≡ map (λ glyph. unsigned_abs (width_at header.origin glyph.value)) glyphs
+    → measures.bounds ≡ map (λ glyph. bounds_of (points_at header.origin glyph.value)) glyphs
     → measures.regions ≡ []
     → measures.rows ≡ map (λ glyph. []) glyphs
     → measures.maxima ≡ record {
-      points = greatest_count (map (λ glyph. length (points_at glyph.value header.origin)) glyphs);
-      contours = greatest_count (map (λ glyph. length (contours_at glyph.value header.origin)) glyphs);
+      points = greatest_count (map (λ glyph. length (points_at header.origin glyph.value)) glyphs);
+      contours = greatest_count (map (λ glyph. length (contours_at header.origin glyph.value)) glyphs);
       composite_points = 0;
       composite_contours = 0;
       components = 0;
@@ -47,10 +48,10 @@ pub measures_are : (header : Header) (glyphs : List (Arc FlatGlyph Global)) (mea
     → measures ≡ measures_of header (glyphs_of glyphs)
 measures_are header glyphs measures advances bounds regions rows maxima =
     let place = header.origin in
-    let a = advances ∙ each (λ g. unsigned_abs (width_at g place)) glyphs in
-    let b = bounds ∙ each (λ g. bounds_of (points_at g place)) glyphs in
+    let a = advances ∙ each (λ g. unsigned_abs (width_at place g)) glyphs in
+    let b = bounds ∙ each (λ g. bounds_of (points_at place g)) glyphs in
     let r = rows ∙ each (λ g. []) glyphs in
-    let points = ap greatest_count (each (λ g. length (points_at g place)) glyphs) in
-    let contours = ap greatest_count (each (λ g. length (contours_at g place)) glyphs) in
+    let points = ap greatest_count (each (λ g. length (points_at place g)) glyphs) in
+    let contours = ap greatest_count (each (λ g. length (contours_at place g)) glyphs) in
     let m = maxima ∙ (λ i. record { points = points i; contours = contours i; composite_points = 0; composite_contours = 0; components = 0; depth = 0 }) in
     λ i. record { advances = a i; bounds = b i; regions = regions i; rows = r i; maxima = m i }

@@ -1,4 +1,3 @@
 pub mod Least
-pub mod Outlines
 pub mod Measuring
 pub mod Tables

@@ -1,10 +1,11 @@
 -- What is measured of the glyphs of a font, in the order of their glyph numbers.
-use Rattle.std.specs.Prelude.{◌≡◌, ℕ, ◌<◌, unsigned_abs, List, [], length, map, Result, Ok, Err}
+use Rattle.std.specs.Prelude.{◌≡◌, ℕ, ◌<◌, ℤ, pos, unsigned_abs, List, [], length, map, slice_index_or, Result, Ok, Err}
 use Rattle.std.specs.List.{All}
 use Rattle.std.specs.declared.alloc.Global.{Global}
 use Rattle.std.specs.declared.sync.Arc.{Arc}
 use Rattle.std.specs.Arc.{arc_value}
 use Rattle.font_ir.specs.FlatGlyphs.{IsFlatGlyph}
+use Rattle.font_ir.specs.Outlines.{contours_at, points_at, bounds_of}
 use Rattle.font_ir.specs.declared.header.Header.{Header}
 use Rattle.font_ir.specs.declared.glyph.FlatGlyph.{FlatGlyph}
 use Rattle.metrics_tables.specs.declared.measures.Measures.{Measures}
@@ -12,7 +13,6 @@ use Rattle.metrics_tables.specs.declared.measures.Maxima.{Maxima}
 use Rattle.metrics_tables.specs.declared.measures.MeasureError.{MeasureError}
 use Rattle.metrics_tables.specs.declared.measures.MeasureError.TheVariants.{TooLarge, Regions, NoMemory}
 use Rattle.metrics_tables.specs.Least.{greatest_count}
-use Rattle.metrics_tables.specs.Outlines.{contours_at, width_at, points_at, bounds_of}
 
 abbrev pub glyphs_of : List (Arc FlatGlyph Global) → List FlatGlyph
 glyphs_of glyphs = map arc_value glyphs
@@ -32,11 +32,15 @@ pub record IsMeasurable (place : ℕ) (glyph : FlatGlyph) : Type 0 where
   pub flat : IsFlatGlyph glyph
   pub there : place < length glyph.places
 
+-- a glyph's advance width at a place
+abbrev pub width_at : ℕ → FlatGlyph → ℤ
+width_at place glyph = slice_index_or glyph.widths place (pos 0)
+
 -- the greatest counts over glyphs that are all simple
 abbrev pub maxima_of : List FlatGlyph → ℕ → Maxima
 maxima_of glyphs place = record {
-  points = greatest_count (map (λ g. length (points_at g place)) glyphs);
-  contours = greatest_count (map (λ g. length (contours_at g place)) glyphs);
+  points = greatest_count (map (λ g. length (points_at place g)) glyphs);
+  contours = greatest_count (map (λ g. length (contours_at place g)) glyphs);
   composite_points = 0;
   composite_contours = 0;
   components = 0;
@@ -46,8 +50,8 @@ maxima_of glyphs place = record {
 -- the measures of a static font's glyphs, at the default master
 abbrev pub measures_of : Header → List FlatGlyph → Measures
 measures_of header glyphs = record {
-  advances = map (λ g. unsigned_abs (width_at g header.origin)) glyphs;
-  bounds = map (λ g. bounds_of (points_at g header.origin)) glyphs;
+  advances = map (λ g. unsigned_abs (width_at header.origin g)) glyphs;
+  bounds = map (λ g. bounds_of (points_at header.origin g)) glyphs;
   regions = [];
   rows = map (λ g. []) glyphs;
   maxima = maxima_of glyphs header.origin;

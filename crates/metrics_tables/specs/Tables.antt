@@ -1,29 +1,17 @@
 -- The tables `head`, `hhea`, `maxp` and `hmtx` as bytes, field by field (OpenType 1.9, the chapters of these names).
 use Rattle.std.specs.Prelude.{◌≡◌, ℕ, ◌+◌, ◌*◌, ◌/◌, ◌<◌, ◌≤◌, ℤ, pos, ◌-ℤ◌, List, [], ◌∷◌, ◌++◌, length, map, slice_index_or, slice_get, Option, None, Some}
-use Rattle.std.specs.Int.{w16, w32, w64, to_be_bytes, cast_unsigned, saturate_signed}
+use Rattle.std.specs.Int.{w16, saturate_signed}
 use Rattle.std.specs.Option.{option_map_or}
+use Rattle.font_ir.specs.DataTypes.{uint16, uint32, uint64, int16}
 use Rattle.font_ir.specs.declared.header.Header.{Header}
 use Rattle.font_ir.specs.declared.header.Master.{Master}
+use Rattle.font_ir.specs.Extremes.{least, greatest}
 use Rattle.metrics_tables.specs.declared.measures.Measures.{Measures}
-use Rattle.metrics_tables.specs.Least.{least, greatest, greatest_count}
-
--- ---- the fields
-
-abbrev pub uint16 : ℕ → List ℕ
-uint16 n = to_be_bytes w16 n
-
-abbrev pub uint32 : ℕ → List ℕ
-uint32 n = to_be_bytes w32 n
-
-abbrev pub uint64 : ℕ → List ℕ
-uint64 n = to_be_bytes w64 n
+use Rattle.metrics_tables.specs.Least.{greatest_count}
 
 -- version 1.0, as two halves or as a number in 16.16
 abbrev pub version_1 : List ℕ
-version_1 = to_be_bytes w32 0x00010000
-
-abbrev pub int16 : ℤ → List ℕ
-int16 z = to_be_bytes w16 (cast_unsigned w16 z)
+version_1 = uint32 0x00010000
 
 -- ---- what the measures say of all glyphs
 

@@ -1,11 +1,13 @@
 ghost use Rattle.std.specs.Prelude.{◌≡◌, ◌++◌, IfOk, OnOk, ℤ};
-ghost use Rattle.metrics_tables.specs.Least.{least as least_of, greatest as greatest_of, greatest_count};
+ghost use Rattle.font_ir.specs.DataTypes.{uint16, int16};
+ghost use Rattle.font_ir.specs.Extremes.{least as least_of, greatest as greatest_of};
+ghost use Rattle.metrics_tables.specs.Least.{greatest_count};
 ghost use Rattle.metrics_tables.specs.Tables as tables;
 
 use crate::bounds::{cut, greatest, least, least_right_bearing};
-use crate::fields::{push_long, push_words};
+use crate::fields::push_words;
 use crate::measures::Measures;
-use font_ir::Header;
+use font_ir::{Header, push_uint32};
 use refusal_codes::NoMemory;
 use std::alloc::{AllocError, Global};
 
@@ -36,10 +38,10 @@ pub fn head(alloc: Global, header: &Header, measures: &Measures) -> Result<Vec<u
     let x_max = greatest(bounds, 2);
     let y_max = greatest(bounds, 3);
     let mut table = Vec::with_capacity(alloc, 54)?;
-    push_long(&mut table, VERSION_1)?;
-    push_long(&mut table, font_revision(header))?;
-    push_long(&mut table, 0)?;
-    push_long(&mut table, MAGIC)?;
+    push_uint32(&mut table, VERSION_1)?;
+    push_uint32(&mut table, font_revision(header))?;
+    push_uint32(&mut table, 0)?;
+    push_uint32(&mut table, MAGIC)?;
     push_words(&mut table, &[3, header.upem, 0, 0, 0, 0, 0, 0, 0, 0])?;
     push_words(&mut table, &[x_min.cast_unsigned(), y_min.cast_unsigned()])?;
     push_words(&mut table, &[x_max.cast_unsigned(), y_max.cast_unsigned()])?;
@@ -112,7 +114,7 @@ pub fn hhea(alloc: Global, header: &Header, measures: &Measures) -> Result<Vec<u
     let extent = extremes.extent.cast_unsigned();
     let glyphs = measures.advances.len() as u16;
     let mut table = Vec::with_capacity(alloc, 36)?;
-    push_long(&mut table, VERSION_1)?;
+    push_uint32(&mut table, VERSION_1)?;
     push_words(
         &mut table,
         &[ascender.cast_unsigned(), descender.cast_unsigned()],
@@ -133,7 +135,7 @@ pub fn maxp(alloc: Global, header: &Header, measures: &Measures) -> Result<Vec<u
     let maxima = &measures.maxima;
     let glyphs = measures.advances.len() as u16;
     let mut table = Vec::with_capacity(alloc, 32)?;
-    push_long(&mut table, VERSION_1)?;
+    push_uint32(&mut table, VERSION_1)?;
     push_words(&mut table, &[glyphs, maxima.points, maxima.contours])?;
     push_words(
         &mut table,
@@ -150,7 +152,7 @@ fn push_record(
     advance: u16,
     bounds: &Option<[i16; 4]>,
 ) -> Result<(), AllocError>
-    ensures { OnOk result (table.new.items ≡ table.old.items ++ (tables.uint16 advance ++ tables.int16 (tables.left_bearing bounds.now))) }
+    ensures { OnOk result (table.new.items ≡ table.old.items ++ (uint16 advance ++ int16 (tables.left_bearing bounds.now))) }
 {
     let bearing = match bounds {
         None => 0,

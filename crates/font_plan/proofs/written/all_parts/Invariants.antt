@@ -1,7 +1,7 @@
 -- the parts so far are those of the glyphs before this one
 use Rattle.std.proofs.Common.{◌≡◌, map, take, false}
 use Rattle.glyf_writer.specs.GlyphData.{simple_data}
-use Rattle.glyf_writer.specs.Outlines.{outline_at}
+use Rattle.font_ir.specs.Outlines.{outline_at}
 use Rattle.font_plan.proofs.written.all_parts.Given as goal
 
 abbrev pub invariant-loop-glyph : goal.invariant-loop-glyph

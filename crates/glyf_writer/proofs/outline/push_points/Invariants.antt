@@ -1,5 +1,6 @@
 use Rattle.std.proofs.Common.{◌≡◌, ◌++◌, map, take}
-use Rattle.glyf_writer.specs.Outlines.{stored_point, AreSmall}
+use Rattle.font_ir.specs.Outlines.{stored_point}
+use Rattle.glyf_writer.specs.Outlines.{AreSmall}
 use Rattle.glyf_writer.proofs.outline.push_points.Given as goal
 
 abbrev pub invariant-loop-point : goal.invariant-loop-point

@@ -1,7 +1,7 @@
-use Rattle.std.proofs.Common.{◌≡◌, ◌+◌, ◌++◌, ◌∷◌, [], ℤ, ◌-ℤ◌, arith, get_or, drop, sym, ap, ◌∙◌, subst, pos, false, refl}
-use Rattle.std.specs.Int.{w16, cast_signed, cast_unsigned}
+use Rattle.std.proofs.Common.{◌+◌, ◌++◌, ◌∷◌, [], arith, get_or, drop, sym, ◌∙◌, subst, pos, false}
+use Rattle.std.specs.Int.{w16, cast_signed}
 use Rattle.font_ir.specs.FlatGlyphs.{IsSmall}
-use Rattle.glyf_writer.specs.declared.outline.StoredPoint.{StoredPoint}
+use Rattle.font_ir.specs.declared.outline.StoredPoint.{StoredPoint}
 use Rattle.glyf_writer.specs.Outlines.{steps_from}
 use Rattle.glyf_writer.proofs.Steps.{step_step, kept, kept_difference}
 use Rattle.glyf_writer.proofs.outline.steps_of.Goals as goal

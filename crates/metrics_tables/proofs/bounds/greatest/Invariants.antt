@@ -1,5 +1,5 @@
 use Rattle.std.proofs.Common.{◌≡◌, drop}
-use Rattle.metrics_tables.specs.Least.{greatest}
+use Rattle.font_ir.specs.Extremes.{greatest}
 use Rattle.metrics_tables.specs.Tables.{side, boxes_of}
 use Rattle.metrics_tables.proofs.LeastLemmas.{greatest_onto}
 use Rattle.metrics_tables.proofs.bounds.greatest.Given as goal

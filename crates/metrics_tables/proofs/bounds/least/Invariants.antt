@@ -1,5 +1,5 @@
 use Rattle.std.proofs.Common.{◌≡◌, drop}
-use Rattle.metrics_tables.specs.Least.{least}
+use Rattle.font_ir.specs.Extremes.{least}
 use Rattle.metrics_tables.specs.Tables.{side, boxes_of}
 use Rattle.metrics_tables.proofs.LeastLemmas.{least_onto}
 use Rattle.metrics_tables.proofs.bounds.least.Given as goal

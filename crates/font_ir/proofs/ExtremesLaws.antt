@@ -4,7 +4,7 @@ use Rattle.std.proofs.lemmas.Int.{ints, clamps}
 use Rattle.std.proofs.lemmas.List.Elements.{All-from_recursion}
 use Rattle.std.specs.List.{fold, AllByRecursion, Contains}
 use Rattle.std.specs.Int.{int_min, int_max}
-use Rattle.metrics_tables.specs.Least.{least, greatest, IsLeast, IsGreatest}
+use Rattle.font_ir.specs.Extremes.{least, greatest, IsLeast, IsGreatest}
 
 -- the first of two numbers or the second
 min_either : (x y : ℤ) → (int_min x y ≡ x) ⊎ (int_min x y ≡ y)

@@ -1,6 +1,6 @@
 use Rattle.std.proofs.Common.{◌≡◌, map, drop}
-use Rattle.metrics_tables.specs.Outlines.{stored_point, widened_by_all}
-use Rattle.metrics_tables.proofs.outline.widened_by_points.Given as goal
+use Rattle.font_ir.specs.Outlines.{stored_point, widened_by_all}
+use Rattle.font_ir.proofs.outline.widened_by_points.Given as goal
 
 abbrev pub invariant-loop-point : goal.invariant-loop-point
 invariant-loop-point l =

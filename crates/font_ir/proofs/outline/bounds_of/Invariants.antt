@@ -1,6 +1,6 @@
 use Rattle.std.proofs.Common.{◌≡◌, drop, None}
-use Rattle.metrics_tables.specs.Outlines.{stored_points, widened_by_all}
-use Rattle.metrics_tables.proofs.outline.outline_bounds.Given as goal
+use Rattle.font_ir.specs.Outlines.{stored_points, widened_by_all}
+use Rattle.font_ir.proofs.outline.bounds_of.Given as goal
 
 abbrev pub invariant-loop-contour : goal.invariant-loop-contour
 invariant-loop-contour l =
