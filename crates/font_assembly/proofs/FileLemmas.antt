@@ -1,11 +1,12 @@
 -- What the parts of a file's definition say of tables, one at a time.
-use Rattle.std.proofs.Common.{◌≡◌, ℕ, zero, suc, ◌+◌, ◌-◌, ◌*◌, ◌%◌, ◌^◌, ◌<◌, ◌≤◌, Bool, true, false, cond, not, ◌||◌, ◌&&◌, lit<, ⊎_elim, IsTrue, nat_eq, List, [], ◌∷◌, ◌++◌, length, replicate, take, drop, refl, ◌∙◌, arith, length-append, length-drop}
+use Rattle.std.proofs.Common.{◌≡◌, ℕ, zero, suc, ◌+◌, ◌-◌, ◌*◌, ◌%◌, ◌^◌, ◌<◌, ◌≤◌, Bool, true, false, cond, not, ◌||◌, ◌&&◌, lit<, ⊎_elim, IsTrue, nat_eq, List, [], ◌∷◌, ◌++◌, length, take, drop, refl, ◌∙◌, arith, length-append, length-drop}
 use Rattle.std.proofs.lemmas.List.{length-take, take_all}
 use Rattle.std.specs.List.{list_any, list_all}
 use Rattle.std.proofs.lemmas.Bool.Decides.{nat_tests}
 use Rattle.std.proofs.lemmas.Bool.{cases_lt}
 use Rattle.std.proofs.Math.Nat.{pow-le-pow_right, pow-suc}
-use Rattle.font_assembly.specs.Checksum.{padding, total, checksum}
+use Rattle.font_ir.specs.DataTypes.{padding}
+use Rattle.font_assembly.specs.Checksum.{total, checksum}
 use Rattle.font_assembly.specs.File.{Table, greatest_power, is_head, fits_head, unadjusted, room_of, room_of_all, head_offset}
 use Rattle.font_assembly.proofs.TotalLemmas.{total-append}
 
@@ -69,15 +70,6 @@ pub checksum-cleared : (bytes : List ℕ) → 12 ≤ length bytes → (checksum 
 checksum-cleared bytes h =
     let four : length (take 8 bytes) % 4 ≡ 0 = omega (arith, length-take 8 bytes) in
     rw (total-cleared (take 8 bytes) (drop 12 bytes) four) (omega arith)
-
--- ---- zeros
-
-pub take_zeros : (k : ℕ) → k < 4 → take {A = ℕ} k (0 ∷ 0 ∷ 0 ∷ 0 ∷ []) ≡ replicate k 0
-take_zeros zero h = refl
-take_zeros (suc zero) h = refl
-take_zeros (suc (suc zero)) h = refl
-take_zeros (suc (suc (suc zero))) h = refl
-take_zeros (suc (suc (suc (suc k)))) h = absurd (omega arith)
 
 -- ---- places
 

@@ -1,4 +1,3 @@
 pub mod TotalLemmas
-pub mod LoopLemmas
 pub mod FileLemmas
 pub mod Examples

@@ -1,15 +1,8 @@
 -- The checksum of a table, and of a whole font (OpenType 1.9, "Calculating Checksums").
-use Rattle.std.specs.Prelude.{ℕ, ◌-◌, ◌%◌, ◌^◌, List, [], ◌∷◌, ◌++◌, length, replicate}
+use Rattle.std.specs.Prelude.{ℕ, ◌%◌, ◌^◌, List, [], ◌∷◌}
 use Rattle.std.specs.List.{sum}
 use Rattle.std.specs.Int.{w32, from_be_bytes}
-
--- how many bytes are missing to a multiple of four
-abbrev pub padding : ℕ → ℕ
-padding n = (4 - n % 4) % 4
-
--- bytes, and zeros up to a multiple of four
-abbrev pub padded : List ℕ → List ℕ
-padded bytes = bytes ++ replicate (padding (length bytes)) 0
+use Rattle.font_ir.specs.DataTypes.{padded}
 
 -- the 32-bit numbers that bytes hold, four bytes each, the highest first
 abbrev pub words : List ℕ → List ℕ

@@ -6,8 +6,8 @@ use Rattle.std.specs.List.{flat_map, list_any, list_all}
 use Rattle.std.specs.Cmp.Lexicographic.{pointwise, slice_cmp}
 use Rattle.std.specs.Ordering.{nat_cmp}
 use Rattle.std.specs.declared.cmp.Ordering.{Ordering}
-use Rattle.std.specs.Int.{w16, w32, to_be_bytes}
-use Rattle.font_assembly.specs.Checksum.{padding, padded, checksum}
+use Rattle.font_ir.specs.DataTypes.{uint16, uint32, padding, padded}
+use Rattle.font_assembly.specs.Checksum.{checksum}
 
 -- a table: its tag's four bytes, and its bytes
 pub record Table : Type 0 where
@@ -31,8 +31,8 @@ search_range n = 16 * 2 ^ entry_selector n
 -- version 1.0, the count of tables, searchRange, entrySelector, rangeShift
 unfoldable pub directory_head : ℕ → List ℕ
 directory_head n =
-    to_be_bytes w32 0x00010000 ++ to_be_bytes w16 n ++ to_be_bytes w16 (search_range n)
-    ++ to_be_bytes w16 (entry_selector n) ++ to_be_bytes w16 (16 * n - search_range n)
+    uint32 0x00010000 ++ uint16 n ++ uint16 (search_range n)
+    ++ uint16 (entry_selector n) ++ uint16 (16 * n - search_range n)
 
 -- ---- the tables
 
@@ -55,7 +55,7 @@ room_of_all (t ∷ ts) = room_of t + room_of_all ts
 -- a table's record in the directory: tag, checksum, offset, length
 unfoldable pub directory_entry : Table → ℕ → List ℕ
 directory_entry t offset =
-    t.tag ++ to_be_bytes w32 (checksum (unadjusted t)) ++ to_be_bytes w32 offset ++ to_be_bytes w32 (length t.bytes)
+    t.tag ++ uint32 (checksum (unadjusted t)) ++ uint32 offset ++ uint32 (length t.bytes)
 
 -- the records of tables that stand one after another from an offset on
 abbrev pub directory_entries : List Table → ℕ → List ℕ
@@ -87,7 +87,7 @@ adjustment file = (0xB1B0AFBA + (2 ^ 32 - checksum file)) % 2 ^ 32
 
 -- bytes in which the four bytes at an offset are these of a number
 abbrev pub with_word : List ℕ → ℕ → ℕ → List ℕ
-with_word bytes offset n = take offset bytes ++ to_be_bytes w32 n ++ drop (offset + 4) bytes
+with_word bytes offset n = take offset bytes ++ uint32 n ++ drop (offset + 4) bytes
 
 -- the file: the file with 0, and the adjustment written into its place in 'head'
 unfoldable pub file : List Table → List ℕ

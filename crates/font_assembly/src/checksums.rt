@@ -1,13 +1,5 @@
-ghost use Rattle.std.specs.Prelude.{◌≡◌, ◌+◌, ◌%◌, ◌^◌, ◌<◌, length};
+ghost use Rattle.std.specs.Prelude.{◌≡◌, ◌<◌, length};
 ghost use Rattle.font_assembly.specs.Checksum as sums;
-
-/// How many bytes are missing to a multiple of four.
-pub fn padding(len: usize) -> usize
-    ensures value { result ≡ sums.padding len }
-    ensures small { result < 4 }
-{
-    (4 - len % 4) % 4
-}
 
 /// The number that fewer than four bytes hold, with zeros after them.
 #[tactic(auto, unfolding(crate::specs::Checksum::total))]

@@ -1,13 +1,14 @@
-ghost use Rattle.std.specs.Prelude.{◌≡◌, ◌+◌, ◌-◌, ◌*◌, ◌^◌, ◌<◌, ◌≤◌, ◌++◌, length, min, replicate, OnOk, IsTrue};
+ghost use Rattle.std.specs.Prelude.{◌≡◌, ◌+◌, ◌-◌, ◌*◌, ◌^◌, ◌<◌, ◌≤◌, ◌++◌, ℕ, List, length, min, OnOk, IsTrue};
 ghost use Rattle.std.specs.Vec.{vec_len};
-ghost use Rattle.std.specs.Int.{w16, w32, to_be_bytes};
 ghost use Rattle.std.specs.Arc.{arc_value};
+ghost use Rattle.font_ir.specs.DataTypes.{padded};
+ghost use Rattle.font_ir.specs.Tables.{Builds, over_limit};
 ghost use Rattle.font_assembly.specs.Checksum as sums;
 ghost use Rattle.font_assembly.specs.File as files;
-ghost use Rattle.font_assembly.specs.Assembled.{Assembles, table_of, tables_of};
+ghost use Rattle.font_assembly.specs.Assembled.{table_of, tables_of};
 
-use crate::checksums::{checksum, padding};
-use font_ir::{TableError, Tag};
+use crate::checksums::checksum;
+use font_ir::{TableError, Tag, padding, push_uint16, push_uint32, push_zeros};
 use std::alloc::{AllocError, Global};
 use std::sync::Arc;
 
@@ -35,7 +36,7 @@ fn room_of(table: &Table) -> u64
 /// How many bytes the file has, or `u64::MAX` where it has more.
 fn file_len(tables: &[Table]) -> u64
     requires { length tables.now ≤ 4095 }
-    ensures { result ≡ min (files.file_len (tables_of tables.now)) (2 ^ 64 - 1) }
+    ensures { result ≡ min (files.file_len (tables_of tables.now)) 18446744073709551615 }
 {
     let mut len = 12 + 16 * tables.len() as u64;
     for table in tables {
@@ -82,20 +83,6 @@ fn entry_selector(count: u16) -> u16
     count.ilog2() as u16
 }
 
-fn push_u16(font: &mut Vec<u8>, number: u16) -> Result<(), AllocError>
-    ensures bytes { OnOk result (font.new.items ≡ font.old.items ++ to_be_bytes w16 number) }
-    ensures len { OnOk result (vec_len font.new ≡ vec_len font.old + 2) }
-{
-    font.extend_from_slice(&number.to_be_bytes())
-}
-
-fn push_u32(font: &mut Vec<u8>, number: u32) -> Result<(), AllocError>
-    ensures bytes { OnOk result (font.new.items ≡ font.old.items ++ to_be_bytes w32 number) }
-    ensures len { OnOk result (vec_len font.new ≡ vec_len font.old + 4) }
-{
-    font.extend_from_slice(&number.to_be_bytes())
-}
-
 /// Appends the directory's head for a count of tables.
 #[tactic(auto, unfolding(crate::specs::File::directory_head))]
 fn push_directory_head(font: &mut Vec<u8>, count: u16) -> Result<(), AllocError>
@@ -106,11 +93,11 @@ fn push_directory_head(font: &mut Vec<u8>, count: u16) -> Result<(), AllocError>
 {
     let entry_selector = entry_selector(count);
     let search_range = 16 * 2u16.pow(u32::from(entry_selector));
-    push_u32(font, 0x0001_0000)?;
-    push_u16(font, count)?;
-    push_u16(font, search_range)?;
-    push_u16(font, entry_selector)?;
-    push_u16(font, 16 * count - search_range)?;
+    push_uint32(font, 0x0001_0000)?;
+    push_uint16(font, count)?;
+    push_uint16(font, search_range)?;
+    push_uint16(font, entry_selector)?;
+    push_uint16(font, 16 * count - search_range)?;
     Ok(())
 }
 
@@ -137,9 +124,9 @@ fn push_entry(font: &mut Vec<u8>, table: &Table, offset: u32) -> Result<(), Allo
     ensures len { OnOk result (vec_len font.new ≡ vec_len font.old + 16) }
 {
     font.extend_from_slice(&table.0.0)?;
-    push_u32(font, table_checksum(table))?;
-    push_u32(font, offset)?;
-    push_u32(font, table.1.len() as u32)?;
+    push_uint32(font, table_checksum(table))?;
+    push_uint32(font, offset)?;
+    push_uint32(font, table.1.len() as u32)?;
     Ok(())
 }
 
@@ -174,22 +161,11 @@ fn push_unadjusted(font: &mut Vec<u8>, table: &Table) -> Result<(), AllocError>
     font.extend_from_slice(&bytes[AFTER_ADJUSTMENT..])
 }
 
-/// Appends up to three zeros.
-#[tactic(auto, using(crate::proofs::FileLemmas::take_zeros))]
-fn push_zeros(font: &mut Vec<u8>, count: usize) -> Result<(), AllocError>
-    requires { count < 4 }
-    ensures bytes { OnOk result (font.new.items ≡ font.old.items ++ replicate count 0) }
-    ensures len { OnOk result (vec_len font.new ≡ vec_len font.old + count) }
-{
-    font.extend_from_slice(&[0; 4][..count])?;
-    Ok(())
-}
-
 /// Appends such bytes of a table, and zeros up to a multiple of four.
 #[tactic(auto, using(crate::proofs::FileLemmas::length_unadjusted))]
 fn push_body(font: &mut Vec<u8>, table: &Table) -> Result<(), AllocError>
     requires { IsTrue (files.fits_head (table_of table.now)) }
-    ensures bytes { OnOk result (font.new.items ≡ font.old.items ++ sums.padded (files.unadjusted (table_of table.now))) }
+    ensures bytes { OnOk result (font.new.items ≡ font.old.items ++ padded (files.unadjusted (table_of table.now))) }
     ensures len { OnOk result (vec_len font.new ≡ vec_len font.old + files.room_of (table_of table.now)) }
 {
     push_unadjusted(font, table)?;
@@ -240,13 +216,13 @@ fn adjust(font: &mut Vec<u8>, offset: usize)
 /// # Errors
 ///
 /// `TooLarge` with the file's length, or `u64::MAX` where it is longer, exactly where it has more than 4,294,967,295
-/// bytes.
+/// bytes. `NoMemory` comes only where it hasn't.
 #[tactic(auto, unfolding(crate::specs::File::file))]
 pub fn assemble(alloc: Global, tables: &[(Tag, Arc<Vec<u8>>)]) -> Result<Vec<u8>, TableError>
     requires count { length tables.now ≤ 4095 }
     requires tags { files.TagsRise (tables_of tables.now) }
     requires head { files.HasHead (tables_of tables.now) }
-    ensures { Assembles result (tables_of tables.now) }
+    ensures { Builds {Y = List ℕ} (λ font. font.items) result (over_limit (files.file_len (tables_of tables.now))) (files.file (tables_of tables.now)) }
 {
     let len = file_len(tables);
     if len > u64::from(u32::MAX) {

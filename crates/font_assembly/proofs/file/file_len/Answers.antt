@@ -1,10 +1,10 @@
-use Rattle.std.proofs.Common.{◌≡◌, ℕ, ◌+◌, ◌-◌, ◌^◌, ◌<◌, min, arith, drop, refl}
+use Rattle.std.proofs.Common.{◌≡◌, ℕ, ◌+◌, ◌^◌, ◌<◌, min, arith, drop, refl}
 use Rattle.std.proofs.Math.ListN.{drop_of_length-le}
 use Rattle.font_assembly.specs.File.{room_of_all}
 use Rattle.font_assembly.specs.Assembled.{tables_of}
 use Rattle.font_assembly.proofs.file.file_len.Goals as goal
 
-whole : (len rest total : ℕ) → len < 2 ^ 64 → rest ≡ 0 → min (len + rest) (2 ^ 64 - 1) ≡ total → len ≡ total
+whole : (len rest total : ℕ) → len < 2 ^ 64 → rest ≡ 0 → min (len + rest) 18446744073709551615 ≡ total → len ≡ total
 whole len rest total fits none e = omega arith
 
 pub returns : goal.returns

@@ -8,10 +8,10 @@ returns-clause-bytes c =
     let power : c.pow-search_range.result ≡ 2 ^ c.entry_selector-entry_selector.result = c.pow-search_range.ensures ∙ ap (λ n. 2 ^ n) c.from.ensures in
     rw (← c.entry_selector-entry_selector.ensures.value, ← power)
     (rw (
-      c.in_ok-push_u16-4.ensures.bytes,
-      c.in_ok-push_u16-3.ensures.bytes,
-      c.in_ok-push_u16-2.ensures.bytes,
-      c.in_ok-push_u16.ensures.bytes,
-      c.in_ok-push_u32.ensures.bytes,
+      c.in_ok-push_uint16-4.ensures.bytes,
+      c.in_ok-push_uint16-3.ensures.bytes,
+      c.in_ok-push_uint16-2.ensures.bytes,
+      c.in_ok-push_uint16.ensures.bytes,
+      c.in_ok-push_uint32.ensures.bytes,
     )
     (simp append_assoc))
