@@ -4,7 +4,7 @@ ghost use Rattle.font_ir.specs.DataTypes.{uint16, uint32, int16, padding};
 
 use std::alloc::AllocError;
 
-/// Appends a uint16 (OpenType 1.9, "Data Types").
+/// Appends a uint16 (OpenType 1.9, "Data types").
 pub fn push_uint16(bytes: &mut Vec<u8>, number: u16) -> Result<(), AllocError>
     ensures bytes { OnOk result (bytes.new.items ≡ bytes.old.items ++ uint16 number) }
     ensures len { OnOk result (vec_len bytes.new ≡ vec_len bytes.old + 2) }
@@ -12,7 +12,7 @@ pub fn push_uint16(bytes: &mut Vec<u8>, number: u16) -> Result<(), AllocError>
     bytes.extend_from_slice(&number.to_be_bytes())
 }
 
-/// Appends an int16 (OpenType 1.9, "Data Types").
+/// Appends an int16 (OpenType 1.9, "Data types").
 pub fn push_int16(bytes: &mut Vec<u8>, number: i16) -> Result<(), AllocError>
     ensures bytes { OnOk result (bytes.new.items ≡ bytes.old.items ++ int16 number) }
     ensures len { OnOk result (vec_len bytes.new ≡ vec_len bytes.old + 2) }
@@ -20,7 +20,7 @@ pub fn push_int16(bytes: &mut Vec<u8>, number: i16) -> Result<(), AllocError>
     bytes.extend_from_slice(&number.to_be_bytes())
 }
 
-/// Appends a uint32 (OpenType 1.9, "Data Types").
+/// Appends a uint32 (OpenType 1.9, "Data types").
 pub fn push_uint32(bytes: &mut Vec<u8>, number: u32) -> Result<(), AllocError>
     ensures bytes { OnOk result (bytes.new.items ≡ bytes.old.items ++ uint32 number) }
     ensures len { OnOk result (vec_len bytes.new ≡ vec_len bytes.old + 4) }

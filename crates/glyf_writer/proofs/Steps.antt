@@ -94,7 +94,7 @@ none_over parts n m e few f less =
     ap (λ b. cond b (over_limit (length (concat parts))) (over_limit (length (loca_bytes parts)))) short
     ∙ is_within (length (loca_bytes parts)) m (f ∙ ap (λ k. min k 18446744073709551615) (sym (length_loca parts))) less
 
--- a small number fits a signed word, and so does the difference of two
+-- an int16 holds a small number, and the difference of two
 pub kept : (z : ℤ) → IsSmall z → cast_signed w16 (cast_unsigned w16 z) ≡ z
 kept z small = omega (arith, ints)
 

@@ -52,7 +52,7 @@ with_repeats flags = flat_map (λ run. flat_map flag_bytes (cut_at_256 run)) (lo
 
 -- ---- coordinates
 
--- a difference of 0 takes no byte, one of up to 255 in size that size as a byte, and any other a signed word
+-- a difference of 0 takes no byte, one of up to 255 in size that size as a byte, and any other an int16
 abbrev pub coordinate_bytes : ℤ → List ℕ
 coordinate_bytes z =
     if unsigned_abs z == 0 then [] else (if nat_lt 255 (unsigned_abs z) then int16 z else unsigned_abs z ∷ [])

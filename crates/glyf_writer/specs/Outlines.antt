@@ -20,6 +20,6 @@ abbrev pub end_points : List ℕ → List ℕ
 end_points [] = []
 end_points (count ∷ counts) = (count - 1) ∷ map (λ end. count + end) (end_points counts)
 
--- stored points are at most 16383 in size, so that their differences are words
+-- stored points are at most 16383 in size, so that an int16 holds their differences
 abbrev pub AreSmall : List StoredPoint → Type 0
 AreSmall points = All (λ point. IsSmall point.x × IsSmall point.y) points
