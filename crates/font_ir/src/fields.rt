@@ -2,6 +2,7 @@ ghost use Rattle.std.specs.Prelude.{◌≡◌, ◌+◌, ◌<◌, ◌++◌, repli
 ghost use Rattle.std.specs.Vec.{vec_len};
 ghost use Rattle.font_ir.specs.DataTypes.{uint16, uint32, int16, padding};
 
+use byteorder::{BigEndian, ByteOrder};
 use std::alloc::AllocError;
 
 /// Appends a uint16 (OpenType 1.9, "Data types").
@@ -9,7 +10,9 @@ pub fn push_uint16(bytes: &mut Vec<u8>, number: u16) -> Result<(), AllocError>
     ensures bytes { OnOk result (bytes.new.items ≡ bytes.old.items ++ uint16 number) }
     ensures len { OnOk result (vec_len bytes.new ≡ vec_len bytes.old + 2) }
 {
-    bytes.extend_from_slice(&number.to_be_bytes())
+    let mut field = [0; 2];
+    BigEndian::write_u16(&mut field, number);
+    bytes.extend_from_slice(&field)
 }
 
 /// Appends an int16 (OpenType 1.9, "Data types").
@@ -17,7 +20,9 @@ pub fn push_int16(bytes: &mut Vec<u8>, number: i16) -> Result<(), AllocError>
     ensures bytes { OnOk result (bytes.new.items ≡ bytes.old.items ++ int16 number) }
     ensures len { OnOk result (vec_len bytes.new ≡ vec_len bytes.old + 2) }
 {
-    bytes.extend_from_slice(&number.to_be_bytes())
+    let mut field = [0; 2];
+    BigEndian::write_i16(&mut field, number);
+    bytes.extend_from_slice(&field)
 }
 
 /// Appends a uint32 (OpenType 1.9, "Data types").
@@ -25,7 +30,9 @@ pub fn push_uint32(bytes: &mut Vec<u8>, number: u32) -> Result<(), AllocError>
     ensures bytes { OnOk result (bytes.new.items ≡ bytes.old.items ++ uint32 number) }
     ensures len { OnOk result (vec_len bytes.new ≡ vec_len bytes.old + 4) }
 {
-    bytes.extend_from_slice(&number.to_be_bytes())
+    let mut field = [0; 4];
+    BigEndian::write_u32(&mut field, number);
+    bytes.extend_from_slice(&field)
 }
 
 /// How many bytes are missing to a multiple of four.

@@ -1,4 +1,3 @@
-mod LayerLoops
 mod ReadLaws
 mod Triangle
 mod WorkedRows

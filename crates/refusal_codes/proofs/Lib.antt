@@ -1,3 +1,4 @@
 pub mod FirstLaws
 pub mod JudgedLaws
+pub mod Noting
 pub mod Ordered

@@ -1,6 +1,6 @@
 use Rattle.std.proofs.Common.{arith}
 use Rattle.glyphs_layers.specs.LayerRules.{entry_failures}
-use Rattle.glyphs_layers.proofs.LayerLoops.{noted_turn}
+use Rattle.refusal_codes.proofs.Noting.{noted_turn}
 use Rattle.glyphs_layers.proofs.layer_rules.note_each_entry.Goals as goal
 
 pub loop-layer-preserved : goal.loop-layer-preserved

@@ -1,6 +1,6 @@
 use Rattle.std.proofs.Common.{arith}
 use Rattle.glyphs_layers.specs.LayerRules.{shape_failures}
-use Rattle.glyphs_layers.proofs.LayerLoops.{noted_turn}
+use Rattle.refusal_codes.proofs.Noting.{noted_turn}
 use Rattle.glyphs_layers.proofs.layer_rules.note_each_shape.Goals as goal
 
 pub loop-shape-preserved : goal.loop-shape-preserved

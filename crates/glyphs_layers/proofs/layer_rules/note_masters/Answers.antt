@@ -2,7 +2,7 @@ use Rattle.std.proofs.Common.{arith, ap, ◌∙◌}
 use Rattle.refusal_codes.specs.First.{noted}
 use Rattle.font_ir.specs.declared.header.Master.{Master}
 use Rattle.glyphs_layers.specs.LayerRules.{master_failures}
-use Rattle.glyphs_layers.proofs.LayerLoops.{noted_turn}
+use Rattle.refusal_codes.proofs.Noting.{noted_turn}
 use Rattle.glyphs_layers.proofs.layer_rules.note_masters.Goals as goal
 
 pub loop-master-preserved : goal.loop-master-preserved
