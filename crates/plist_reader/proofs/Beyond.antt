@@ -15,7 +15,8 @@ use Rattle.plist_reader.specs.Characters.{is_space, is_word, hex_value, byte_of}
 use Rattle.plist_reader.specs.Escapes.{escape_begun, escape_next}
 use Rattle.plist_reader.specs.Grammar.{width, tree_of, IsTextOf}
 use Rattle.plist_reader.specs.Refusals.{CanGoOn}
-use Rattle.plist_reader.specs.Reading.{◌>>=◌, is_bracket, text_ended, text_begun, value_begun, awaited, between, in_word, in_quoted, in_bytes, in_half, step_in, step, run}
+use Rattle.refusal_codes.specs.Gives.{◌>>=◌}
+use Rattle.plist_reader.specs.Reading.{is_bracket, text_ended, text_begun, value_begun, awaited, between, in_word, in_quoted, in_bytes, in_half, step_in, step, run}
 use Rattle.plist_reader.proofs.Scalars.{no_char, no_space, no_word, no_octal, no_hex}
 use Rattle.plist_reader.proofs.Reached.{onward, at_ok, reached-goes_on, reached-tree}
 use Rattle.plist_reader.proofs.Depths.{ok_bind}

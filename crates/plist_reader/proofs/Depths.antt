@@ -16,7 +16,8 @@ use Rattle.plist_reader.specs.declared.reader.Open.{Open}
 use Rattle.plist_reader.specs.declared.reader.Open.TheVariants.{Items, Pairs}
 use Rattle.plist_reader.specs.Grammar.{node, width, tree_of}
 use Rattle.plist_reader.specs.Refusals.{is_container, is_open_at, open_at, IsDeep}
-use Rattle.plist_reader.specs.Reading.{◌>>=◌, is_end, start, step, finish, run}
+use Rattle.refusal_codes.specs.Gives.{◌>>=◌}
+use Rattle.plist_reader.specs.Reading.{is_end, start, step, finish, run}
 use Rattle.plist_reader.proofs.GivenTokens.{ready, in_token, settled, run_same}
 use Rattle.plist_reader.proofs.Moves.{TextEnds, as_value, as_key, Moves, space_between, string_begins, word_begins, bytes_begin, list_begins, dictionary_begins, comma, equals, semicolon, list_ends, dictionary_ends, word_more, word_ends, string_more, string_ends, escape_begins, escape_more, escape_ends, space_in_bytes, first_digit, space_in_half, second_digit, bytes_end, Closes, closes_between, closes_word, closes}
 use Rattle.plist_reader.proofs.Scalars.{AreScalars, front-scalars}

@@ -17,10 +17,10 @@ use Rattle.plist_reader.specs.declared.reader.Phase.TheVariants.{Value, Item, It
 use Rattle.plist_reader.specs.declared.reader.Token.{Token}
 use Rattle.plist_reader.specs.declared.reader.Open.{Open}
 use Rattle.plist_reader.specs.declared.reader.Open.TheVariants.{Items, Pairs}
-use Rattle.plist_reader.specs.Tree.{text_of}
+use Rattle.plist_reader.specs.Tree.{text_of, text_at}
 use Rattle.plist_reader.specs.Keys.{is_among}
 use Rattle.plist_reader.specs.Grammar.{node, width}
-use Rattle.plist_reader.specs.Sources.{text_at, AreNew, IsDictionary, IsDictionaryIn}
+use Rattle.plist_reader.specs.Sources.{AreNew, IsDictionary, IsDictionaryIn}
 use Rattle.plist_reader.specs.Reading.{start, run}
 use Rattle.plist_reader.proofs.GivenTokens.{ready, in_token, settled, IsAwaiting}
 use Rattle.plist_reader.proofs.Moves.{TextEnds, as_value, as_key, Moves, space_between, string_begins, word_begins, bytes_begin, list_begins, dictionary_begins, comma, equals, semicolon, list_ends, dictionary_ends, word_more, word_ends, string_more, string_ends, escape_begins, escape_more, escape_ends, space_in_bytes, first_digit, space_in_half, second_digit, bytes_end, Closes, closes_between, closes_word}

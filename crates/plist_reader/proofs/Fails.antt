@@ -19,7 +19,9 @@ use Rattle.plist_reader.specs.declared.escape.Escaped.TheVariants.{More, Whole, 
 use Rattle.plist_reader.specs.Characters.{is_space, is_word, hex_value, byte_of}
 use Rattle.plist_reader.specs.Escapes.{escape_next}
 use Rattle.plist_reader.specs.Keys.{is_among}
-use Rattle.plist_reader.specs.Reading.{refusal, ◌>>=◌, is_bracket, is_end, max_depth, unexpected, unexpected_rule, key_ended, text_ended, text_begun, bracket_opened, value_begun, list_closed, dictionary_closed, awaited, between, in_word, in_quoted, after_escape, after_hex, after_half, in_bytes, in_half, step_in, step}
+use Rattle.plist_reader.specs.Refusals.{refusal}
+use Rattle.refusal_codes.specs.Gives.{◌>>=◌}
+use Rattle.plist_reader.specs.Reading.{is_bracket, is_end, max_depth, unexpected, unexpected_rule, key_ended, text_ended, text_begun, bracket_opened, value_begun, list_closed, dictionary_closed, awaited, between, in_word, in_quoted, after_escape, after_hex, after_half, in_bytes, in_half, step_in, step}
 use Rattle.plist_reader.proofs.GivenTokens.{ready, in_token, CanBegin, IsAwaiting}
 use Rattle.plist_reader.proofs.SpelledSteps.{Agrees, GoodIn, Good}
 use Rattle.plist_reader.proofs.Moves.{TextEnds, as_value, as_key, text_ends}

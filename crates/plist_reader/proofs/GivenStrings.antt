@@ -15,7 +15,8 @@ use Rattle.plist_reader.specs.declared.reader.Token.TheVariants.{Between, Word, 
 use Rattle.plist_reader.specs.declared.reader.Open.{Open}
 use Rattle.plist_reader.specs.declared.escape.Escape.TheVariants.{Begun}
 use Rattle.plist_reader.specs.Characters.{is_space, is_word, hex_value, byte_of}
-use Rattle.plist_reader.specs.Reading.{◌>>=◌, value_ended, text_ended, text_begun, value_begun, between, in_word, in_quoted, in_bytes, in_half, step, whole, finish, run}
+use Rattle.refusal_codes.specs.Gives.{◌>>=◌}
+use Rattle.plist_reader.specs.Reading.{value_ended, text_ended, text_begun, value_begun, between, in_word, in_quoted, in_bytes, in_half, step, whole, finish, run}
 use Rattle.plist_reader.specs.Grammar.{node, width, AreSpaces, IsQuoted, no_more, plain, escaped, IsText, IsHex, no_digits, space, digits}
 use Rattle.plist_reader.proofs.RunLemmas.{run_step}
 use Rattle.plist_reader.proofs.GivenTokens.{ready, in_token, settled, settled_any, settled-between, run_same, width-append, unlike, run-word, CanBegin, IsAwaiting, begin-from_awaiting}

@@ -17,7 +17,8 @@ use Rattle.plist_reader.specs.declared.reader.Open.{Open}
 use Rattle.plist_reader.specs.declared.reader.Open.TheVariants.{Items, Pairs}
 use Rattle.plist_reader.specs.Characters.{is_space, is_word}
 use Rattle.plist_reader.specs.Keys.{is_among}
-use Rattle.plist_reader.specs.Reading.{◌>>=◌, start, value_ended, key_ended, text_ended, value_begun, bracket_opened, list_closed, dictionary_closed, between, step, whole, finish, run, read_of}
+use Rattle.refusal_codes.specs.Gives.{◌>>=◌}
+use Rattle.plist_reader.specs.Reading.{start, value_ended, key_ended, text_ended, value_begun, bracket_opened, list_closed, dictionary_closed, between, step, whole, finish, run, read_of}
 use Rattle.plist_reader.specs.Grammar as grammar
 use Rattle.plist_reader.specs.Grammar.{node, width, AreSpaces, IsText, IsTail, IsItem, IsEntry, AreNone, Spells, SpellItems, SpellEntries, inner_of, own_of, items_nodes, items_numbers, entries_nodes, entries_numbers, tree_of, IsTextOf, HasTree}
 use Rattle.plist_reader.proofs.RunLemmas.{run_step, read_of-text}

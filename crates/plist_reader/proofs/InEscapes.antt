@@ -17,8 +17,9 @@ use Rattle.plist_reader.specs.declared.escape.Escaped.{Escaped}
 use Rattle.plist_reader.specs.declared.escape.Escaped.TheVariants.{More, Whole, Wrong}
 use Rattle.plist_reader.specs.Escapes.{escape_next}
 use Rattle.plist_reader.specs.Grammar.{Value, width, tree_of, IsQuoted, IsTextOf}
-use Rattle.plist_reader.specs.Refusals.{IsInEscape, NotInEscape}
-use Rattle.plist_reader.specs.Reading.{refusal, ◌>>=◌, start, after_escape, step, finish, run}
+use Rattle.plist_reader.specs.Refusals.{IsInEscape, NotInEscape, refusal}
+use Rattle.refusal_codes.specs.Gives.{◌>>=◌}
+use Rattle.plist_reader.specs.Reading.{start, after_escape, step, finish, run}
 use Rattle.plist_reader.proofs.RunLemmas.{run_step}
 use Rattle.plist_reader.proofs.Scalars.{AreScalars, front-scalars}
 use Rattle.plist_reader.proofs.GivenTokens.{in_token, run_same, width-append}

@@ -24,7 +24,8 @@ use Rattle.plist_reader.specs.Characters.{is_space, is_word, hex_value, byte_of}
 use Rattle.plist_reader.specs.Escapes.{escape_next}
 use Rattle.plist_reader.specs.Keys.{is_among}
 use Rattle.plist_reader.specs.Grammar.{node}
-use Rattle.plist_reader.specs.Reading.{is_bracket, ◌>>=◌, value_ended, key_ended, text_ended, text_begun, bracket_opened, value_begun, list_closed, dictionary_closed, awaited, between, in_word, in_quoted, after_escape, after_hex, after_half, in_bytes, in_half, step_in, step, whole, finish_in, finish}
+use Rattle.refusal_codes.specs.Gives.{◌>>=◌}
+use Rattle.plist_reader.specs.Reading.{is_bracket, value_ended, key_ended, text_ended, text_begun, bracket_opened, value_begun, list_closed, dictionary_closed, awaited, between, in_word, in_quoted, after_escape, after_hex, after_half, in_bytes, in_half, step_in, step, whole, finish_in, finish}
 use Rattle.plist_reader.proofs.GivenTokens.{ready, in_token, settled, settled_any, word-ascii, CanBegin, IsAwaiting, begin-from_awaiting}
 use Rattle.plist_reader.proofs.GivenStrings.{text-ended}
 use Rattle.plist_reader.proofs.GivenTexts.{opened, key_end, list_end, dictionary_end}

@@ -11,8 +11,8 @@ use Rattle.refusal_codes.specs.declared.rule.Rule.TheVariants.{UnexpectedEnd}
 use Rattle.plist_reader.specs.declared.tree.Tree.{Tree}
 use Rattle.plist_reader.specs.declared.reader.Reader.{Reader}
 use Rattle.plist_reader.specs.Grammar.{width, HasTree}
-use Rattle.plist_reader.specs.Refusals.{CanGoOn, IsExplained, bad_escape, twice, too_deep, trailing, unexpected, IsReason, IsRefusal}
-use Rattle.plist_reader.specs.Reading.{refusal, start, step, finish, run, read_of}
+use Rattle.plist_reader.specs.Refusals.{CanGoOn, IsExplained, bad_escape, twice, too_deep, trailing, unexpected, IsReason, IsRefusal, refusal}
+use Rattle.plist_reader.specs.Reading.{start, step, finish, run, read_of}
 use Rattle.plist_reader.proofs.RunLemmas.{read_of-text, read_of-bad}
 use Rattle.plist_reader.proofs.Scalars.{AreScalars, all-parts, source-scalars}
 use Rattle.plist_reader.proofs.GivenTexts.{given}

@@ -7,7 +7,8 @@ use Rattle.plist_reader.specs.declared.tree.Tree.{Tree}
 use Rattle.plist_reader.specs.declared.reader.Reader.{Reader}
 use Rattle.plist_reader.specs.Grammar.{Value, width, IsTextOf, tree_of}
 use Rattle.plist_reader.specs.Refusals.{CanGoOn, IsWhole}
-use Rattle.plist_reader.specs.Reading.{◌>>=◌, start, step, finish, run}
+use Rattle.refusal_codes.specs.Gives.{◌>>=◌}
+use Rattle.plist_reader.specs.Reading.{start, step, finish, run}
 use Rattle.plist_reader.proofs.RunLemmas.{run_step}
 use Rattle.plist_reader.proofs.GivenTokens.{run_same, width-append}
 use Rattle.plist_reader.proofs.GivenTexts.{run-text_of}

@@ -19,11 +19,12 @@ use Rattle.plist_reader.specs.declared.reader.Open.{Open}
 use Rattle.plist_reader.specs.declared.reader.Open.TheVariants.{Items, Pairs}
 use Rattle.plist_reader.specs.declared.escape.Escape.{Escape as EscapeState}
 use Rattle.plist_reader.specs.Grammar.{node, width}
-use Rattle.plist_reader.specs.Refusals.{EndsText, HasText, IsWhole, IsDeep, IsBracket, IsTooDeep, IsInEscape, IsExplained, bad_escape, twice, too_deep, trailing, unexpected, IsReason, StopsIn, IsErrorOf}
+use Rattle.plist_reader.specs.Refusals.{EndsText, HasText, IsWhole, IsDeep, IsBracket, IsTooDeep, IsInEscape, IsExplained, bad_escape, twice, too_deep, trailing, unexpected, IsReason, StopsIn, IsErrorOf, refusal}
 use Rattle.refusal_codes.specs.declared.errors.ReadError.{ReadError}
 use Rattle.refusal_codes.specs.declared.errors.ReadError.TheVariants as read_errors
 use Rattle.refusal_codes.specs.Gives.{Gives}
-use Rattle.plist_reader.specs.Reading.{refusal, ◌>>=◌, start, is_bracket, is_end, text_ended, step, whole_in, whole, finish_in, finish, run, read_of}
+use Rattle.refusal_codes.specs.Gives.{◌>>=◌}
+use Rattle.plist_reader.specs.Reading.{start, is_bracket, is_end, text_ended, step, whole_in, whole, finish_in, finish, run, read_of}
 use Rattle.plist_reader.proofs.RunLemmas.{read_of-text}
 use Rattle.plist_reader.proofs.Scalars.{AreScalars, source-scalars}
 use Rattle.plist_reader.proofs.GivenTokens.{width-append, ready, in_token, IsAwaiting}

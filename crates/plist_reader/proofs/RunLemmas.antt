@@ -16,7 +16,9 @@ use Rattle.std.proofs.lemmas.Str.{is_utf8-from_IsUtf8, IsUtf8-from_is_utf8}
 use Rattle.std.specs.Str.{IsUtf8, is_utf8, chars}
 use Rattle.std.specs.Str.Lossy.{utf8_valid_len}
 use Rattle.refusal_codes.specs.declared.rule.Rule.TheVariants.{NotUtf8}
-use Rattle.plist_reader.specs.Reading.{◌>>=◌, step, run, read_of, start, refusal}
+use Rattle.plist_reader.specs.Refusals.{refusal}
+use Rattle.refusal_codes.specs.Gives.{◌>>=◌}
+use Rattle.plist_reader.specs.Reading.{step, run, read_of, start}
 
 -- the rest of a list begins with the element at the place
 pub rest_is : (cs : List ℕ) (n c : ℕ) → (n < length cs) × (c ≡ get_or cs n c) → drop n cs ≡ c ∷ drop (n + 1) cs

@@ -28,7 +28,9 @@ use Rattle.plist_reader.specs.Tree.{IsTree, IsValue, source_limit}
 use Rattle.plist_reader.specs.Characters.{is_space, is_word, octal_value, hex_value, byte_of}
 use Rattle.plist_reader.specs.Escapes.{character_of, escape_begun, escape_unit, escape_digit, with_hex, with_octal, with_last_octal, escape_next}
 use Rattle.plist_reader.specs.Keys.{is_among}
-use Rattle.plist_reader.specs.Reading.{refusal, ◌>>=◌, start, is_key, is_bracket, max_depth, key_ended_in, key_ended, text_ended, text_begun, list_opened, dictionary_opened, bracket_opened, value_begun, list_closed_in, list_closed, dictionary_closed_in, dictionary_closed, awaited, between, in_word, in_quoted, after_escape, after_half, after_hex, in_bytes, in_half, step_in, step, whole_in, whole, finish_in, finish, run, read_of}
+use Rattle.plist_reader.specs.Refusals.{refusal}
+use Rattle.refusal_codes.specs.Gives.{◌>>=◌}
+use Rattle.plist_reader.specs.Reading.{start, is_key, is_bracket, max_depth, key_ended_in, key_ended, text_ended, text_begun, list_opened, dictionary_opened, bracket_opened, value_begun, list_closed_in, list_closed, dictionary_closed_in, dictionary_closed, awaited, between, in_word, in_quoted, after_escape, after_half, after_hex, in_bytes, in_half, step_in, step, whole_in, whole, finish_in, finish, run, read_of}
 use Rattle.plist_reader.proofs.SoundLemmas.{token_weight, escape_weight, text_weight, IsValueBy, IsOpenBy, IsPhaseBy, Inside, Sound, open_more, Inside-later, Sound-later, nodes_more, value_ended-sound}
 
 -- ---- choices

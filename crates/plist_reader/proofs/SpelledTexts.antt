@@ -30,7 +30,9 @@ use Rattle.plist_reader.specs.Escapes.{escape_next}
 use Rattle.plist_reader.specs.Keys.{is_among}
 use Rattle.plist_reader.specs.Grammar as grammar
 use Rattle.plist_reader.specs.Grammar.{Spells, inner_of, own_of, node, width, AreSpaces, IsQuoted, no_more, plain, escaped, IsHex, no_digits, space, digits, IsEscape, IsTextOf, HasTree, tree_of}
-use Rattle.plist_reader.specs.Reading.{refusal, ◌>>=◌, start, value_ended, key_ended, text_ended, between, in_word, in_quoted, after_escape, after_hex, after_half, in_bytes, in_half, step_in, step, whole_in, whole, finish_in, finish, run, read_of}
+use Rattle.plist_reader.specs.Refusals.{refusal}
+use Rattle.refusal_codes.specs.Gives.{◌>>=◌}
+use Rattle.plist_reader.specs.Reading.{start, value_ended, key_ended, text_ended, between, in_word, in_quoted, after_escape, after_hex, after_half, in_bytes, in_half, step_in, step, whole_in, whole, finish_in, finish, run, read_of}
 use Rattle.plist_reader.proofs.GivenTokens.{ready, in_token, settled, settled_any, settled-between, width-append, word-ascii, CanBegin, IsAwaiting}
 use Rattle.plist_reader.proofs.GivenStrings.{text-ended}
 use Rattle.plist_reader.proofs.Scalars.{AreScalars, source-scalars}

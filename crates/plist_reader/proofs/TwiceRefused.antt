@@ -16,11 +16,11 @@ use Rattle.plist_reader.specs.declared.reader.Open.{Open}
 use Rattle.plist_reader.specs.declared.reader.Open.TheVariants.{Pairs}
 use Rattle.plist_reader.specs.Characters.{is_word}
 use Rattle.plist_reader.specs.Keys.{is_among}
-use Rattle.plist_reader.specs.Tree.{spells}
-use Rattle.plist_reader.specs.Sources.{text_at}
+use Rattle.plist_reader.specs.Tree.{spells, text_at}
 use Rattle.plist_reader.specs.Grammar.{width, tree_of, IsWord, IsQuoted}
-use Rattle.plist_reader.specs.Refusals.{EndsText, IsTwice, NotTwice}
-use Rattle.plist_reader.specs.Reading.{refusal, ◌>>=◌, start, key_ended, text_ended, in_word, in_quoted, step, run}
+use Rattle.plist_reader.specs.Refusals.{EndsText, IsTwice, NotTwice, refusal}
+use Rattle.refusal_codes.specs.Gives.{◌>>=◌}
+use Rattle.plist_reader.specs.Reading.{start, key_ended, text_ended, in_word, in_quoted, step, run}
 use Rattle.plist_reader.proofs.RunLemmas.{run_step}
 use Rattle.plist_reader.proofs.Scalars.{text_of-scalars}
 use Rattle.plist_reader.proofs.GivenTokens.{ready, in_token, run-word, CanBegin}

@@ -9,6 +9,11 @@
 --     list       = ( [ value { , value } [ , ] ] )
 --     dictionary = { { key = value ; } }              the keys of a dictionary differ
 --     key        = word | string
+--     word       = one or more visible characters of ASCII but { } ( ) = ; , " ' < > \
+--     escape     = \" | \\ | \n | \r | \t | \ and three octal digits up to 177 | \U and four digits
+--     digit      = one of 0 to 9, a to f and A to F
+--
+-- Behind \U and a high surrogate stands \U and a low one, and the two are one character.
 --
 -- Spaces may stand between any two tokens. At most 64 brackets are open at once.
 use Rattle.std.specs.Prelude.{◌≡◌, ℕ, ◌+◌, ◌-◌, ◌*◌, ◌<◌, ◌≤◌, true, false, List, [], ◌∷◌, ◌++◌, length, Some, ◌⊎◌, encode_utf8}

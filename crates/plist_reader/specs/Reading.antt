@@ -9,7 +9,7 @@ use Rattle.refusal_codes.specs.declared.refusal.Refusal.{Refusal}
 use Rattle.refusal_codes.specs.declared.errors.ReadError.{ReadError}
 use Rattle.refusal_codes.specs.declared.rule.Rule.{Rule}
 use Rattle.refusal_codes.specs.declared.rule.Rule.TheVariants.{NotUtf8, UnexpectedByte, UnexpectedEnd, BadEscape, DuplicateKey, TooDeep, TrailingText}
-use Rattle.refusal_codes.specs.Gives.{RefusesRead}
+use Rattle.refusal_codes.specs.Gives.{RefusesRead, ◌>>=◌}
 use Rattle.plist_reader.specs.declared.tree.Tree.{Tree}
 use Rattle.plist_reader.specs.declared.tree.TreeValue.{TreeValue}
 use Rattle.plist_reader.specs.declared.tree.TreeValue.TheVariants as tree
@@ -25,16 +25,8 @@ use Rattle.plist_reader.specs.declared.escape.Escaped.{Escaped}
 use Rattle.plist_reader.specs.declared.escape.Escaped.TheVariants.{More, Whole, Wrong}
 use Rattle.plist_reader.specs.Characters.{is_space, is_word, hex_value, byte_of}
 use Rattle.plist_reader.specs.Escapes.{escape_next}
+use Rattle.plist_reader.specs.Refusals.{refusal}
 use Rattle.plist_reader.specs.Keys.{is_among}
-
--- the refusal of a property list; it is found by the first of all jobs
-abbrev pub refusal : Rule → ℕ → Refusal
-refusal rule place = record { stratum = 0; kind = 0; name = []; rule = rule; place = place }
-
-infixl 10 ◌>>=◌
-abbrev pub ◌>>=◌ : {A B : Type 0} → Result A Refusal → (A → Result B Refusal) → Result B Refusal
-(Ok x) >>= f = f x
-(Err e) >>= f = Err e
 
 -- what a call made of a reader is what the definition gives, unless it refuses or memory ran out
 abbrev pub Changes : {X : Type 0} → Result X ReadError → Reader → Result Reader Refusal → Type 0

@@ -1,5 +1,5 @@
--- Why a source without a tree is refused, over whole texts: reading stops behind the first characters with which some
--- text with a tree can still begin, or at the end. Fontc's own.
+-- Why a source without a tree is refused, over whole texts: reading stops behind the longest front with which some text with
+-- a tree begins. Fontc's own.
 use Rattle.std.specs.Prelude.{◌≡◌, ℕ, ◌+◌, ◌<◌, Bool, true, false, ◌&&◌, ◌==◌, nat_lt, if◌then◌else◌, List, [], ◌∷◌, ◌++◌, length, Some, ◌⊎◌}
 use Rattle.std.specs.List.{list_any}
 use Rattle.std.specs.Str.{IsUtf8, chars}
@@ -7,6 +7,7 @@ use Rattle.std.specs.Str.Lossy.{utf8_valid_len}
 use Rattle.refusal_codes.specs.declared.refusal.Refusal.{Refusal}
 use Rattle.refusal_codes.specs.declared.errors.ReadError.{ReadError}
 use Rattle.refusal_codes.specs.declared.errors.ReadError.TheVariants as read_errors
+use Rattle.refusal_codes.specs.declared.rule.Rule.{Rule}
 use Rattle.refusal_codes.specs.declared.rule.Rule.TheVariants.{NotUtf8, UnexpectedByte, UnexpectedEnd, BadEscape, DuplicateKey, TooDeep, TrailingText}
 use Rattle.plist_reader.specs.declared.tree.Tree.{Tree}
 use Rattle.plist_reader.specs.declared.tree.TreeNode.{TreeNode}
@@ -15,7 +16,10 @@ use Rattle.plist_reader.specs.declared.tree.TreeValue.TheVariants as tree
 use Rattle.plist_reader.specs.Grammar.{Value, node, width, IsWord, IsEscape, IsQuoted, IsTextOf, tree_of}
 use Rattle.plist_reader.specs.Characters.{is_word}
 use Rattle.plist_reader.specs.Tree.{node_at, is_key}
-use Rattle.plist_reader.specs.Reading.{refusal}
+
+-- the refusal of a property list; it is found by the first of all jobs
+abbrev pub refusal : Rule → ℕ → Refusal
+refusal rule place = record { stratum = 0; kind = 0; name = []; rule = rule; place = place }
 
 -- some text with a tree begins with these characters
 abbrev pub CanGoOn : List ℕ → Type 0
@@ -141,6 +145,7 @@ abbrev pub IsReason : List ℕ → List ℕ → Refusal → Type 0
 IsReason front [] r = CanGoOn front × (¬ (IsWhole front)) × (r ≡ refusal UnexpectedEnd (width front))
 IsReason front (c ∷ cs) r = IsLongest front c × IsExplained front c r
 
+-- a text is a front and what is left behind it, and this is why reading stops between them
 pub record StopsIn (cs : List ℕ) (r : Refusal) : Type 0 where
   pub front : List ℕ
   pub rest : List ℕ
@@ -151,6 +156,7 @@ pub record StopsIn (cs : List ℕ) (r : Refusal) : Type 0 where
 abbrev pub IsRefusal : List ℕ → Refusal → Type 0
 IsRefusal source r = ((¬ (IsUtf8 source)) × (r ≡ refusal NotUtf8 (utf8_valid_len source))) ⊎ (IsUtf8 source × StopsIn (chars source) r)
 
+-- an error is a refusal of the source, or want of memory
 abbrev pub IsErrorOf : List ℕ → ReadError → Type 0
 IsErrorOf source (read_errors.Refused r) = IsRefusal source r
 IsErrorOf source read_errors.NoMemory = Unit {0}

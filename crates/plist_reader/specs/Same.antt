@@ -33,7 +33,7 @@ same_value (tree.Pairs a) (tree.Pairs b) = pointwise same_pair a b
 abbrev pub same_node : TreeNode → TreeNode → Bool
 same_node m n = m.place == n.place && (m.end == n.end && same_value m.value n.value)
 
--- ---- the test is true exactly of a node and itself
+-- ---- the test is true exactly where two nodes are one: proved here, since the laws of `==` in the code may cite specs alone
 
 abbrev kind_of : TreeValue → ℕ
 kind_of (tree.Text a) = 0
@@ -41,11 +41,11 @@ kind_of (tree.Bytes a) = 1
 kind_of (tree.Items a) = 2
 kind_of (tree.Pairs a) = 3
 
-abbrev bytes_of : TreeValue → List ℕ
-bytes_of (tree.Text a) = a
-bytes_of (tree.Bytes a) = a
-bytes_of (tree.Items a) = a
-bytes_of (tree.Pairs a) = []
+abbrev numbers_of : TreeValue → List ℕ
+numbers_of (tree.Text a) = a
+numbers_of (tree.Bytes a) = a
+numbers_of (tree.Items a) = a
+numbers_of (tree.Pairs a) = []
 
 abbrev entries_of : TreeValue → List (ℕ × ℕ)
 entries_of (tree.Text a) = []
@@ -61,17 +61,17 @@ same_pair-decides p q = let d = Decides-and (p.0 == q.0) (p.1 == q.1) (unsigned_
     (λ e. let h = d.0 e in λ i. (h.0 i, h.1 i), λ e. d.1 (ap (λ x. x.0) e, ap (λ x. x.1) e))
 
 same_value-decides : (a b : TreeValue) → Decides (same_value a b) (a ≡ b)
-same_value-decides (tree.Text a) (tree.Text b) = let d = bytes_decides a b in (λ e. ap (λ x. tree.Text x) (d.0 e), λ e. d.1 (ap bytes_of e))
+same_value-decides (tree.Text a) (tree.Text b) = let d = bytes_decides a b in (λ e. ap (λ x. tree.Text x) (d.0 e), λ e. d.1 (ap numbers_of e))
 same_value-decides (tree.Text a) (tree.Bytes b) = other_kind (tree.Text a) (tree.Bytes b) (λ e. omega (arith, e))
 same_value-decides (tree.Text a) (tree.Items b) = other_kind (tree.Text a) (tree.Items b) (λ e. omega (arith, e))
 same_value-decides (tree.Text a) (tree.Pairs b) = other_kind (tree.Text a) (tree.Pairs b) (λ e. omega (arith, e))
 same_value-decides (tree.Bytes a) (tree.Text b) = other_kind (tree.Bytes a) (tree.Text b) (λ e. omega (arith, e))
-same_value-decides (tree.Bytes a) (tree.Bytes b) = let d = bytes_decides a b in (λ e. ap (λ x. tree.Bytes x) (d.0 e), λ e. d.1 (ap bytes_of e))
+same_value-decides (tree.Bytes a) (tree.Bytes b) = let d = bytes_decides a b in (λ e. ap (λ x. tree.Bytes x) (d.0 e), λ e. d.1 (ap numbers_of e))
 same_value-decides (tree.Bytes a) (tree.Items b) = other_kind (tree.Bytes a) (tree.Items b) (λ e. omega (arith, e))
 same_value-decides (tree.Bytes a) (tree.Pairs b) = other_kind (tree.Bytes a) (tree.Pairs b) (λ e. omega (arith, e))
 same_value-decides (tree.Items a) (tree.Text b) = other_kind (tree.Items a) (tree.Text b) (λ e. omega (arith, e))
 same_value-decides (tree.Items a) (tree.Bytes b) = other_kind (tree.Items a) (tree.Bytes b) (λ e. omega (arith, e))
-same_value-decides (tree.Items a) (tree.Items b) = let d = bytes_decides a b in (λ e. ap (λ x. tree.Items x) (d.0 e), λ e. d.1 (ap bytes_of e))
+same_value-decides (tree.Items a) (tree.Items b) = let d = bytes_decides a b in (λ e. ap (λ x. tree.Items x) (d.0 e), λ e. d.1 (ap numbers_of e))
 same_value-decides (tree.Items a) (tree.Pairs b) = other_kind (tree.Items a) (tree.Pairs b) (λ e. omega (arith, e))
 same_value-decides (tree.Pairs a) (tree.Text b) = other_kind (tree.Pairs a) (tree.Text b) (λ e. omega (arith, e))
 same_value-decides (tree.Pairs a) (tree.Bytes b) = other_kind (tree.Pairs a) (tree.Bytes b) (λ e. omega (arith, e))

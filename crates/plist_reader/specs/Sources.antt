@@ -1,13 +1,13 @@
 -- What holds of each tree of a source: where its values stand, which bytes its texts are, how many brackets are open at a
--- place, that the keys of a dictionary differ, and that each leads to its value. Fontc's own; all of it follows from
+-- place, that the keys of a dictionary differ, and what is found under a key. Fontc's own; all of it follows from
 -- Grammar, by the laws `trees_stand_in_their_sources` and `keys_lead_to_their_values`.
-use Rattle.std.specs.Prelude.{◌≡◌, ℕ, ◌+◌, ◌<◌, ◌≤◌, false, List, [], ◌∷◌, ◌++◌, length, map, Option, Some, option_and_then, slice_get, All}
+use Rattle.std.specs.Prelude.{◌≡◌, ℕ, ◌+◌, ◌<◌, ◌≤◌, false, List, [], ◌∷◌, ◌++◌, ◌↔◌, length, map, Some, All}
 use Rattle.std.specs.Str.{chars}
 use Rattle.plist_reader.specs.declared.tree.Tree.{Tree}
 use Rattle.plist_reader.specs.declared.tree.TreeNode.{TreeNode}
 use Rattle.plist_reader.specs.declared.tree.TreeValue.{TreeValue}
 use Rattle.plist_reader.specs.declared.tree.TreeValue.TheVariants as tree
-use Rattle.plist_reader.specs.Tree.{text_of, node_at, find_in}
+use Rattle.plist_reader.specs.Tree.{node_at, text_at, find_in}
 use Rattle.plist_reader.specs.Keys.{is_among}
 use Rattle.plist_reader.specs.Grammar.{node, width, IsText}
 use Rattle.plist_reader.specs.Refusals.{open_at}
@@ -34,10 +34,6 @@ pub record StandsIn (cs : List ℕ) (node : TreeNode) : Type 0 where
   pub inside : node.end ≤ width cs
   pub says : SaysText cs node.place node.end node.value
 
--- the bytes of the text with this number
-abbrev pub text_at : List TreeNode → ℕ → Option (List ℕ)
-text_at nodes n = option_and_then (λ node. text_of node.value) (slice_get nodes n)
-
 -- each of these is none of those before it
 abbrev pub AreNew : List (List ℕ) → List (List ℕ) → Type 0
 AreNew before [] = Unit {0}
@@ -55,12 +51,19 @@ IsDictionaryIn nodes (tree.Bytes bytes) = Unit {0}
 IsDictionaryIn nodes (tree.Items items) = Unit {0}
 IsDictionaryIn nodes (tree.Pairs pairs) = IsDictionary nodes pairs
 
--- what is found in a dictionary under the key of one of its pairs is the value of that pair
+-- a dictionary of a tree has a pair with this key and this value
+pub record HasPair (t : Tree) (dictionary : ℕ) (key : List ℕ) (value : ℕ) : Type 0 where
+  pub place : ℕ
+  pub end : ℕ
+  pub earlier : List (ℕ × ℕ)
+  pub number : ℕ
+  pub later : List (ℕ × ℕ)
+  pub dictionary_is : node_at t dictionary ≡ Some (node place end (tree.Pairs (earlier ++ (number, value) ∷ later)))
+  pub key_is : text_at t.nodes number ≡ Some key
+
+-- a value is found under a key exactly where the dictionary has a pair of the two
 abbrev pub FindsPairs : Tree → Type 0
-FindsPairs t = (n place end : ℕ) (earlier : List (ℕ × ℕ)) (number value : ℕ) (later : List (ℕ × ℕ)) (key : List ℕ)
-    → node_at t n ≡ Some (node place end (tree.Pairs (earlier ++ (number, value) ∷ later)))
-    → text_at t.nodes number ≡ Some key
-    → find_in t n key ≡ Some value
+FindsPairs t = (dictionary value : ℕ) (key : List ℕ) → (find_in t dictionary key ≡ Some value) ↔ HasPair t dictionary key value
 
 -- what holds of each tree of a source
 pub record StandsInSource (source : List ℕ) (t : Tree) : Type 0 where

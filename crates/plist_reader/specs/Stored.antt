@@ -12,20 +12,20 @@ use Rattle.plist_reader.specs.declared.pools.Pools.{Pools}
 use Rattle.plist_reader.specs.declared.pools.Span.{Span}
 use Rattle.plist_reader.specs.declared.pools.Content.{Content}
 use Rattle.plist_reader.specs.declared.pools.Content.TheVariants as content
-use Rattle.plist_reader.specs.declared.nodes.Entry.{Entry}
+use Rattle.plist_reader.specs.declared.nodes.StoredNode.{StoredNode}
 
 -- the part of a pool
 abbrev pub part : {T : Type 0} → List T → Span → List T
 part pool span = slice_range pool span.start span.end
 
--- the value of which these parts are stored
+-- the value that is stored so
 abbrev pub value_of : Pools → Content → TreeValue
 value_of pools (content.Text span) = tree.Text (part pools.bytes.items span)
 value_of pools (content.Bytes span) = tree.Bytes (part pools.bytes.items span)
 value_of pools (content.Items span) = tree.Items (part pools.items.items span)
 value_of pools (content.Pairs span) = tree.Pairs (part pools.pairs.items span)
 
-abbrev pub node_of : Pools → Entry → TreeNode
+abbrev pub node_of : Pools → StoredNode → TreeNode
 node_of pools entry = record { place = entry.place; end = entry.end; value = value_of pools entry.content }
 
 -- a part lies inside its pool
@@ -40,13 +40,13 @@ IsIn pools (content.Items span) = IsPart pools.items.items span
 IsIn pools (content.Pairs span) = IsPart pools.pairs.items span
 
 -- a pool has only got more at its end
-abbrev pub GoesOn : {T : Type 0} → List T → List T → Type 0
-GoesOn {T} old new = (more : List T) × (new ≡ old ++ more)
+abbrev pub Grows : {T : Type 0} → List T → List T → Type 0
+Grows {T} old new = (more : List T) × (new ≡ old ++ more)
 
 pub record Extends (old new : Pools) : Type 0 where
-  pub bytes : GoesOn old.bytes.items new.bytes.items
-  pub items : GoesOn old.items.items new.items.items
-  pub pairs : GoesOn old.pairs.items new.pairs.items
+  pub bytes : Grows old.bytes.items new.bytes.items
+  pub items : Grows old.items.items new.items.items
+  pub pairs : Grows old.pairs.items new.pairs.items
 
 -- what is borrowed of a tree, as a value and as a node
 abbrev pub seen : ValueRef → TreeValue

@@ -41,9 +41,13 @@ abbrev pub spells : List ℕ → Option (List ℕ) → Bool
 spells key None = false
 spells key (Some text) = pointwise nat_eq text key
 
+-- the bytes of the text with this number
+abbrev pub text_at : List TreeNode → ℕ → Option (List ℕ)
+text_at nodes n = option_and_then (λ node. text_of node.value) (slice_get nodes n)
+
 -- whether the value with this number is a text with these bytes
 abbrev pub is_key : Tree → List ℕ → ℕ → Bool
-is_key t key n = spells key (option_and_then (λ node. text_of node.value) (node_at t n))
+is_key t key n = spells key (text_at t.nodes n)
 
 -- the value of the first pair with this key
 abbrev pub value_with : Tree → List ℕ → List (ℕ × ℕ) → Option ℕ
@@ -58,7 +62,7 @@ value_in t key (Some pairs) = value_with t key pairs
 abbrev pub find_in : Tree → ℕ → List ℕ → Option ℕ
 find_in t n key = value_in t key (option_and_then (λ node. pairs_of node.value) (node_at t n))
 
--- each value inside is of the tree, and there are not too many
+-- each number inside is that of a value of the tree, and no value holds more bytes, values or pairs than a source may have bytes
 abbrev pub IsValue : ℕ → TreeValue → Type 0
 IsValue count (tree.Text bytes) = length bytes ≤ source_limit
 IsValue count (tree.Bytes bytes) = length bytes ≤ source_limit

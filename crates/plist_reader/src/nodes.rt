@@ -12,7 +12,7 @@ use std::marker::Model;
 
 /// A value as it is stored: where it stands in the source, and where what it holds lies.
 #[derive(Clone, Copy, Debug)]
-struct Entry {
+struct StoredNode {
     place: u32,
     end: u32,
     content: Content,
@@ -22,7 +22,7 @@ struct Entry {
 /// them as a list of nodes.
 #[derive(Debug, Drop)]
 pub struct Nodes {
-    entries: Vec<Entry>,
+    stored: Vec<StoredNode>,
     pools: Pools,
 }
 
@@ -35,18 +35,18 @@ impl Model for Nodes {
 
     ghost use Rattle.plist_reader.specs.Stored.{node_of, IsIn};
 
-    ghost view = { λ s. map (node_of s.pools) s.entries.items };
+    ghost view = { λ s. map (node_of s.pools) s.stored.items };
 
-    ghost invariant = { λ s. All (λ entry. IsIn s.pools entry.content) s.entries.items };
+    ghost invariant = { λ s. All (λ node. IsIn s.pools node.content) s.stored.items };
 }
 
 impl Nodes {
     /// No values. It takes no memory.
-    pub fn new(alloc: Global) -> Self
+    pub(crate) fn new(alloc: Global) -> Self
         ensures { result ≡ [] }
     {
         Nodes {
-            entries: Vec::new(alloc),
+            stored: Vec::new(alloc),
             pools: Pools::new(alloc),
         }
     }
@@ -55,17 +55,17 @@ impl Nodes {
     pub fn len(&self) -> usize
         ensures { result ≡ length self.now }
     {
-        self.entries.len()
+        self.stored.len()
     }
 
     /// Whether there is no value.
     pub fn is_empty(&self) -> bool
         ensures { result ≡ (length self.now == 0) }
     {
-        self.entries.is_empty()
+        self.stored.is_empty()
     }
 
-    /// The value with this number.
+    /// The value with this number; `None` where no value has it.
     pub fn get(&self, number: u32) -> Option<NodeRef<'_>>
         ensures { option_map seen_node result ≡ slice_get self.now number }
     {
@@ -76,11 +76,11 @@ impl Nodes {
     fn node(&self, index: usize) -> Option<NodeRef<'_>>
         ensures { option_map seen_node result ≡ slice_get self.now index }
     {
-        let entry = self.entries.as_slice().get(index)?;
+        let node = self.stored.as_slice().get(index)?;
         Some(NodeRef {
-            place: u64::from(entry.place),
-            end: u64::from(entry.end),
-            value: self.pools.value(entry.content),
+            place: u64::from(node.place),
+            end: u64::from(node.end),
+            value: self.pools.value(node.content),
         })
     }
 
@@ -90,7 +90,7 @@ impl Nodes {
         ensures err { OnErr result (self.new ≡ self.old) }
     {
         let content = self.pools.store(value)?;
-        self.entries.push(Entry {
+        self.stored.push(StoredNode {
             place,
             end,
             content,

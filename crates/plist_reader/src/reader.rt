@@ -1,7 +1,7 @@
 ghost use Rattle.std.specs.Prelude.{◌≡◌, ◌+◌, ◌<◌, ◌^◌, [], ◌∷◌, ◌++◌, length, if◌then◌else◌, not, nat_lt, IfOk, IfErr, Ok, Err};
 ghost use Rattle.refusal_codes.specs.declared.errors.ReadError.TheVariants as read_errors;
 ghost use Rattle.refusal_codes.specs.Gives.{Gives};
-ghost use Rattle.plist_reader.specs.Reading.{refusal};
+ghost use Rattle.plist_reader.specs.Refusals.{refusal};
 
 use crate::characters::{byte_of, hex_value, is_space, is_word};
 use crate::escape::{Escape, Escaped};

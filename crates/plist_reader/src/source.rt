@@ -2,11 +2,11 @@ ghost use Rattle.std.specs.Prelude.{[], ◌∷◌, ◌++◌, ◌≡◌, ◌≤�
 ghost use Rattle.refusal_codes.specs.Gives.{Gives};
 ghost use Rattle.plist_reader.specs.Tree.{IsTree, source_limit};
 ghost use Rattle.plist_reader.specs.Grammar.{HasTree, IsTextOf, Value, tree_of};
-ghost use Rattle.plist_reader.specs.Refusals.{CanGoOn, IsErrorOf, IsRefusal};
+ghost use Rattle.plist_reader.specs.Refusals.{CanGoOn, IsErrorOf, IsRefusal, refusal};
 ghost use Rattle.refusal_codes.specs.declared.refusal.Refusal.{Refusal};
 ghost use Rattle.plist_reader.specs.Sources.{FindsPairs, StandsInSource};
 ghost use Rattle.plist_reader.specs.declared.tree.Tree.{Tree};
-ghost use Rattle.plist_reader.specs.Reading.{refusal, read_of, run, start};
+ghost use Rattle.plist_reader.specs.Reading.{read_of, run, start};
 ghost use Rattle.std.specs.Char.{IsScalar};
 ghost use Rattle.std.specs.Str.{chars};
 
@@ -19,23 +19,29 @@ use std::str;
 /// Reads a property list, of at most 67,108,864 bytes, in the form in which Glyphs saves its sources. Which texts of that
 /// form are property lists is fontc's own.
 ///
-/// The errors are those of memory, and one refusal for each source that is no property list. Places count its bytes from
-/// 0. A refusal is by one of seven rules:
+/// # Errors
 ///
-/// - `NotUtf8`, at the first byte of the first sequence that is no UTF-8;
+/// `NoMemory` where memory runs out. Each source that is no property list has one refusal, by one of seven rules; its place
+/// counts the source's bytes from 0. What isn't UTF-8 is refused before all else:
+///
+/// - `NotUtf8`, at the first byte of the first sequence that is no UTF-8.
+///
+/// Else reading stops behind the longest beginning of the text with which some property list begins, and the rule is the
+/// first of these that holds there:
+///
 /// - `UnexpectedEnd`, at the length of a text that could go on;
 /// - `BadEscape`, at the backslash of an escape that is none;
 /// - `DuplicateKey`, at a key that its dictionary has already;
 /// - `TooDeep`, at the bracket that would be the sixty-fifth that is open;
 /// - `TrailingText`, at the first character behind the value that is no white space;
-/// - `UnexpectedByte`, at any other character with which no property list goes on.
+/// - `UnexpectedByte`, at any other character.
 pub fn read(alloc: Global, source: &[u8]) -> Result<Tree, ReadError>
     requires { length source.now ≤ source_limit }
     // A refusal is that of bad UTF-8, or is explained at the longest front with which some text with a tree begins.
     ensures refused { IfErr result (IsErrorOf source.now) }
     // What is a refusal of the source is the refusal, unless memory runs out.
     ensures refusals { (r : Refusal) → IsRefusal source.now r → Gives (λ t. t) result (Err r) }
-    // What it answers is what its definition computes.
+    // What it answers is what `read_of` computes of the source.
     ensures exact { Gives (λ t. t) result (read_of source.now) }
     // What is read is spelled so by the grammar.
     ensures found { IfOk result (HasTree source.now) }
@@ -68,7 +74,7 @@ pub fn trees_are_unique()
     ensures { (source : List ℕ) (s t : Tree) → HasTree source s → HasTree source t → s ≡ t }
 {}
 
-/// A source has a tree or a refusal, not both, and no two refusals. Both are what the definition computes.
+/// A source has a tree or a refusal, not both, and no two refusals. Both are what `read_of` computes of it.
 pub fn sources_have_one_answer()
     ensures either { (source : List ℕ) → ((t : Tree) × HasTree source t) ⊎ ((r : Refusal) × IsRefusal source r) }
     ensures not_both { (source : List ℕ) (t : Tree) (r : Refusal) → HasTree source t → ¬ (IsRefusal source r) }
@@ -79,9 +85,8 @@ pub fn sources_have_one_answer()
     ensures refusal_of_computed { (source : List ℕ) (r : Refusal) → read_of source ≡ Err r → IsRefusal source r }
 {}
 
-/// Where the longest front of a text ends with which some text with a tree begins: each shorter front begins one too, so
-/// it ends where none begins with one character more. It may be measured in characters or in bytes, since of the
-/// characters of several bytes either each can follow a front or none. A text with a tree is always that of a source.
+/// A front of a text goes on exactly where some source with a tree begins with it. With a front each shorter one goes on too,
+/// so that one is the longest. Of the characters beyond ASCII, which are of several bytes, each can follow a front or none.
 pub fn fronts_end_where_nothing_goes_on()
     // What the grammar spells is the text of a source.
     ensures texts { (v : Value) (text : List ℕ) → IsTextOf v text → (source : List ℕ) × HasTree source (tree_of v) × (chars source ≡ text) }
@@ -97,7 +102,8 @@ pub fn trees_stand_in_their_sources()
     ensures { (source : List ℕ) (t : Tree) → HasTree source t → StandsInSource source t }
 {}
 
-/// In a dictionary of a source the key of each pair leads to its value: what `Tree::find` gives of the key is the value.
+/// In a dictionary of a source the key of each pair leads to its value, and nothing else is found: what `Tree::find` gives of a key
+/// is a value exactly where the dictionary has a pair of the two.
 pub fn keys_lead_to_their_values()
     ensures { (source : List ℕ) (t : Tree) → HasTree source t → FindsPairs t }
 {}

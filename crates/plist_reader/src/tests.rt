@@ -66,20 +66,22 @@ fn escapes_are_undone_and_hexadecimal_digits_are_bytes(rt: HostRuntime) -> Resul
     assert_eq!(rt; node.end, 32);
     assert!(rt; node.value == ValueRef::Items([0, 1].as_slice()));
     assert!(rt; tree.nodes.get(3).is_none());
+    assert!(rt; !tree.nodes.is_empty());
     Ok(())
 }
 
 #[test]
 fn trees_are_equal_where_their_values_and_places_are(rt: HostRuntime) -> Result<(), Fail> {
-    let tree = read(rt.alloc(), b"{a=(1,<2f>);}")?;
-    assert!(rt; tree == read(rt.alloc(), b"{a=(1,<2F>);}")?);
+    let tree = read(rt.alloc(), b"{a=(1,<0a>);}")?;
+    assert!(rt; tree == read(rt.alloc(), b"{a=(1,<0A>);}")?);
     for other in [
-        b"{a=(1,<2e>);}".as_slice(),
-        b"{b=(1,<2f>);}".as_slice(),
-        b"{a=(1, 2f );}".as_slice(),
-        b"{a=(1,<2f>) ;}".as_slice(),
-        b" {a=(1,<2f>);}".as_slice(),
-        b"{a=(1,1,<2f>);}".as_slice(),
+        b"{a=(1,<0b>);}".as_slice(),
+        b"{a=(1,\"\\n\");}".as_slice(),
+        b"{b=(1,<0a>);}".as_slice(),
+        b"{a=(1, 0a );}".as_slice(),
+        b"{a=(1,<0a>) ;}".as_slice(),
+        b" {a=(1,<0a>);}".as_slice(),
+        b"{a=(1,1,<0a>);}".as_slice(),
     ] {
         assert!(rt; other.len() < 20);
         assert!(rt; tree != read(rt.alloc(), other)?);

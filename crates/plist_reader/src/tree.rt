@@ -7,7 +7,8 @@ ghost use Rattle.plist_reader.specs.Stored.{seen, seen_node};
 use crate::nodes::Nodes;
 use plain_lists::{Sequence, Text};
 
-/// What a value is. Values inside it are named by their numbers in the tree.
+/// What a value is, as contracts see it and as it is put into a tree. Values inside it are named by their numbers in the tree. A
+/// caller borrows a `ValueRef`.
 #[derive(Debug, PartialEq, Eq, Drop)]
 pub enum TreeValue {
     /// A bare word or a quoted string, its escapes undone.
@@ -20,7 +21,7 @@ pub enum TreeValue {
     Pairs(Sequence<(u32, u32)>),
 }
 
-/// A value and where it stands in the source.
+/// A value and where it stands in the source, as contracts see it. A caller borrows a `NodeRef`.
 #[derive(Debug, PartialEq, Eq, Drop)]
 pub struct TreeNode {
     /// The place of its first byte, counted from 0.
@@ -55,7 +56,7 @@ pub struct NodeRef<'t> {
     pub value: ValueRef<'t>,
 }
 
-/// Two are equal where what they show is.
+/// Two are equal where they are of one kind and hold the same.
 impl PartialEq for ValueRef<'_> {
     ghost eq = { on seen same_value };
 
@@ -76,7 +77,7 @@ impl Eq for ValueRef<'_> {
     ghost laws = { on_equiv seen same_value_equiv };
 }
 
-/// Two are equal where what they show is.
+/// Two are equal where their places, their ends and their values are.
 impl PartialEq for NodeRef<'_> {
     ghost eq = { on seen_node same_node };
 
@@ -94,7 +95,7 @@ impl Eq for NodeRef<'_> {
 /// A property list. Its values are numbered in the order in which they end, so each value stands behind those in it.
 #[derive(Debug, PartialEq, Eq, Drop)]
 pub struct Tree {
-    /// All values, keys of dictionaries among them.
+    /// All values, keys of dictionaries among them, by their numbers.
     pub nodes: Nodes,
     /// The number of the whole value.
     pub top: u32,
@@ -103,8 +104,8 @@ pub struct Tree {
 impl Tree {
     ghost use Rattle.plist_reader.specs.Tree.{find_in, value_with, is_key};
 
-    /// The number of the value that the dictionary `pairs` has under this key; `None` where it has none, or where
-    /// `pairs` is no dictionary. It takes no memory.
+    /// The number of the value that the dictionary `pairs` has under this key; `None` where it has none, where `pairs` is no
+    /// dictionary, or where no value has that number. It takes no memory.
     pub fn find(&self, pairs: u32, key: &[u8]) -> Option<u32>
         ensures { result ≡ find_in self.now pairs key.now }
     {
