@@ -31,5 +31,6 @@ pub mod RefusalLemmas
 pub mod Dictionaries
 pub mod Beyond
 pub mod SourceLaws
+pub mod BytesAlike
 pub mod FoundPairs
 pub mod OneAnswer

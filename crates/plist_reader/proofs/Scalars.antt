@@ -156,7 +156,7 @@ each-scalar : (cs : List ℕ) → scalars cs ≡ true → AreScalars cs
 each-scalar [] h = tt
 each-scalar (c ∷ cs) h = let p = and_parts (scalar c) (scalars cs) h in (p.0, each-scalar cs p.1)
 
-all-scalar : (cs : List ℕ) → AreScalars cs → scalars cs ≡ true
+pub all-scalar : (cs : List ℕ) → AreScalars cs → scalars cs ≡ true
 all-scalar [] h = refl
 all-scalar (c ∷ cs) h = both (scalar c) (scalars cs) h.0 (all-scalar cs h.1)
   where

@@ -173,7 +173,7 @@ tree-stand cs t i e = let b = reached-end cs t i e in closes-stand cs b.0 t b.2 
 
 -- ---- sources
 
-width-bytes : (cs : List ℕ) → width cs ≡ length (encode_utf8_all cs)
+pub width-bytes : (cs : List ℕ) → width cs ≡ length (encode_utf8_all cs)
 width-bytes [] = refl
 width-bytes (c ∷ cs) = omega (arith, width-bytes cs, length-append (encode c) (encode_utf8_all cs), length-encode c)
 

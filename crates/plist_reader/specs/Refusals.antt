@@ -1,6 +1,6 @@
--- Why a source without a tree is refused, over whole texts: reading stops behind the longest front with which some text with
--- a tree begins. Fontc's own.
-use Rattle.std.specs.Prelude.{◌≡◌, ℕ, ◌+◌, ◌<◌, Bool, true, false, ◌&&◌, ◌==◌, nat_lt, if◌then◌else◌, List, [], ◌∷◌, ◌++◌, length, Some, ◌⊎◌}
+-- Why a source without a tree is refused, over whole texts: reading stops behind the longest front, or prefix, of the text with
+-- which some text with a tree begins. Fontc's own.
+use Rattle.std.specs.Prelude.{◌≡◌, ℕ, ◌+◌, ◌<◌, ◌≤◌, Bool, true, false, ◌&&◌, ◌==◌, nat_lt, if◌then◌else◌, List, [], ◌∷◌, ◌++◌, length, take, Some, ◌⊎◌}
 use Rattle.std.specs.List.{list_any}
 use Rattle.std.specs.Str.{IsUtf8, chars}
 use Rattle.std.specs.Str.Lossy.{utf8_valid_len}
@@ -33,6 +33,10 @@ IsWhole front = (v : Value) × IsTextOf v front
 pub record IsLongest (front : List ℕ) (c : ℕ) : Type 0 where
   pub goes_on : CanGoOn front
   pub no_more : ¬ (CanGoOn (front ++ c ∷ []))
+
+-- two sources begin with the same bytes, this many
+abbrev pub AgreeInBytes : ℕ → List ℕ → List ℕ → Type 0
+AgreeInBytes n xs ys = (n ≤ length xs) × (n ≤ length ys) × (take n xs ≡ take n ys)
 
 -- ---- what is open at the end of a front
 

@@ -1,14 +1,14 @@
 ghost use Rattle.std.specs.Prelude.{[], ◌∷◌, ◌++◌, ◌≡◌, ◌≤◌, length, ◌⊎◌, ◌↔◌, IfOk, IfErr, Ok, Err, List, ℕ};
 ghost use Rattle.refusal_codes.specs.Gives.{Gives};
 ghost use Rattle.plist_reader.specs.Tree.{IsTree, source_limit};
-ghost use Rattle.plist_reader.specs.Grammar.{HasTree, IsTextOf, Value, tree_of};
-ghost use Rattle.plist_reader.specs.Refusals.{CanGoOn, IsErrorOf, IsRefusal, refusal};
+ghost use Rattle.plist_reader.specs.Grammar.{HasTree, IsTextOf, Value, tree_of, width};
+ghost use Rattle.plist_reader.specs.Refusals.{AgreeInBytes, CanGoOn, IsLongest, IsErrorOf, IsRefusal, refusal};
 ghost use Rattle.refusal_codes.specs.declared.refusal.Refusal.{Refusal};
 ghost use Rattle.plist_reader.specs.Sources.{FindsPairs, StandsInSource};
 ghost use Rattle.plist_reader.specs.declared.tree.Tree.{Tree};
 ghost use Rattle.plist_reader.specs.Reading.{read_of, run, start};
 ghost use Rattle.std.specs.Char.{IsScalar};
-ghost use Rattle.std.specs.Str.{chars};
+ghost use Rattle.std.specs.Str.{IsUtf8, chars};
 
 use crate::reader::{Reader, refusal};
 use crate::tree::Tree;
@@ -86,13 +86,16 @@ pub fn sources_have_one_answer()
 {}
 
 /// A front of a text goes on exactly where some source with a tree begins with it. With a front each shorter one goes on too,
-/// so that one is the longest. Of the characters beyond ASCII, which are of several bytes, each can follow a front or none.
-pub fn fronts_end_where_nothing_goes_on()
+/// so that one is the longest, in characters and in bytes. Of the characters beyond ASCII, which are of several bytes, each can
+/// follow a front or none.
+pub fn one_front_is_the_longest()
     // What the grammar spells is the text of a source.
     ensures texts { (v : Value) (text : List ℕ) → IsTextOf v text → (source : List ℕ) × HasTree source (tree_of v) × (chars source ≡ text) }
     // So a front begins some text with a tree exactly when it begins that of some source with a tree.
     ensures sources { (front : List ℕ) → CanGoOn front ↔ ((source : List ℕ) × (t : Tree) × (rest : List ℕ) × HasTree source t × (chars source ≡ front ++ rest)) }
     ensures shorter { (front more : List ℕ) → CanGoOn (front ++ more) → CanGoOn front }
+    // It is the longest in bytes as well: no source with a tree agrees with the text in more bytes.
+    ensures bytes { (source other front rest : List ℕ) (t : Tree) (c n : ℕ) → IsUtf8 source → chars source ≡ front ++ c ∷ rest → IsLongest front c → HasTree other t → AgreeInBytes n source other → n ≤ width front }
     ensures alike { (front : List ℕ) (c d : ℕ) → 128 ≤ c → 128 ≤ d → IsScalar d → CanGoOn (front ++ c ∷ []) → CanGoOn (front ++ d ∷ []) }
 {}
 
