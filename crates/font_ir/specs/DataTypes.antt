@@ -9,11 +9,12 @@ uint16 n = to_be_bytes w16 n
 abbrev pub uint32 : ℕ → List ℕ
 uint32 n = to_be_bytes w32 n
 
-abbrev pub uint64 : ℕ → List ℕ
-uint64 n = to_be_bytes w64 n
-
 abbrev pub int16 : ℤ → List ℕ
 int16 z = uint16 (cast_unsigned w16 z)
+
+-- LONGDATETIME: the seconds since the first of January 1904, in 64 bits with a sign
+abbrev pub long_date_time : ℤ → List ℕ
+long_date_time z = to_be_bytes w64 (cast_unsigned w64 z)
 
 -- how many bytes are missing to a multiple of four
 abbrev pub padding : ℕ → ℕ

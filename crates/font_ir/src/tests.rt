@@ -47,6 +47,21 @@ fn a_glyph_has_the_number_of_its_place(rt: HostRuntime) -> Result<(), Fail> {
     assert!(rt; order.push(rt.alloc(), None, b".notdef")?);
     assert_eq!(rt; order.gid(b".notdef"), Some(0));
     assert_eq!(rt; order.gid(b"A"), None);
+    assert_eq!(rt; order.numbers(), [None].as_slice());
+    assert_eq!(rt; order.names()[0].as_slice(), b".notdef".as_slice());
+    Ok(())
+}
+
+#[test]
+fn orders_with_other_numbers_are_not_the_same(rt: HostRuntime) -> Result<(), Fail> {
+    let mut order = GlyphOrder::new(rt.alloc());
+    let mut same = GlyphOrder::new(rt.alloc());
+    let mut other = GlyphOrder::new(rt.alloc());
+    order.push(rt.alloc(), Some(3), b"A")?;
+    same.push(rt.alloc(), Some(3), b"A")?;
+    other.push(rt.alloc(), Some(4), b"A")?;
+    assert!(rt; order == same);
+    assert!(rt; order != other);
     Ok(())
 }
 

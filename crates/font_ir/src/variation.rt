@@ -8,7 +8,8 @@ pub enum LayoutTable {
     Gpos,
 }
 
-/// The tag of a table, an axis, a feature, a script or a language: four bytes from 0x20 to 0x7E.
+/// The tag of a table, an axis, a feature, a script or a language: four bytes. OpenType 1.9 has them from 0x20 to 0x7E ("Data
+/// types"); this type holds any.
 #[derive(Clone, Copy, Debug, PartialEq, Eq, PartialOrd, Ord)]
 pub struct Tag(pub [u8; 4]);
 

@@ -2,7 +2,7 @@
 use Rattle.std.specs.Prelude.{◌≡◌, ℕ, ◌+◌, ◌*◌, ◌/◌, ◌<◌, ◌≤◌, ℤ, pos, ◌-ℤ◌, List, [], ◌∷◌, ◌++◌, length, map, slice_index_or, slice_get, Option, None, Some}
 use Rattle.std.specs.Int.{w16, saturate_signed}
 use Rattle.std.specs.Option.{option_map_or}
-use Rattle.font_ir.specs.DataTypes.{uint16, uint32, uint64, int16}
+use Rattle.font_ir.specs.DataTypes.{uint16, uint32, int16, long_date_time}
 use Rattle.font_ir.specs.declared.header.Header.{Header}
 use Rattle.font_ir.specs.declared.header.Master.{Master}
 use Rattle.font_ir.specs.Extremes.{least, greatest}
@@ -43,8 +43,8 @@ head_table header measures =
     let magic_number : ℕ = 0x5F0F3CF5 in
     -- the baseline is at y = 0, and the left side bearing at x = 0
     let flags : ℕ = 3 in
-    let created : ℕ = 0 in
-    let modified : ℕ = 0 in
+    let created : ℤ = pos 0 in
+    let modified : ℤ = pos 0 in
     let mac_style : ℕ = 0 in
     let lowest_rec_ppem : ℕ = 6 in
     let font_direction_hint : ℤ = pos 2 in
@@ -52,7 +52,7 @@ head_table header measures =
     let index_to_loc_format : ℤ = pos 1 in
     let glyph_data_format : ℤ = pos 0 in
     version_1 ++ uint32 (font_revision header) ++ uint32 checksum_adjustment ++ uint32 magic_number
-    ++ uint16 flags ++ uint16 header.upem ++ uint64 created ++ uint64 modified
+    ++ uint16 flags ++ uint16 header.upem ++ long_date_time created ++ long_date_time modified
     ++ int16 (least (side 0 (boxes_of measures.bounds))) ++ int16 (least (side 1 (boxes_of measures.bounds)))
     ++ int16 (greatest (side 2 (boxes_of measures.bounds))) ++ int16 (greatest (side 3 (boxes_of measures.bounds)))
     ++ uint16 mac_style ++ uint16 lowest_rec_ppem ++ int16 font_direction_hint
