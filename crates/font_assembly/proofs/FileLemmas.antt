@@ -73,11 +73,11 @@ checksum-cleared bytes h =
 
 -- ---- places
 
-and_first : (a b : Bool) → IsTrue (a && b) → IsTrue a
+pub and_first : (a b : Bool) → IsTrue (a && b) → IsTrue a
 and_first true b h = refl
 and_first false b h = h
 
-and_second : (a b : Bool) → IsTrue (a && b) → IsTrue b
+pub and_second : (a b : Bool) → IsTrue (a && b) → IsTrue b
 and_second true b h = h
 and_second false b h = cc
 

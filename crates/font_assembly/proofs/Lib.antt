@@ -1,3 +1,5 @@
 pub mod TotalLemmas
 pub mod FileLemmas
+pub mod DirectoryLemmas
+pub mod DirectoryLaws
 pub mod Examples

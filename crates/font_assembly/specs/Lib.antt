@@ -1,3 +1,4 @@
 pub mod Checksum
 pub mod File
 pub mod Assembled
+pub mod Directory

@@ -3,8 +3,10 @@
 
 mod checksums;
 mod file;
+mod laws;
 
 pub use file::assemble;
+pub use laws::directory_leads_to_tables;
 
 #[cfg(test)]
 mod tests;
