@@ -5,7 +5,7 @@ use Rattle.plist_reader.specs.declared.tree.TreeNode.{TreeNode}
 use Rattle.plist_reader.specs.declared.tree.TreeValue.TheVariants as tree
 use Rattle.refusal_codes.specs.declared.rule.Rule.TheVariants.{WrongShape, MissingKey, OutOfRange, DuplicateUnicode}
 use Rattle.glyphs_source.specs.Decimals.{are_digits, digits_value, billionths_of, fraction_of, unsigned_of, decimal_of}
-use Rattle.glyphs_source.specs.Values.{decimal_at, whole_failures, text_failures, name_failures, empty_list_failures, empty_dictionary_failures, natural_in}
+use Rattle.glyphs_source.specs.Values.{decimal_at, whole_number_failures, text_failures, name_failures, empty_list_failures, empty_dictionary_failures, natural_in}
 use Rattle.glyphs_source.specs.HeaderReading.{version_failures, axis_value_failures, dictionary_failures, axis_values_failures, dictionaries_failures, master_parts_failures, master_failures, masters_failures, numbers_failures, design_forms_failures, feature_forms_failures, top_failures, header_failures, axis_count_failures, header_whole_failures, units_per_em, master_record, master_numbers, place_under, header_record, header_of}
 use Rattle.glyphs_source.specs.IndexReading.{codes_failures, glyph_parts_failures, glyph_failures, glyphs_failures, index_failures, code_at, codes_at, glyph_codes, glyph_name, glyph_text, is_exported, entry_of, glyph_numbers, index_of}
 
@@ -308,30 +308,30 @@ pub header_of-triangle : header_of triangle ≡ Ok (record {
   kern_place = 0;
   features = [];
 })
-unfolding are_digits digits_value billionths_of fraction_of unsigned_of decimal_of decimal_at whole_failures text_failures name_failures empty_list_failures empty_dictionary_failures natural_in version_failures axis_value_failures dictionary_failures axis_values_failures dictionaries_failures master_parts_failures master_failures masters_failures numbers_failures design_forms_failures feature_forms_failures top_failures header_failures axis_count_failures header_whole_failures units_per_em master_record master_numbers place_under header_record header_of
+unfolding are_digits digits_value billionths_of fraction_of unsigned_of decimal_of decimal_at whole_number_failures text_failures name_failures empty_list_failures empty_dictionary_failures natural_in version_failures axis_value_failures dictionary_failures axis_values_failures dictionaries_failures master_parts_failures master_failures masters_failures numbers_failures design_forms_failures feature_forms_failures top_failures header_failures axis_count_failures header_whole_failures units_per_em master_record master_numbers place_under header_record header_of
 header_of-triangle = refl
 
 -- an em of 15 units is out of range, at the number
 pub header_of-small_em : header_of small_em ≡ Err (record { stratum = 0; kind = 1; name = []; rule = OutOfRange; place = 251 })
-unfolding are_digits digits_value billionths_of fraction_of unsigned_of decimal_of decimal_at whole_failures text_failures name_failures empty_list_failures empty_dictionary_failures natural_in version_failures axis_value_failures dictionary_failures axis_values_failures dictionaries_failures master_parts_failures master_failures masters_failures numbers_failures design_forms_failures feature_forms_failures top_failures header_failures axis_count_failures header_whole_failures units_per_em master_record master_numbers place_under header_record header_of
+unfolding are_digits digits_value billionths_of fraction_of unsigned_of decimal_of decimal_at whole_number_failures text_failures name_failures empty_list_failures empty_dictionary_failures natural_in version_failures axis_value_failures dictionary_failures axis_values_failures dictionaries_failures master_parts_failures master_failures masters_failures numbers_failures design_forms_failures feature_forms_failures top_failures header_failures axis_count_failures header_whole_failures units_per_em master_record master_numbers place_under header_record header_of
 header_of-small_em = refl
 
 -- a family needs a name: the dictionary fails
 pub header_of-nameless : header_of nameless ≡ Err (record { stratum = 0; kind = 1; name = []; rule = MissingKey; place = 0 })
-unfolding are_digits digits_value billionths_of fraction_of unsigned_of decimal_of decimal_at whole_failures text_failures name_failures empty_list_failures empty_dictionary_failures natural_in version_failures axis_value_failures dictionary_failures axis_values_failures dictionaries_failures master_parts_failures master_failures masters_failures numbers_failures design_forms_failures feature_forms_failures top_failures header_failures axis_count_failures header_whole_failures units_per_em master_record master_numbers place_under header_record header_of
+unfolding are_digits digits_value billionths_of fraction_of unsigned_of decimal_of decimal_at whole_number_failures text_failures name_failures empty_list_failures empty_dictionary_failures natural_in version_failures axis_value_failures dictionary_failures axis_values_failures dictionaries_failures master_parts_failures master_failures masters_failures numbers_failures design_forms_failures feature_forms_failures top_failures header_failures axis_count_failures header_whole_failures units_per_em master_record master_numbers place_under header_record header_of
 header_of-nameless = refl
 
 -- an axis isn't built: the list is of a wrong shape
 pub header_of-axes : header_of axes ≡ Err (record { stratum = 0; kind = 1; name = []; rule = WrongShape; place = 29 })
-unfolding are_digits digits_value billionths_of fraction_of unsigned_of decimal_of decimal_at whole_failures text_failures name_failures empty_list_failures empty_dictionary_failures natural_in version_failures axis_value_failures dictionary_failures axis_values_failures dictionaries_failures master_parts_failures master_failures masters_failures numbers_failures design_forms_failures feature_forms_failures top_failures header_failures axis_count_failures header_whole_failures units_per_em master_record master_numbers place_under header_record header_of
+unfolding are_digits digits_value billionths_of fraction_of unsigned_of decimal_of decimal_at whole_number_failures text_failures name_failures empty_list_failures empty_dictionary_failures natural_in version_failures axis_value_failures dictionary_failures axis_values_failures dictionaries_failures master_parts_failures master_failures masters_failures numbers_failures design_forms_failures feature_forms_failures top_failures header_failures axis_count_failures header_whole_failures units_per_em master_record master_numbers place_under header_record header_of
 header_of-axes = refl
 
 -- the index: one exported glyph with one code, whose dictionary is the value 40
 pub index_of-triangle : index_of triangle ≡ Ok ((codes "A", record { number = 0; node = 40; exported = true; codes = 65 ∷ []; left = None; right = None }) ∷ [])
-unfolding are_digits digits_value billionths_of fraction_of unsigned_of decimal_of decimal_at whole_failures text_failures name_failures empty_list_failures empty_dictionary_failures natural_in codes_failures glyph_parts_failures glyph_failures glyphs_failures index_failures code_at codes_at glyph_codes glyph_name glyph_text is_exported entry_of glyph_numbers index_of
+unfolding are_digits digits_value billionths_of fraction_of unsigned_of decimal_of decimal_at whole_number_failures text_failures name_failures empty_list_failures empty_dictionary_failures natural_in codes_failures glyph_parts_failures glyph_failures glyphs_failures index_failures code_at codes_at glyph_codes glyph_name glyph_text is_exported entry_of glyph_numbers index_of
 index_of-triangle = refl
 
 -- a code that stands again: the second glyph fails
 pub index_of-same_code : index_of same_code ≡ Err (record { stratum = 0; kind = 2; name = []; rule = DuplicateUnicode; place = 236 })
-unfolding are_digits digits_value billionths_of fraction_of unsigned_of decimal_of decimal_at whole_failures text_failures name_failures empty_list_failures empty_dictionary_failures natural_in codes_failures glyph_parts_failures glyph_failures glyphs_failures index_failures code_at codes_at glyph_codes glyph_name glyph_text is_exported entry_of glyph_numbers index_of
+unfolding are_digits digits_value billionths_of fraction_of unsigned_of decimal_of decimal_at whole_number_failures text_failures name_failures empty_list_failures empty_dictionary_failures natural_in codes_failures glyph_parts_failures glyph_failures glyphs_failures index_failures code_at codes_at glyph_codes glyph_name glyph_text is_exported entry_of glyph_numbers index_of
 index_of-same_code = refl

@@ -1,6 +1,6 @@
 -- What a source says of the whole font, and the rules that it may fail there (Glyphs file format, version 3; the rules
 -- and the defaults are fontc's own). One master is read, without axes: a form that isn't built is of a wrong shape.
-use Rattle.std.specs.Prelude.{◌≡◌, ℕ, ◌*◌, ◌/◌, ◌≤◌, Bool, not, ◌&&◌, ◌||◌, ◌==◌, nat_lt, List, [], ◌∷◌, ◌++◌, length, slice_get, map, flat_map, Option, Some, None, Result, pos, ◌-ℤ◌, codes, option_and_then, unwrap_or, if◌then◌else◌}
+use Rattle.std.specs.Prelude.{◌≡◌, ℕ, ◌*◌, ◌/◌, ◌≤◌, Bool, not, ◌&&◌, ◌||◌, ◌==◌, nat_lt, List, [], ◌∷◌, ◌++◌, length, slice_get, map, Option, Some, None, Result, pos, ◌-ℤ◌, codes, option_and_then, if◌then◌else◌}
 use Rattle.std.specs.Option.{option_map_or}
 use Rattle.plist_reader.specs.declared.tree.Tree.{Tree}
 use Rattle.plist_reader.specs.Tree.{find_in}
@@ -13,7 +13,7 @@ use Rattle.refusal_codes.specs.First.{first_of, foremost, refusal_of, judged}
 use Rattle.glyphs_source.specs.declared.decimals.Decimal.{Decimal}
 use Rattle.glyphs_source.specs.declared.values.Range.TheVariants.{Natural}
 use Rattle.glyphs_source.specs.Decimals.{is_whole}
-use Rattle.glyphs_source.specs.Values.{place_at, items_at, is_dictionary, decimal_at, fails, whole_failures, text_failures, name_failures, empty_list_failures, empty_dictionary_failures, required, optional, natural_or, text_or_empty}
+use Rattle.glyphs_source.specs.Values.{place_at, items_at, is_dictionary, decimal_at, fails, whole_number_failures, text_failures, name_failures, each_by, empty_list_failures, empty_dictionary_failures, required, optional, natural_or, items_under, text_or_empty}
 
 -- ---- rules of single values
 
@@ -41,11 +41,6 @@ axis_value_failures t n = axis_value_failures_by t n (decimal_at t n)
 
 unfoldable pub dictionary_failures : Tree → ℕ → List Failure
 dictionary_failures t n = if is_dictionary t n then [] else fails WrongShape t n
-
--- a list, each value of which may fail
-abbrev pub each_by : (ℕ → List Failure) → Tree → ℕ → Option (List ℕ) → List Failure
-each_by failures t n None = fails WrongShape t n
-each_by failures t n (Some items) = flat_map failures items
 
 unfoldable pub axis_values_failures : Tree → ℕ → List Failure
 axis_values_failures t n = each_by (axis_value_failures t) t n (items_at t n)
@@ -79,10 +74,10 @@ masters_failures t n = masters_failures_by t n (items_at t n)
 unfoldable pub numbers_failures : Tree → List Failure
 numbers_failures t =
     required t t.top (codes ".formatVersion") (version_failures t)
-    ++ required t t.top (codes "unitsPerEm") (whole_failures (Natural 16 16384) t)
+    ++ required t t.top (codes "unitsPerEm") (whole_number_failures (Natural 16 16384) t)
     ++ required t t.top (codes "familyName") (name_failures t)
-    ++ optional t t.top (codes "versionMajor") (whole_failures (Natural 0 32767) t)
-    ++ optional t t.top (codes "versionMinor") (whole_failures (Natural 0 999) t)
+    ++ optional t t.top (codes "versionMajor") (whole_number_failures (Natural 0 32767) t)
+    ++ optional t t.top (codes "versionMinor") (whole_number_failures (Natural 0 999) t)
 
 unfoldable pub design_forms_failures : Tree → List Failure
 design_forms_failures t =
@@ -149,8 +144,9 @@ abbrev pub first_master : Tree → List ℕ → List Master
 first_master t [] = []
 first_master t (m ∷ ms) = master_record t m ∷ []
 
+-- the values of the list of masters
 unfoldable pub master_numbers : Tree → List ℕ
-master_numbers t = unwrap_or (option_and_then (items_at t) (find_in t t.top (codes "fontMaster"))) []
+master_numbers t = items_under t t.top (codes "fontMaster")
 
 unfoldable pub place_under : Tree → List ℕ → ℕ
 place_under t key = option_map_or (place_at t) (find_in t t.top key) 0

@@ -1,6 +1,6 @@
 -- The glyphs that a source names, in the order of the file, and the rules that they may fail (Glyphs file format,
 -- version 3; the rules are fontc's own). Their layers are not read here.
-use Rattle.std.specs.Prelude.{ℕ, ◌+◌, Bool, false, not, ◌&&◌, ◌||◌, ◌==◌, nat_eq, List, [], ◌∷◌, ◌++◌, map, flat_map, Option, Some, None, Result, codes, option_and_then, unwrap_or, if◌then◌else◌}
+use Rattle.std.specs.Prelude.{ℕ, ◌+◌, Bool, false, not, ◌&&◌, ◌||◌, ◌==◌, nat_eq, List, [], ◌∷◌, ◌++◌, map, flat_map, Option, Some, None, Result, codes, option_and_then, if◌then◌else◌}
 use Rattle.std.specs.Option.{option_map_or}
 use Rattle.std.specs.List.{list_any}
 use Rattle.std.specs.Cmp.Lexicographic.{pointwise}
@@ -14,14 +14,14 @@ use Rattle.glyphs_source.specs.declared.decimals.Decimal.{Decimal}
 use Rattle.glyphs_source.specs.declared.entries.IndexEntry.{IndexEntry}
 use Rattle.glyphs_source.specs.declared.values.Range.TheVariants.{Any, Code}
 use Rattle.glyphs_source.specs.Decimals.{is_whole}
-use Rattle.glyphs_source.specs.Values.{items_at, text_at, is_dictionary, decimal_at, fails, in_range, whole_failures, text_failures, name_failures, required, optional, text_or_empty}
+use Rattle.glyphs_source.specs.Values.{items_at, text_at, is_dictionary, decimal_at, fails, in_range, whole_number_failures, text_failures, name_failures, each_by, required, optional, items_under, text_or_empty}
 
 -- ---- local rules
 
 -- codes: a whole number, or a list of them
 abbrev pub codes_failures_by : Tree → ℕ → Option (List ℕ) → List Failure
-codes_failures_by t n None = whole_failures Code t n
-codes_failures_by t n (Some items) = flat_map (whole_failures Code t) items
+codes_failures_by t n None = whole_number_failures Code t n
+codes_failures_by t n (Some items) = flat_map (whole_number_failures Code t) items
 
 unfoldable pub codes_failures : Tree → ℕ → List Failure
 codes_failures t n = codes_failures_by t n (items_at t n)
@@ -30,19 +30,15 @@ unfoldable pub glyph_parts_failures : Tree → ℕ → List Failure
 glyph_parts_failures t g =
     required t g (codes "glyphname") (name_failures t)
     ++ optional t g (codes "unicode") (codes_failures t)
-    ++ optional t g (codes "export") (whole_failures Any t)
+    ++ optional t g (codes "export") (whole_number_failures Any t)
     ++ optional t g (codes "kernLeft") (text_failures t)
     ++ optional t g (codes "kernRight") (text_failures t)
 
 unfoldable pub glyph_failures : Tree → ℕ → List Failure
 glyph_failures t g = if is_dictionary t g then glyph_parts_failures t g else fails WrongShape t g
 
-abbrev pub glyphs_failures_by : Tree → ℕ → Option (List ℕ) → List Failure
-glyphs_failures_by t n None = fails WrongShape t n
-glyphs_failures_by t n (Some items) = flat_map (glyph_failures t) items
-
 unfoldable pub glyphs_failures : Tree → ℕ → List Failure
-glyphs_failures t n = glyphs_failures_by t n (items_at t n)
+glyphs_failures t n = each_by (glyph_failures t) t n (items_at t n)
 
 -- the local rules that the index fails
 unfoldable pub index_failures : Tree → List Failure
@@ -100,8 +96,9 @@ abbrev pub entries_from : Tree → ℕ → List ℕ → List (List ℕ × IndexE
 entries_from t number [] = []
 entries_from t number (g ∷ gs) = (glyph_name t g, entry_of t number g) ∷ entries_from t (number + 1) gs
 
+-- the values of the list of glyphs
 unfoldable pub glyph_numbers : Tree → List ℕ
-glyph_numbers t = unwrap_or (option_and_then (items_at t) (find_in t t.top (codes "glyphs"))) []
+glyph_numbers t = items_under t t.top (codes "glyphs")
 
 -- ---- whole rules, in the order of the file
 

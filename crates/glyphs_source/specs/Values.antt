@@ -1,7 +1,7 @@
 -- What a source's values say, and the rules that each kind of value fails: a value of another kind than the one asked
 -- is of a wrong shape, a number with a fraction isn't whole, and a number or a length may be outside its range. Of
 -- these only the first is found at one value. fontc's own.
-use Rattle.std.specs.Prelude.{ℕ, Bool, true, false, not, ◌&&◌, ◌==◌, nat_le, List, [], ◌∷◌, length, Option, Some, None, is_some, option_and_then, unwrap_or, if◌then◌else◌}
+use Rattle.std.specs.Prelude.{ℕ, Bool, true, false, not, ◌&&◌, ◌==◌, nat_le, List, [], ◌∷◌, length, Option, Some, None, is_some, option_and_then, unwrap_or, flat_map, if◌then◌else◌}
 use Rattle.std.specs.Option.{option_map_or}
 use Rattle.plist_reader.specs.declared.tree.Tree.{Tree}
 use Rattle.plist_reader.specs.Tree.{node_at, text_of, items_of, pairs_of, find_in}
@@ -59,13 +59,13 @@ range_rule Code = OutOfRange
 range_rule Coordinate = CoordinateTooLarge
 
 -- a whole number in a range
-abbrev pub whole_failures_by : Range → Tree → ℕ → Option Decimal → List Failure
-whole_failures_by range t n None = fails WrongShape t n
-whole_failures_by range t n (Some d) =
+abbrev pub whole_number_failures_by : Range → Tree → ℕ → Option Decimal → List Failure
+whole_number_failures_by range t n None = fails WrongShape t n
+whole_number_failures_by range t n (Some d) =
     if is_whole d then (if in_range range d then [] else fails (range_rule range) t n) else fails NotWhole t n
 
-unfoldable pub whole_failures : Range → Tree → ℕ → List Failure
-whole_failures range t n = whole_failures_by range t n (decimal_at t n)
+unfoldable pub whole_number_failures : Range → Tree → ℕ → List Failure
+whole_number_failures range t n = whole_number_failures_by range t n (decimal_at t n)
 
 -- a text
 unfoldable pub text_failures : Tree → ℕ → List Failure
@@ -79,6 +79,11 @@ name_failures_by t n (Some text) =
 
 unfoldable pub name_failures : Tree → ℕ → List Failure
 name_failures t n = name_failures_by t n (text_at t n)
+
+-- a list, each value of which may fail
+abbrev pub each_by : (ℕ → List Failure) → Tree → ℕ → Option (List ℕ) → List Failure
+each_by failures t n None = fails WrongShape t n
+each_by failures t n (Some items) = flat_map failures items
 
 -- a form that isn't built: nothing but an empty list is of the right shape
 abbrev pub is_empty_list : Option (List ℕ) → Bool
@@ -120,6 +125,10 @@ natural_in low high t n = natural_by low high (decimal_at t n)
 -- the number under a key, and another one where the key is missing
 abbrev pub natural_or : ℕ → ℕ → ℕ → Tree → ℕ → List ℕ → ℕ
 natural_or low high missing t pairs key = option_map_or (natural_in low high t) (find_in t pairs key) missing
+
+-- the values of the list under a key, and none where there is no such list
+abbrev pub items_under : Tree → ℕ → List ℕ → List ℕ
+items_under t pairs key = unwrap_or (option_and_then (items_at t) (find_in t pairs key)) []
 
 -- the text under a key, and an empty one where there is none
 abbrev pub text_or_empty : Tree → ℕ → List ℕ → List ℕ

@@ -6,8 +6,8 @@ ghost use Rattle.refusal_codes.specs.Gives.{Gives};
 ghost use Rattle.glyphs_source.specs.HeaderReading.{units_per_em, master_record, first_master, master_numbers, place_under, header_record, header_of, HasSmallNumbers, IsReadHeader};
 
 use crate::header_rules::{note_header, whole_failure};
-use crate::keys::{copied, natural_or, text_under};
-use crate::values::{items_at, place_at};
+use crate::keys::{copied, items_under, natural_or, text_under};
+use crate::values::place_at;
 use font_ir::{Header, Master};
 use plain_lists::{Sequence, Text};
 use plist_reader::Tree;
@@ -78,10 +78,7 @@ fn units_per_em(tree: &Tree) -> u16
 fn master_numbers(tree: &Tree) -> &[u32]
     ensures { result.now ≡ master_numbers tree.now }
 {
-    match tree.find(tree.top, b"fontMaster") {
-        Some(number) => items_at(tree, number).unwrap_or(&[]),
-        None => &[],
-    }
+    items_under(tree, tree.top, b"fontMaster")
 }
 
 /// The place of the value under a key of the top dictionary, 0 where there is none.

@@ -10,7 +10,8 @@ ghost use Rattle.glyphs_source.specs.IndexReading.{entries_from, glyph_numbers, 
 
 use crate::entries::{IndexEntry, read_entry, read_name};
 use crate::index_rules::note_index;
-use crate::values::{items_at, place_at};
+use crate::keys::items_under;
+use crate::values::place_at;
 use font_ir::Name;
 use indexmap::{IndexMap, IndexSet};
 use plain_lists::Text;
@@ -104,10 +105,7 @@ fn glyph_numbers(tree: &Tree) -> &[u32]
     ensures value { result.now ≡ glyph_numbers tree.now }
     ensures few { length result.now < 2 ^ 32 }
 {
-    match tree.find(tree.top, b"glyphs") {
-        Some(number) => items_at(tree, number).unwrap_or(&[]),
-        None => &[],
-    }
+    items_under(tree, tree.top, b"glyphs")
 }
 
 /// The entries of the glyphs by their names, or the error that a name stands twice.

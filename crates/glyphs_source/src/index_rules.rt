@@ -1,6 +1,6 @@
 ghost use Rattle.std.specs.Prelude.{◌≡◌, flat_map};
 ghost use Rattle.refusal_codes.specs.First.{noted};
-ghost use Rattle.glyphs_source.specs.Values.{whole_failures};
+ghost use Rattle.glyphs_source.specs.Values.{whole_number_failures};
 ghost use Rattle.glyphs_source.specs.IndexReading.{codes_failures, glyph_parts_failures, glyph_failures, glyphs_failures, index_failures};
 
 use crate::keys::{note_optional_text, note_optional_whole, note_required_name};
@@ -75,7 +75,7 @@ fn note_codes(tree: &Tree, number: u32, first: &mut FirstFailure)
 }
 
 fn note_each_code(tree: &Tree, items: &[u32], first: &mut FirstFailure)
-    ensures { first.new ≡ noted first.old (flat_map (whole_failures Range.Code tree.now) items.now) }
+    ensures { first.new ≡ noted first.old (flat_map (whole_number_failures Range.Code tree.now) items.now) }
 {
     for item in items {
         note_whole(tree, *item, Range::Code, first);

@@ -1,10 +1,11 @@
 ghost use Rattle.std.specs.Prelude.{◌≡◌, ◌≤◌, option_and_then, option_copied, unwrap_or, IfOk, []};
 ghost use Rattle.plist_reader.specs.Tree.{find_in};
 ghost use Rattle.refusal_codes.specs.First.{noted};
-ghost use Rattle.glyphs_source.specs.Values.{text_at, whole_failures, text_failures, name_failures, empty_list_failures, natural_in, natural_or, required, optional};
+ghost use Rattle.glyphs_source.specs.Values.{text_at, whole_number_failures, text_failures, name_failures, empty_list_failures, natural_in, natural_or, items_under, required, optional};
 
 use crate::values::{
-    Range, decimal_at, note_at, note_empty_list, note_name, note_text, note_whole, text_at,
+    Range, decimal_at, items_at, note_at, note_empty_list, note_name, note_text, note_whole,
+    text_at,
 };
 use plain_lists::Text;
 use plist_reader::Tree;
@@ -19,7 +20,7 @@ pub fn note_required_whole(
     range: Range,
     first: &mut FirstFailure,
 )
-    ensures { first.new ≡ noted first.old (required tree.now pairs key.now (whole_failures range tree.now)) }
+    ensures { first.new ≡ noted first.old (required tree.now pairs key.now (whole_number_failures range tree.now)) }
 {
     match tree.find(pairs, key) {
         Some(number) => note_whole(tree, number, range, first),
@@ -35,7 +36,7 @@ pub fn note_optional_whole(
     range: Range,
     first: &mut FirstFailure,
 )
-    ensures { first.new ≡ noted first.old (optional tree.now pairs key.now (whole_failures range tree.now)) }
+    ensures { first.new ≡ noted first.old (optional tree.now pairs key.now (whole_number_failures range tree.now)) }
 {
     if let Some(number) = tree.find(pairs, key) {
         note_whole(tree, number, range, first);
@@ -85,6 +86,16 @@ pub fn text_under<'t>(tree: &'t Tree, pairs: u32, key: &[u8]) -> Option<&'t str>
     ensures { option_copied result ≡ option_and_then (text_at tree.now) (find_in tree.now pairs key.now) }
 {
     text_at(tree, tree.find(pairs, key)?)
+}
+
+/// The values of the list that a dictionary has under a key, none where there is no such list.
+pub fn items_under<'t>(tree: &'t Tree, pairs: u32, key: &[u8]) -> &'t [u32]
+    ensures { result.now ≡ items_under tree.now pairs key.now }
+{
+    match tree.find(pairs, key) {
+        Some(number) => items_at(tree, number).unwrap_or(&[]),
+        None => &[],
+    }
 }
 
 /// A text of its own, empty where there is none.

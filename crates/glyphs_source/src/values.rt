@@ -1,7 +1,7 @@
 ghost use Rattle.std.specs.Prelude.{◌≡◌, ◌≤◌, option_copied, option_map, is_some};
 ghost use Rattle.refusal_codes.specs.First.{noted};
 ghost use Rattle.glyphs_source.specs.Decimals.{cut, is_natural_in};
-ghost use Rattle.glyphs_source.specs.Values.{place_at, text_at, items_at, is_dictionary, decimal_at, pairs_at, is_code, is_empty_list, is_empty_dictionary, fails, in_range, range_rule, whole_failures, text_failures, name_failures, empty_list_failures, empty_dictionary_failures};
+ghost use Rattle.glyphs_source.specs.Values.{place_at, text_at, items_at, is_dictionary, decimal_at, pairs_at, is_code, is_empty_list, is_empty_dictionary, fails, in_range, range_rule, whole_number_failures, text_failures, name_failures, empty_list_failures, empty_dictionary_failures};
 
 use crate::decimals::{Decimal, read_decimal};
 use plist_reader::{Tree, ValueRef};
@@ -114,9 +114,9 @@ pub fn note_at(tree: &Tree, number: u32, rule: Rule, first: &mut FirstFailure)
 }
 
 /// Notes what fails of a value that is to be a whole number in this range.
-#[tactic(auto, unfolding(crate::specs::Values::whole_failures))]
+#[tactic(auto, unfolding(crate::specs::Values::whole_number_failures))]
 pub fn note_whole(tree: &Tree, number: u32, range: Range, first: &mut FirstFailure)
-    ensures { first.new ≡ noted first.old (whole_failures range tree.now number) }
+    ensures { first.new ≡ noted first.old (whole_number_failures range tree.now number) }
 {
     match decimal_at(tree, number) {
         None => note_at(tree, number, Rule::WrongShape, first),
