@@ -1,11 +1,13 @@
 ghost use Rattle.std.specs.Prelude.{◌≡◌, ◌<◌, ◌^◌, ◌++◌, [], length, map, option_copied, option_map, slice_get, nat_eq, IfOk, None, false, ◌==◌, ◌∷◌};
 ghost use Rattle.std.specs.Cmp.Lexicographic.{pointwise};
+ghost use Rattle.std.specs.Cmp.{partial_equiv_from_equiv};
 ghost use Rattle.plist_reader.specs.Tree.{IsTree};
 ghost use Rattle.std.specs.Map.{keys_of};
 ghost use Rattle.indexmap.specs.IndexMap.{values};
 ghost use Rattle.refusal_codes.specs.declared.errors.ReadError.TheVariants as read_errors;
 ghost use Rattle.refusal_codes.specs.First.{foremost, judged, refusal_of};
 ghost use Rattle.refusal_codes.specs.Gives.{Gives};
+ghost use Rattle.glyphs_source.specs.Same.{same_index, same_index_equiv};
 ghost use Rattle.glyphs_source.specs.IndexReading.{entries_from, glyph_numbers, glyph_name, entry_of, is_among, repeated_names, repeats, counting, repeated_codes, index_of};
 
 use crate::entries::{IndexEntry, read_entry, read_name};
@@ -21,7 +23,7 @@ use std::alloc::{AllocError, Global};
 use std::marker::Model;
 
 /// The glyphs that a source names, in the order of the file. A contract sees them as the list of their names and entries.
-#[derive(Drop)]
+#[derive(Debug, Drop)]
 pub struct GlyphIndex {
     entries: IndexMap<Name, IndexEntry>,
 }
@@ -67,6 +69,21 @@ impl GlyphIndex {
     {
         self.entries.get_index(number as usize)
     }
+}
+
+/// Two indexes are equal where they have the same glyphs in the same order, with equal entries.
+impl PartialEq for GlyphIndex {
+    ghost eq = { same_index };
+
+    ghost laws = { partial_equiv_from_equiv same_index_equiv };
+
+    fn eq(&self, other: &Self) -> bool {
+        self.entries.as_slice() == other.entries.as_slice()
+    }
+}
+
+impl Eq for GlyphIndex {
+    ghost laws = { same_index_equiv };
 }
 
 /// The glyphs that a source names, in the order of the file.

@@ -66,6 +66,31 @@ fn an_index_finds_glyphs_by_name_and_by_number(rt: HostRuntime) -> Result<(), Fa
     Ok(())
 }
 
+#[test]
+fn indexes_are_equal_where_their_glyphs_and_their_order_are(rt: HostRuntime) -> Result<(), Fail> {
+    let tree = read(
+        rt.alloc(),
+        b"{glyphs=({glyphname=A;unicode=65;},{glyphname=B;});}",
+    )?;
+    let index = glyph_index(rt.alloc(), &tree)?;
+    let again = read(
+        rt.alloc(),
+        b"{ glyphs = ({glyphname=\"A\";unicode=065;}, {glyphname=B;}); }",
+    )?;
+    assert!(rt; index == glyph_index(rt.alloc(), &again)?);
+    for other in [
+        b"{glyphs=({glyphname=B;},{glyphname=A;unicode=65;});}".as_slice(),
+        b"{glyphs=({glyphname=A;unicode=66;},{glyphname=B;});}".as_slice(),
+        b"{glyphs=({glyphname=A;unicode=65;},{glyphname=C;});}".as_slice(),
+        b"{glyphs=({glyphname=A;unicode=65;});}".as_slice(),
+    ] {
+        assert!(rt; other.len() < 100);
+        let other = read(rt.alloc(), other)?;
+        assert!(rt; index != glyph_index(rt.alloc(), &other)?);
+    }
+    Ok(())
+}
+
 /// The rule that a refused header fails, and where.
 fn failure_of(answer: Result<Header, ReadError>) -> Option<(Rule, u64)> {
     match answer {
