@@ -12,7 +12,7 @@ use Rattle.refusal_codes.specs.First.{first_of, foremost, refusal_of}
 use Rattle.refusal_codes.proofs.FirstLaws.{first_of_none}
 use Rattle.refusal_codes.proofs.JudgedLaws.{judged_ok}
 use Rattle.glyphs_source.specs.Values.{fails, items_at, is_dictionary, under_by}
-use Rattle.glyphs_source.specs.HeaderReading.{HasSmallNumbers, IsReadHeader, masters_failures_by, masters_failures, numbers_failures, design_forms_failures, feature_forms_failures, top_failures, header_failures, whole_rules_by, header_whole_failures, master_record, first_master, master_numbers, header_record, header_of}
+use Rattle.glyphs_source.specs.HeaderReading.{HasSmallNumbers, IsReadHeader, masters_failures_by, masters_failures, name_and_numbers_failures, design_forms_failures, feature_forms_failures, top_failures, header_failures, whole_rules_by, header_whole_failures, master_record, first_master, master_numbers, header_record, header_of}
 
 -- of two lists that are empty together the second is
 last_empty : (xs ys : List Failure) → xs ++ ys ≡ [] → ys ≡ []
@@ -37,7 +37,7 @@ there t (Some n) e w = listed t n (items_at t n) e w
 local_none : (t : Tree) → first_of (header_failures t) ≡ None → under_by (masters_failures t) (fails MissingKey t t.top) (find_in t t.top (codes "fontMaster")) ≡ []
 unfolding header_failures top_failures
 local_none t e =
-    last_empty (numbers_failures t ++ design_forms_failures t ++ feature_forms_failures t) _
+    last_empty (name_and_numbers_failures t ++ design_forms_failures t ++ feature_forms_failures t) _
     (dictionary_there (is_dictionary t t.top) _ _ (first_of_none _ e))
 
 one_master : (t : Tree) → first_of (header_failures t) ≡ None → foremost (header_whole_failures t) ≡ None → (m : ℕ) × ((header_record t).masters ≡ master_record t m ∷ [])

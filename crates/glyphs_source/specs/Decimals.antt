@@ -45,11 +45,8 @@ unsigned_of negative text = unsigned_by negative text (position (λ byte. byte =
 unfoldable pub decimal_of : List ℕ → Option Decimal
 decimal_of text = if slice_index text 0 == 45 then unsigned_of true (drop 1 text) else unsigned_of false text
 
--- greater than each number that any value of a source may have
-abbrev pub cut_at : ℕ
-cut_at = 1000000000
-
--- a decimal with its parts cut to that bound. Billionths are below it anyway
+-- a decimal with its parts cut to 1000000000, which is greater than each number that any value of a source may have.
+-- Billionths are below it anyway
 abbrev pub cut : Decimal → Decimal
 cut d = record { negative = d.negative; whole = min d.whole 1000000000; billionths = min d.billionths 1000000000 }
 
@@ -57,6 +54,6 @@ cut d = record { negative = d.negative; whole = min d.whole 1000000000; billiont
 abbrev pub is_whole : Decimal → Bool
 is_whole d = d.billionths == 0
 
--- whether a decimal is from low to high
+-- whether a decimal's whole part is from low to high, with its sign
 abbrev pub is_natural_in : ℕ → ℕ → Decimal → Bool
 is_natural_in low high d = (not d.negative || d.whole == 0) && (nat_le low d.whole && nat_le d.whole high)

@@ -71,8 +71,8 @@ masters_failures t n = masters_failures_by t n (items_at t n)
 
 -- ---- the top dictionary
 
-unfoldable pub numbers_failures : Tree → List Failure
-numbers_failures t =
+unfoldable pub name_and_numbers_failures : Tree → List Failure
+name_and_numbers_failures t =
     required t t.top (codes ".formatVersion") (version_failures t)
     ++ required t t.top (codes "unitsPerEm") (whole_number_failures (Natural 16 16384) t)
     ++ required t t.top (codes "familyName") (name_failures t)
@@ -95,7 +95,7 @@ feature_forms_failures t =
 
 unfoldable pub top_failures : Tree → List Failure
 top_failures t =
-    numbers_failures t
+    name_and_numbers_failures t
     ++ design_forms_failures t
     ++ feature_forms_failures t
     ++ required t t.top (codes "fontMaster") (masters_failures t)

@@ -3,14 +3,14 @@ ghost use Rattle.glyphs_source.specs.Decimals.{are_digits, digits_value, billion
 
 /// A number, exact to nine digits of fraction.
 ///
-/// What is greater than each number that a source may have is cut to 1,000,000,000.
+/// A whole part above 1,000,000,000, which is greater than each number that a source may have, is cut to that.
 #[derive(Clone, Copy, Debug, PartialEq, Eq)]
 pub struct Decimal {
     /// Whether it has a minus sign.
     pub negative: bool,
     /// Its whole part.
     pub whole: u32,
-    /// Its fraction.
+    /// Its fraction in billionths, 0 to 999,999,999: later digits are dropped.
     pub billionths: u32,
 }
 
@@ -19,7 +19,7 @@ const CUT_AT: u64 = 1_000_000_000;
 
 /// The decimal that a text spells, `None` where it spells none.
 #[tactic(auto, unfolding(crate::specs::Decimals::decimal_of))]
-pub fn read_decimal(text: &[u8]) -> Option<Decimal>
+pub(crate) fn read_decimal(text: &[u8]) -> Option<Decimal>
     ensures { result ≡ option_map cut (decimal_of text.now) }
 {
     match text.first() {

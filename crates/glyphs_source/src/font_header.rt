@@ -17,7 +17,8 @@ use std::alloc::{AllocError, Global};
 /// What a source says of the whole font.
 ///
 /// One master is read, without axes. The error is the least failure by place, then by rule, of the rules of single values;
-/// where none of them fails, it is that there is no master, or that the master has coordinates.
+/// where none of them fails, it is that there is no master, at the place of their list, or that the master has coordinates,
+/// at the place of the master. Where memory runs out, the error is that.
 #[tactic(auto, unfolding(crate::specs::HeaderReading::header_of))]
 pub fn header(alloc: Global, tree: &Tree) -> Result<Header, ReadError>
     requires { IsTree tree.now }

@@ -2,7 +2,7 @@ ghost use Rattle.std.specs.Prelude.{◌≡◌, flat_map, slice_get, []};
 ghost use Rattle.std.specs.Option.{option_map_or};
 ghost use Rattle.glyphs_source.specs.Values.{fails};
 ghost use Rattle.refusal_codes.specs.First.{noted, foremost};
-ghost use Rattle.glyphs_source.specs.HeaderReading.{version_failures, axis_value_failures, dictionary_failures, axis_values_failures, dictionaries_failures, master_parts_failures, master_failures, masters_failures, numbers_failures, design_forms_failures, feature_forms_failures, top_failures, header_failures, axis_count_failures, header_whole_failures};
+ghost use Rattle.glyphs_source.specs.HeaderReading.{version_failures, axis_value_failures, dictionary_failures, axis_values_failures, dictionaries_failures, master_parts_failures, master_failures, masters_failures, name_and_numbers_failures, design_forms_failures, feature_forms_failures, top_failures, header_failures, axis_count_failures, header_whole_failures};
 
 use crate::keys::{
     note_optional_empty_list, note_optional_whole, note_required_name, note_required_text,
@@ -30,7 +30,7 @@ pub fn note_header(tree: &Tree, first: &mut FirstFailure)
 fn note_top(tree: &Tree, first: &mut FirstFailure)
     ensures { first.new ≡ noted first.old (top_failures tree.now) }
 {
-    note_numbers(tree, first);
+    note_name_and_numbers(tree, first);
     note_design_forms(tree, first);
     note_feature_forms(tree, first);
     match tree.find(tree.top, b"fontMaster") {
@@ -39,9 +39,9 @@ fn note_top(tree: &Tree, first: &mut FirstFailure)
     }
 }
 
-#[tactic(auto, using(refusal_codes::proofs::FirstLaws::noting), unfolding(crate::specs::HeaderReading::numbers_failures))]
-fn note_numbers(tree: &Tree, first: &mut FirstFailure)
-    ensures { first.new ≡ noted first.old (numbers_failures tree.now) }
+#[tactic(auto, using(refusal_codes::proofs::FirstLaws::noting), unfolding(crate::specs::HeaderReading::name_and_numbers_failures))]
+fn note_name_and_numbers(tree: &Tree, first: &mut FirstFailure)
+    ensures { first.new ≡ noted first.old (name_and_numbers_failures tree.now) }
 {
     match tree.find(tree.top, b".formatVersion") {
         Some(number) => note_version(tree, number, first),

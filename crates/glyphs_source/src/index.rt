@@ -90,6 +90,7 @@ impl Eq for GlyphIndex {
 ///
 /// The error is the least failure by place, then by rule, of the rules of single values; where none of them fails, it is
 /// the first glyph whose name an earlier one has, or else the first in which a code stands again among those exported.
+/// Where memory runs out, the error is that.
 #[tactic(auto, using(crate::proofs::IndexLaws::entries_from_length), unfolding(crate::specs::IndexReading::index_of))]
 pub fn glyph_index(alloc: Global, tree: &Tree) -> Result<GlyphIndex, ReadError>
     requires { IsTree tree.now }

@@ -29,7 +29,7 @@ pub fn note_required_whole(
 }
 
 /// Notes what fails of the whole number that a dictionary may have under a key.
-pub fn note_optional_whole(
+pub(crate) fn note_optional_whole(
     tree: &Tree,
     pairs: u32,
     key: &[u8],
@@ -44,7 +44,7 @@ pub fn note_optional_whole(
 }
 
 /// Notes what fails of the name that a dictionary must have under a key.
-pub fn note_required_name(tree: &Tree, pairs: u32, key: &[u8], first: &mut FirstFailure)
+pub(crate) fn note_required_name(tree: &Tree, pairs: u32, key: &[u8], first: &mut FirstFailure)
     ensures { first.new ≡ noted first.old (required tree.now pairs key.now (name_failures tree.now)) }
 {
     match tree.find(pairs, key) {
@@ -54,7 +54,7 @@ pub fn note_required_name(tree: &Tree, pairs: u32, key: &[u8], first: &mut First
 }
 
 /// Notes what fails of the text that a dictionary must have under a key.
-pub fn note_required_text(tree: &Tree, pairs: u32, key: &[u8], first: &mut FirstFailure)
+pub(crate) fn note_required_text(tree: &Tree, pairs: u32, key: &[u8], first: &mut FirstFailure)
     ensures { first.new ≡ noted first.old (required tree.now pairs key.now (text_failures tree.now)) }
 {
     match tree.find(pairs, key) {
@@ -99,7 +99,7 @@ pub fn items_under<'t>(tree: &'t Tree, pairs: u32, key: &[u8]) -> &'t [u32]
 }
 
 /// A text of its own, empty where there is none.
-pub fn copied(alloc: Global, text: Option<&str>) -> Result<Text, AllocError>
+pub(crate) fn copied(alloc: Global, text: Option<&str>) -> Result<Text, AllocError>
     ensures { IfOk result (λ copy. copy ≡ unwrap_or (option_copied text.entry) []) }
 {
     match text {

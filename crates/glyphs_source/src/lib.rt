@@ -10,17 +10,16 @@ mod index_rules;
 mod keys;
 mod values;
 
-pub use decimals::{Decimal, read_decimal};
+pub use decimals::Decimal;
 pub use entries::IndexEntry;
 pub use font_header::header;
 pub use index::{GlyphIndex, glyph_index};
 pub use keys::{
-    copied, items_under, natural_or, note_optional_empty_list, note_optional_text,
-    note_optional_whole, note_required_name, note_required_text, note_required_whole, text_under,
+    items_under, natural_or, note_optional_empty_list, note_optional_text, note_required_whole,
+    text_under,
 };
 pub use values::{
-    Range, decimal_at, is_dictionary, items_at, note_at, note_empty_dictionary, note_empty_list,
-    note_name, note_text, note_whole, place_at, text_at,
+    Range, decimal_at, is_dictionary, items_at, note_at, note_whole, place_at, text_at,
 };
 
 #[cfg(test)]

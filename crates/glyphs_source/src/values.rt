@@ -58,7 +58,7 @@ fn is_code(number: u32) -> bool
     !(0xD800 <= number && number <= 0xDFFF) && number != 0xFFFF
 }
 
-/// The place of a value in the source.
+/// The place of a value in the source, in bytes from 0; 0 for a number that no value has.
 pub fn place_at(tree: &Tree, number: u32) -> u64
     ensures { result ≡ place_at tree.now number }
 {
@@ -132,7 +132,7 @@ pub fn note_whole(tree: &Tree, number: u32, range: Range, first: &mut FirstFailu
 
 /// Notes what fails of a value that is to be a text.
 #[tactic(auto, unfolding(crate::specs::Values::text_failures))]
-pub fn note_text(tree: &Tree, number: u32, first: &mut FirstFailure)
+pub(crate) fn note_text(tree: &Tree, number: u32, first: &mut FirstFailure)
     ensures { first.new ≡ noted first.old (text_failures tree.now number) }
 {
     if text_at(tree, number).is_none() {
@@ -142,7 +142,7 @@ pub fn note_text(tree: &Tree, number: u32, first: &mut FirstFailure)
 
 /// Notes what fails of a value that is to be a name: a text of 1 to 255 bytes.
 #[tactic(auto, unfolding(crate::specs::Values::name_failures))]
-pub fn note_name(tree: &Tree, number: u32, first: &mut FirstFailure)
+pub(crate) fn note_name(tree: &Tree, number: u32, first: &mut FirstFailure)
     ensures { first.new ≡ noted first.old (name_failures tree.now number) }
 {
     match text_at(tree, number) {
@@ -157,7 +157,7 @@ pub fn note_name(tree: &Tree, number: u32, first: &mut FirstFailure)
 
 /// Notes what fails of a value that is to be an empty list, since its form isn't built.
 #[tactic(auto, unfolding(crate::specs::Values::empty_list_failures))]
-pub fn note_empty_list(tree: &Tree, number: u32, first: &mut FirstFailure)
+pub(crate) fn note_empty_list(tree: &Tree, number: u32, first: &mut FirstFailure)
     ensures { first.new ≡ noted first.old (empty_list_failures tree.now number) }
 {
     if !is_empty_list(tree, number) {
@@ -176,7 +176,7 @@ fn is_empty_list(tree: &Tree, number: u32) -> bool
 
 /// Notes what fails of a value that is to be an empty dictionary, since its form isn't built.
 #[tactic(auto, unfolding(crate::specs::Values::empty_dictionary_failures))]
-pub fn note_empty_dictionary(tree: &Tree, number: u32, first: &mut FirstFailure)
+pub(crate) fn note_empty_dictionary(tree: &Tree, number: u32, first: &mut FirstFailure)
     ensures { first.new ≡ noted first.old (empty_dictionary_failures tree.now number) }
 {
     if !is_empty_dictionary(tree, number) {
