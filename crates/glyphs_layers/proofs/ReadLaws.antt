@@ -25,9 +25,9 @@ use Rattle.refusal_codes.proofs.JudgedLaws.{judged_ok}
 use Rattle.glyphs_source.specs.declared.decimals.Decimal.{Decimal}
 use Rattle.glyphs_source.specs.Decimals.{is_whole, is_natural_in}
 use Rattle.plist_reader.specs.Tree.{find_in}
-use Rattle.glyphs_source.specs.Values.{place_at, decimal_at, natural_by, natural_in, natural_or}
+use Rattle.glyphs_source.specs.Values.{place_at, decimal_at, natural_by, natural_in, natural_or, items_under}
 use Rattle.glyphs_source.specs.HeaderReading.{header_of, master_record}
-use Rattle.glyphs_layers.specs.LayerRules.{items_under, layer_numbers, layer_of, glyph_failures, glyph_whole_failures}
+use Rattle.glyphs_layers.specs.LayerRules.{layer_numbers, layer_of, glyph_failures, glyph_whole_failures}
 use Rattle.glyphs_layers.specs.LayerReading.{contour_of, path_of, shapes_of, layer_record, glyph_record, glyph_of, point_of, last_first}
 use Rattle.glyphs_source.proofs.HeaderLaws.{header-masters, master_record-location}
 

@@ -15,8 +15,8 @@ use Rattle.refusal_codes.specs.declared.refusal.Refusal.{Refusal}
 use Rattle.refusal_codes.specs.First.{first_of, foremost, refusal_of, judged}
 use Rattle.glyphs_source.specs.declared.decimals.Decimal.{Decimal}
 use Rattle.glyphs_source.specs.Decimals.{is_whole}
-use Rattle.glyphs_source.specs.Values.{place_at, items_at, decimal_at, natural_or}
-use Rattle.glyphs_layers.specs.LayerRules.{items_under, layer_numbers, layer_of, glyph_failures, glyph_whole_failures}
+use Rattle.glyphs_source.specs.Values.{place_at, items_at, decimal_at, natural_or, items_under}
+use Rattle.glyphs_layers.specs.LayerRules.{layer_numbers, layer_of, glyph_failures, glyph_whole_failures}
 
 -- a coordinate in 16.16: the whole number times 65536, 0 where the value is no coordinate
 abbrev pub coordinate_by : Option Decimal → ℤ

@@ -1,7 +1,7 @@
 -- The rules that a glyph's layers may fail (Glyphs file format, version 3; the rules are fontc's own). A glyph has a list
 -- of layers, and each master's layer is the first one that names the master. The other layers are ignored with all that
 -- they hold. A form that isn't built is of a wrong shape, and a value of a wrong shape isn't looked into further.
-use Rattle.std.specs.Prelude.{ℕ, Bool, ◌||◌, ◌==◌, is_some, List, [], ◌++◌, length, slice_index, flat_map, codes, Option, Some, None, option_and_then, unwrap_or, if◌then◌else◌}
+use Rattle.std.specs.Prelude.{ℕ, Bool, ◌||◌, ◌==◌, is_some, List, [], ◌++◌, length, slice_index, flat_map, codes, Option, Some, None, option_and_then, if◌then◌else◌}
 use Rattle.std.specs.Option.{option_map_or}
 use Rattle.std.specs.List.{find, list_all}
 use Rattle.plist_reader.specs.declared.tree.Tree.{Tree}
@@ -12,16 +12,7 @@ use Rattle.refusal_codes.specs.declared.first.Failure.{Failure}
 use Rattle.glyphs_source.specs.declared.decimals.Decimal.{Decimal}
 use Rattle.glyphs_source.specs.declared.values.Range.TheVariants.{Natural, Coordinate}
 use Rattle.glyphs_source.specs.Decimals.{is_whole}
-use Rattle.glyphs_source.specs.Values.{text_at, items_at, is_dictionary, decimal_at, fails, whole_failures, text_failures, empty_list_failures, required, optional}
-
--- a list, each value of which may fail
-abbrev pub each_by : (ℕ → List Failure) → Tree → ℕ → Option (List ℕ) → List Failure
-each_by failures t n None = fails WrongShape t n
-each_by failures t n (Some items) = flat_map failures items
-
--- the values of the list under a key, none where there is no such list
-abbrev pub items_under : Tree → ℕ → List ℕ → List ℕ
-items_under t pairs key = unwrap_or (option_and_then (items_at t) (find_in t pairs key)) []
+use Rattle.glyphs_source.specs.Values.{text_at, items_at, is_dictionary, decimal_at, fails, whole_number_failures, text_failures, each_by, empty_list_failures, required, optional, items_under}
 
 -- ---- nodes: a list of x, y and a type, and maybe a fourth value, which is ignored
 
@@ -54,7 +45,7 @@ type_failures t node kind =
 
 unfoldable pub node_parts_failures : Tree → ℕ → ℕ → ℕ → ℕ → List Failure
 node_parts_failures t node x y kind =
-    whole_failures Coordinate t x ++ whole_failures Coordinate t y ++ type_failures t node kind
+    whole_number_failures Coordinate t x ++ whole_number_failures Coordinate t y ++ type_failures t node kind
 
 abbrev pub node_failures_by : Tree → ℕ → Option (List ℕ) → List Failure
 node_failures_by t n None = fails WrongShape t n
@@ -102,7 +93,7 @@ shapes_failures t n = each_by (shape_failures t) t n (items_at t n)
 -- what a layer holds: anchors aren't built
 unfoldable pub layer_failures : Tree → ℕ → List Failure
 layer_failures t n =
-    required t n (codes "width") (whole_failures (Natural 0 32767) t)
+    required t n (codes "width") (whole_number_failures (Natural 0 32767) t)
     ++ optional t n (codes "shapes") (shapes_failures t)
     ++ optional t n (codes "anchors") (empty_list_failures t)
 

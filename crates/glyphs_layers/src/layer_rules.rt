@@ -3,11 +3,11 @@ ghost use Rattle.std.specs.List.{find, list_all};
 ghost use Rattle.std.specs.Option.{option_map_or};
 ghost use Rattle.plist_reader.specs.Tree.{find_in};
 ghost use Rattle.refusal_codes.specs.First.{noted, foremost};
-ghost use Rattle.glyphs_layers.specs.LayerRules.{items_under, is_text, is_line, is_cubic, is_quadratic, type_failures, node_parts_failures, node_failures, nodes_failures, closed_failures, other_shape_failures, shape_parts_failures, shape_failures, shapes_failures, layer_failures, entry_failures, entries_failures, layer_numbers, is_layer_of, layer_of, master_failures, glyph_failures, glyph_whole_failures};
+ghost use Rattle.glyphs_layers.specs.LayerRules.{is_text, is_line, is_cubic, is_quadratic, type_failures, node_parts_failures, node_failures, nodes_failures, closed_failures, other_shape_failures, shape_parts_failures, shape_failures, shapes_failures, layer_failures, entry_failures, entries_failures, layer_numbers, is_layer_of, layer_of, master_failures, glyph_failures, glyph_whole_failures};
 
 use font_ir::Master;
 use glyphs_source::{
-    Range, decimal_at, is_dictionary, items_at, note_at, note_optional_empty_list,
+    Range, decimal_at, is_dictionary, items_at, items_under, note_at, note_optional_empty_list,
     note_optional_text, note_required_whole, note_whole, place_at, text_at, text_under,
 };
 use plist_reader::Tree;
@@ -53,16 +53,6 @@ pub fn layer_numbers(tree: &Tree, glyph: u32) -> &[u32]
     ensures { result.now ≡ layer_numbers tree.now glyph }
 {
     items_under(tree, glyph, b"layers")
-}
-
-/// The values of the list under a key, none where there is no such list.
-pub fn items_under<'t>(tree: &'t Tree, pairs: u32, key: &[u8]) -> &'t [u32]
-    ensures { result.now ≡ items_under tree.now pairs key.now }
-{
-    match tree.find(pairs, key) {
-        Some(number) => items_at(tree, number).unwrap_or(&[]),
-        None => &[],
-    }
 }
 
 /// The number of a master's layer.

@@ -3,10 +3,10 @@ ghost use Rattle.std.specs.Option.{option_map_or};
 ghost use Rattle.glyphs_layers.specs.LayerRules.{layer_of};
 ghost use Rattle.glyphs_layers.specs.LayerReading.{coordinate_of, point_of, point_by, last_first, contour_of, path_of, shapes_of, layer_record, master_layers};
 
-use crate::layer_rules::{items_under, layer_of};
+use crate::layer_rules::layer_of;
 use fixed_math::Fixed;
 use font_ir::{Contour, DrawnPoint, LayerIr, Master, Shape};
-use glyphs_source::{decimal_at, items_at, natural_or};
+use glyphs_source::{decimal_at, items_at, items_under, natural_or};
 use plain_lists::Sequence;
 use plist_reader::Tree;
 use std::alloc::{AllocError, Global};
