@@ -1,9 +1,9 @@
 -- What holds of each glyph whose layers are read: the limits that the readers above rely on.
-use Rattle.std.proofs.Common.{◌≡◌, ℕ, ◌<◌, ◌≤◌, Bool, true, false, ◌&&◌, List, [], ◌∷◌, ◌++◌, length, map, Option, Some, None, Result, Ok, Err, refl, sym, ◌∙◌, subst, arith, take, drop, ◌-◌}
-use Rattle.std.specs.Prelude.{codes, is_some, flat_map, pos, ◌≤ℤ◌, if◌then◌else◌, ◌==◌, IfOk}
-use Rattle.std.specs.List.{All, AllByRecursion}
+use Rattle.std.proofs.Common.{◌≡◌, ℕ, ◌<◌, ◌≤◌, Bool, true, false, ◌&&◌, List, [], ◌∷◌, ◌++◌, length, get_or, map, Option, Some, None, Result, Ok, Err, refl, sym, ◌∙◌, subst, arith, take, drop, ◌-◌}
+use Rattle.std.specs.Prelude.{◌*◌, codes, is_some, flat_map, pos, neg_ℤ, ◌≤ℤ◌, if◌then◌else◌, ◌==◌, slice_index, IfOk}
+use Rattle.std.specs.List.{All, AllByRecursion, count_by}
 use Rattle.std.specs.Option.{option_map_or}
-use Rattle.std.proofs.lemmas.List.Elements.{All-from_recursion}
+use Rattle.std.proofs.lemmas.List.Elements.{All-from_recursion, All-nil, All-map}
 use Rattle.std.proofs.lemmas.Bool.{eqb-false}
 use Rattle.std.proofs.lemmas.Bool.Decides.{nat_tests}
 use Rattle.std.proofs.lemmas.List.{length-map, length-append, length-drop, length-take}
@@ -12,23 +12,26 @@ use Rattle.plist_reader.specs.declared.tree.Tree.{Tree}
 use Rattle.fixed_math.specs.declared.F2Dot14.{F2Dot14}
 use Rattle.font_ir.specs.declared.header.Header.{Header}
 use Rattle.font_ir.specs.declared.header.Master.{Master}
-use Rattle.font_ir.specs.declared.glyph.Shape.TheVariants.{Path}
+use Rattle.font_ir.specs.declared.glyph.Anchor.{Anchor}
+use Rattle.font_ir.specs.declared.glyph.Shape.{Shape}
+use Rattle.font_ir.specs.declared.glyph.Shape.TheVariants.{Path, Component}
 use Rattle.font_ir.specs.declared.glyph.LayerIr.{LayerIr}
 use Rattle.font_ir.specs.declared.glyph.GlyphIr.{GlyphIr}
-use Rattle.font_ir.specs.FlatGlyphs.{AreGlyphPlaces}
-use Rattle.font_ir.specs.ReadGlyphs.{IsReadGlyph, HasNoComponents, HasNoAnchors, HasPoints, IsPath}
+use Rattle.font_ir.specs.FlatGlyphs.{IsSmall, IsSmallFixed, IsSmallPoint, AreGlyphPlaces}
+use Rattle.font_ir.specs.ReadGlyphs.{IsReadGlyph, HasNoComponents, HasNoAnchors, HasPoints, IsInRange, is_component, IsPath}
 use Rattle.refusal_codes.specs.declared.errors.ReadError.{ReadError}
 use Rattle.refusal_codes.specs.declared.first.Failure.{Failure}
 use Rattle.refusal_codes.specs.First.{first_of, foremost, refusal_of}
 use Rattle.refusal_codes.specs.Gives.{Gives}
 use Rattle.refusal_codes.proofs.JudgedLaws.{judged_ok}
 use Rattle.glyphs_source.specs.declared.decimals.Decimal.{Decimal}
+use Rattle.glyphs_source.specs.declared.values.Range.TheVariants.{Coordinate}
 use Rattle.glyphs_source.specs.Decimals.{is_whole, is_natural_in}
 use Rattle.plist_reader.specs.Tree.{find_in}
-use Rattle.glyphs_source.specs.Values.{place_at, decimal_at, natural_by, natural_in, natural_or, items_under}
+use Rattle.glyphs_source.specs.Values.{place_at, items_at, decimal_at, in_range, natural_by, natural_in, natural_or, items_under}
 use Rattle.glyphs_source.specs.HeaderReading.{header_of, master_record}
 use Rattle.glyphs_layers.specs.LayerRules.{layer_numbers, layer_of, glyph_failures, glyph_whole_failures}
-use Rattle.glyphs_layers.specs.LayerReading.{contour_of, path_of, shapes_of, layer_record, glyph_record, glyph_of, point_of, last_first}
+use Rattle.glyphs_layers.specs.LayerReading.{coordinate_by, coordinate_of, point_by, contour_of, path_of, shapes_of, layer_record, glyph_record, glyph_of, point_of, last_first}
 use Rattle.glyphs_source.proofs.HeaderLaws.{header-masters, master_record-location}
 
 -- ---- single layers
@@ -45,6 +48,39 @@ number_small : (t : Tree) (o : Option ℕ) → option_map_or (natural_in 0 32767
 unfolding natural_in
 number_small t None = omega arith
 number_small t (Some n) = natural_small 0 32767 (decimal_at t n) (omega arith)
+
+-- a coordinate is within 16383 units, in 16.16
+signed_range : (negative : Bool) (n : ℕ) → n ≤ 16383 → IsSmallFixed (record { 0 = if negative then neg_ℤ (pos (65536 * n)) else pos (65536 * n) })
+signed_range true n le = (omega (arith, ints), omega (arith, ints))
+signed_range false n le = (omega (arith, ints), omega (arith, ints))
+
+coordinate_range : (o : Option Decimal) → IsSmallFixed (record { 0 = coordinate_by o })
+coordinate_range None = (omega (arith, ints), omega (arith, ints))
+coordinate_range (Some d) = chosen (is_whole d && in_range Coordinate d) refl
+  where
+    chosen : (b : Bool) → (is_whole d && in_range Coordinate d) ≡ b → IsSmallFixed (record { 0 = if b then (if d.negative then neg_ℤ (pos (65536 * d.whole)) else pos (65536 * d.whole)) else pos 0 })
+    chosen true e = signed_range d.negative d.whole (grind (arith, nat_tests))
+    chosen false e = (omega (arith, ints), omega (arith, ints))
+
+parts_range : (t : Tree) (parts : List ℕ) → IsSmallPoint (point_by t parts)
+unfolding coordinate_of
+parts_range t parts = (coordinate_range (decimal_at t (slice_index parts 0)), coordinate_range (decimal_at t (slice_index parts 1)))
+
+point_range : (t : Tree) (o : Option (List ℕ)) → IsSmallPoint (option_map_or (point_by t) o (point_by t []))
+point_range t None = parts_range t []
+point_range t (Some parts) = parts_range t parts
+
+points_range : (t : Tree) (nodes : List ℕ) → All IsSmallPoint (map (point_of t) nodes)
+unfolding point_of
+points_range t nodes = All-map IsSmallPoint (point_of t) nodes (λ k d within. point_range t (items_at t (get_or nodes k d)))
+
+path_range : (t : Tree) (nodes : List ℕ) → AllByRecursion IsInRange (path_of t nodes)
+unfolding contour_of
+path_range t nodes = chosen (length nodes == 0)
+  where
+    chosen : (b : Bool) → AllByRecursion IsInRange (if b then [] else Path (contour_of t nodes) ∷ [])
+    chosen true = tt
+    chosen false = (points_range t (last_first nodes), tt)
 
 -- a path that stands has points
 points_there : (t : Tree) (nodes : List ℕ) → (length nodes == 0) ≡ false → 0 < length (map (point_of t) (last_first nodes))
@@ -82,6 +118,17 @@ unfolding shapes_of
 shapes_plain t [] = tt
 shapes_plain t (n ∷ ns) = all_append IsPath _ _ (path_plain t (items_under t n (codes "nodes"))) (shapes_plain t ns)
 
+shapes_range : (t : Tree) (ns : List ℕ) → AllByRecursion IsInRange (flat_map (shapes_of t) ns)
+unfolding shapes_of
+shapes_range t [] = tt
+shapes_range t (n ∷ ns) = all_append IsInRange _ _ (path_range t (items_under t n (codes "nodes"))) (shapes_range t ns)
+
+-- paths are no components
+no_components : (shapes : List Shape) → AllByRecursion IsPath shapes → count_by is_component shapes ≡ 0
+no_components [] h = refl
+no_components (Path contour ∷ shapes) h = omega (arith, no_components shapes h.1)
+no_components (Component base at scale quarters ∷ shapes) h = absurd h.0
+
 -- ---- a glyph at one place
 
 origin_alone : AreGlyphPlaces ([] ∷ [])
@@ -116,6 +163,20 @@ layer_paths : (t : Tree) (n : ℕ) → All IsPath (layer_record t n).shapes
 unfolding layer_record
 layer_paths t n = All-from_recursion IsPath _ (shapes_plain t (items_under t n (codes "shapes")))
 
+layer_range : (t : Tree) (n : ℕ) → All IsInRange (layer_record t n).shapes
+unfolding layer_record
+layer_range t n = All-from_recursion IsInRange _ (shapes_range t (items_under t n (codes "shapes")))
+
+layer_components : (t : Tree) (n : ℕ) → count_by is_component (layer_record t n).shapes ≤ 256
+unfolding layer_record
+layer_components t n =
+    let ns = items_under t n (codes "shapes") in
+    omega (arith, no_components (flat_map (shapes_of t) ns) (shapes_plain t ns))
+
+layer_anchors : (t : Tree) (n : ℕ) → All (λ (anchor : Anchor). IsSmall anchor.x × IsSmall anchor.y) (layer_record t n).anchors
+unfolding layer_record
+layer_anchors t n = All-nil (λ (anchor : Anchor). IsSmall anchor.x × IsSmall anchor.y)
+
 layer_bare : (t : Tree) (n : ℕ) → length (layer_record t n).anchors ≡ 0
 unfolding layer_record
 layer_bare t n = refl
@@ -130,6 +191,10 @@ one_layer_facts t number place n = record {
     one_form = λ i j d below within. absurd (omega arith);
     widths = All-from_recursion (λ (layer : LayerIr). (pos 0 ≤ℤ layer.width) × (layer.width ≤ℤ pos 32767)) (layer_record t n ∷ []) (width_range t n, tt);
     points = All-from_recursion (λ (layer : LayerIr). All HasPoints layer.shapes) (layer_record t n ∷ []) (layer_points t n, tt);
+    ranges = All-from_recursion (λ (layer : LayerIr). All IsInRange layer.shapes) (layer_record t n ∷ []) (layer_range t n, tt);
+    few_components = All-from_recursion (λ (layer : LayerIr). count_by is_component layer.shapes ≤ 256) (layer_record t n ∷ []) (layer_components t n, tt);
+    small_anchors =
+        All-from_recursion (λ (layer : LayerIr). All (λ (anchor : Anchor). IsSmall anchor.x × IsSmall anchor.y) layer.anchors) (layer_record t n ∷ []) (layer_anchors t n, tt);
   };
   components = All-from_recursion (λ (layer : LayerIr). All IsPath layer.shapes) (layer_record t n ∷ []) (layer_paths t n, tt);
   anchors = All-from_recursion (λ (layer : LayerIr). length layer.anchors ≡ 0) (layer_record t n ∷ []) (layer_bare t n, tt);

@@ -1,6 +1,6 @@
 -- What a glyph's layers say (Glyphs file format, version 3; that the last node stored is where a contour starts is fontc's
 -- own reading).
-use Rattle.std.specs.Prelude.{ℕ, ◌-◌, ◌*◌, ◌&&◌, ◌==◌, nat_le, true, List, [], ◌∷◌, ◌++◌, length, take, drop, map, flat_map, slice_index, codes, Option, Some, None, Result, ℤ, pos, neg_ℤ, if◌then◌else◌}
+use Rattle.std.specs.Prelude.{ℕ, ◌-◌, ◌*◌, ◌&&◌, ◌==◌, true, List, [], ◌∷◌, ◌++◌, length, take, drop, map, flat_map, slice_index, codes, Option, Some, None, Result, ℤ, pos, neg_ℤ, if◌then◌else◌}
 use Rattle.std.specs.Option.{option_map_or}
 use Rattle.plist_reader.specs.declared.tree.Tree.{Tree}
 use Rattle.fixed_math.specs.declared.Fixed.{Fixed}
@@ -14,15 +14,16 @@ use Rattle.font_ir.specs.declared.header.Master.{Master}
 use Rattle.refusal_codes.specs.declared.refusal.Refusal.{Refusal}
 use Rattle.refusal_codes.specs.First.{first_of, foremost, refusal_of, judged}
 use Rattle.glyphs_source.specs.declared.decimals.Decimal.{Decimal}
+use Rattle.glyphs_source.specs.declared.values.Range.TheVariants.{Coordinate}
 use Rattle.glyphs_source.specs.Decimals.{is_whole}
-use Rattle.glyphs_source.specs.Values.{place_at, items_at, decimal_at, natural_or, items_under}
+use Rattle.glyphs_source.specs.Values.{place_at, items_at, decimal_at, in_range, natural_or, items_under}
 use Rattle.glyphs_layers.specs.LayerRules.{layer_numbers, layer_of, glyph_failures, glyph_whole_failures}
 
 -- a coordinate in 16.16: the whole number times 65536, 0 where the value is no coordinate
 abbrev pub coordinate_by : Option Decimal → ℤ
 coordinate_by None = pos 0
 coordinate_by (Some d) =
-    if is_whole d && nat_le d.whole 16383
+    if is_whole d && in_range Coordinate d
     then (if d.negative then neg_ℤ (pos (65536 * d.whole)) else pos (65536 * d.whole))
     else pos 0
 

@@ -6,7 +6,7 @@ ghost use Rattle.glyphs_layers.specs.LayerReading.{coordinate_of, point_of, poin
 use crate::layer_rules::layer_of;
 use fixed_math::Fixed;
 use font_ir::{Contour, DrawnPoint, LayerIr, Master, Shape};
-use glyphs_source::{decimal_at, items_at, items_under, natural_or};
+use glyphs_source::{Range, decimal_at, items_at, items_under, natural_or};
 use plain_lists::Sequence;
 use plist_reader::Tree;
 use std::alloc::{AllocError, Global};
@@ -138,7 +138,7 @@ fn coordinate(tree: &Tree, number: u32) -> Fixed
 {
     match decimal_at(tree, number) {
         Some(decimal) => {
-            if decimal.billionths == 0 && decimal.whole <= 16383 {
+            if decimal.billionths == 0 && Range::Coordinate.holds(&decimal) {
                 let size = (65536 * decimal.whole) as i32;
                 Fixed(if decimal.negative { -size } else { size })
             } else {
