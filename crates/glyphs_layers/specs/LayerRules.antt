@@ -1,6 +1,7 @@
 -- The rules that a glyph's layers may fail (Glyphs file format, version 3; the rules are fontc's own). A glyph has a list
--- of layers, and each master's layer is the first one that names the master. The other layers are ignored with all that
--- they hold. A form that isn't built is of a wrong shape, and a value of a wrong shape isn't looked into further.
+-- of layers, and each master's layer is the first one that names the master. Each layer must be a dictionary, and its
+-- `layerId` a text where it has one; all else that a layer of no master holds is ignored. A form that isn't built is of a
+-- wrong shape, and a value of a wrong shape isn't looked into further.
 use Rattle.std.specs.Prelude.{ℕ, Bool, ◌||◌, ◌==◌, is_some, List, [], ◌++◌, length, slice_index, flat_map, codes, Option, Some, None, option_and_then, if◌then◌else◌}
 use Rattle.std.specs.Option.{option_map_or}
 use Rattle.std.specs.List.{find, list_all}

@@ -15,10 +15,13 @@ use plist_reader::Tree;
 use refusal_codes::{Failure, FirstFailure, ReadError};
 use std::alloc::{AllocError, Global};
 
-/// The layers of the glyph with this number: one per master.
+/// The layers of the glyph with this number in the index: one per master.
+///
+/// The header and the index are those of the tree: the header is what `header` answers for it, and the glyph's dictionary is
+/// the one that its entry in the index names, so an index of another tree names another value.
 ///
 /// The error is the least failure by place, then by rule, of the rules of single values; where none of them fails, it is
-/// that a master has no layer, and stands at the glyph.
+/// that a master has no layer, and stands at the glyph. Or it is want of memory.
 pub fn raw_glyph(
     alloc: Global,
     tree: &Tree,
