@@ -3,34 +3,27 @@
 use Rattle.std.proofs.Common.{◌≡◌, ℕ, List, [], ◌∷◌, ◌++◌, map, take, replicate, Ok, Err, refl}
 use Rattle.std.specs.Prelude.{codes, true, Result, is_ok}
 use Rattle.std.specs.List.{flat_map}
-use lib.Utf8.{encode}
-use Rattle.std.specs.Str.{is_utf8, chars}
-use Rattle.std.specs.Str.Lossy.{utf8_valid_len}
 use Rattle.refusal_codes.specs.declared.refusal.Refusal.{Refusal}
 use Rattle.refusal_codes.specs.declared.rule.Rule.{Rule}
-use Rattle.refusal_codes.specs.declared.rule.Rule.TheVariants.{NotUtf8, UnexpectedByte, BadEscape, DuplicateKey, TooDeep, UnexpectedEnd, TrailingText, MissingKey, NotWhole, OutOfRange, DuplicateGlyph, CubicNode, OpenContour, CoordinateTooLarge, DuplicateUnicode}
-use Rattle.plist_reader.specs.Characters.{is_space, is_word, octal_value, hex_value, byte_of}
-use Rattle.plist_reader.specs.Escapes.{character_of, escape_begun, escape_unit, escape_digit, escape_next}
-use Rattle.plist_reader.specs.Reading.{start, value_ended, key_ended, text_ended, unexpected_rule, text_begun, bracket_opened, value_begun, list_closed, dictionary_closed, between, in_word, in_quoted, in_bytes, in_half, step, whole, finish, read_of}
-use Rattle.glyphs_source.specs.Decimals.{are_digits, digits_value, billionths_of, fraction_of, unsigned_of, decimal_of}
-use Rattle.glyphs_source.specs.Values.{decimal_at, whole_failures, text_failures, name_failures, empty_list_failures, empty_dictionary_failures, natural_in}
-use Rattle.glyphs_source.specs.HeaderReading.{version_failures, axis_value_failures, dictionary_failures, axis_values_failures, dictionaries_failures, master_parts_failures, master_failures, masters_failures, numbers_failures, design_forms_failures, feature_forms_failures, top_failures, header_failures, axis_count_failures, header_whole_failures, units_per_em, master_record, master_numbers, place_under, header_record, header_of}
-use Rattle.glyphs_source.specs.IndexReading.{codes_failures, glyph_parts_failures, glyphs_failures, index_failures, code_at, codes_at, glyph_codes, glyph_name, glyph_text, is_exported, entry_of, glyph_numbers, index_of, glyph_failures as all_glyph_failures}
-use Rattle.glyphs_layers.specs.LayerRules.{type_failures, node_parts_failures, node_failures, nodes_failures, closed_failures, other_shape_failures, shape_parts_failures, shape_failures, shapes_failures, layer_failures, entry_failures, entries_failures, layer_numbers, glyph_failures, glyph_whole_failures}
-use Rattle.glyphs_layers.specs.LayerReading.{coordinate_of, point_of, contour_of, shapes_of, layer_record, glyph_record, glyph_of}
-use Rattle.component_flatten.specs.Flattening.{flat_record, flat_of}
-use Rattle.font_assembly.specs.Checksum.{total}
-use Rattle.font_assembly.specs.File.{entry_selector, directory_head, directory_entry, unadjusted_file, file}
-use Rattle.metrics_tables.specs.Tables.{head_table, hhea_table, maxp_table}
-use Rattle.font_plan.specs.Font.{drawn_of, glyphs_in, written, tree_font, font_of}
+use Rattle.refusal_codes.specs.declared.rule.Rule.TheVariants.{NotUtf8, UnexpectedByte, BadEscape, DuplicateKey, TooDeep, UnexpectedEnd, TrailingText, MissingKey, NotWhole, OutOfRange, DuplicateGlyph, WrongVersion, NoMaster, AxisCount, MissingLayer, CubicNode, OpenContour, CoordinateTooLarge, DuplicateUnicode}
+use Rattle.font_plan.specs.Font.{font_of}
+use Rattle.font_plan.proofs.OnLiterals.{font_on_literals}
 
 abbrev lines : List (List ℕ) → List ℕ
 lines texts = flat_map (λ text. text ++ 10 ∷ []) texts
 
--- a source with one master: the lines of its glyphs, and those behind them
+-- a source: its format version, the lines of its masters and of its glyphs, and those behind them
+abbrev source_of : List ℕ → List (List ℕ) → List (List ℕ) → List (List ℕ) → List ℕ
+source_of version masters glyphs more =
+    lines ((codes "{" ∷ (codes ".formatVersion = " ++ version ++ codes ";") ∷ codes "familyName = Tri;" ∷ codes "fontMaster = (" ∷ masters) ++ codes ");" ∷ (codes "glyphs = (" ∷ glyphs) ++ codes ");" ∷ more ++ codes "}" ∷ [])
+
+-- a master: its id, and the lines behind it
+abbrev master : List ℕ → List (List ℕ) → List (List ℕ)
+master id more = codes "{" ∷ (codes "id = " ++ id ++ codes ";") ∷ more ++ codes "}" ∷ []
+
+-- a source of version 3 with one master: the lines of its glyphs, and those behind them
 abbrev source : List (List ℕ) → List (List ℕ) → List ℕ
-source glyphs more =
-    lines ((codes "{" ∷ codes ".formatVersion = 3;" ∷ codes "familyName = Tri;" ∷ codes "fontMaster = (" ∷ codes "{" ∷ codes "id = m1;" ∷ codes "}" ∷ codes ");" ∷ codes "glyphs = (" ∷ glyphs) ++ codes ");" ∷ more ++ codes "}" ∷ [])
+source glyphs more = source_of (codes "3") (master (codes "m1") []) glyphs more
 
 -- a glyph: its name, its contour's `closed` and second and third node, the lines behind its contours, and the line behind its
 -- layers
@@ -93,7 +86,7 @@ pub accepted : map font_of (
     ∷ thousand (behind_letter (own_notdef (codes "export = 0;")))
     ∷ thousand (behind_letter (glyph (codes "B") (codes "1") (codes "(500,0,l)") (codes "(250,700,c)") (codes "width = 900;" ∷ []) (codes "export = 0;")))
     ∷ []) ≡ replicate 7 (Ok triangle_font)
-unfolding is_utf8 chars utf8_valid_len encode is_space is_word octal_value hex_value byte_of character_of escape_begun escape_unit escape_digit escape_next start value_ended key_ended text_ended unexpected_rule text_begun bracket_opened value_begun list_closed dictionary_closed between in_word in_quoted in_bytes in_half step whole finish read_of are_digits digits_value billionths_of fraction_of unsigned_of decimal_of decimal_at whole_failures text_failures name_failures empty_list_failures empty_dictionary_failures natural_in version_failures axis_value_failures dictionary_failures axis_values_failures dictionaries_failures master_parts_failures master_failures masters_failures numbers_failures design_forms_failures feature_forms_failures top_failures header_failures axis_count_failures header_whole_failures units_per_em master_record master_numbers place_under header_record header_of codes_failures glyph_parts_failures glyphs_failures index_failures code_at codes_at glyph_codes glyph_name glyph_text is_exported entry_of glyph_numbers index_of type_failures node_parts_failures node_failures nodes_failures closed_failures other_shape_failures shape_parts_failures shape_failures shapes_failures layer_failures entry_failures entries_failures layer_numbers glyph_failures glyph_whole_failures coordinate_of point_of contour_of shapes_of layer_record glyph_record glyph_of flat_record flat_of total entry_selector directory_head directory_entry unadjusted_file file head_table hhea_table maxp_table drawn_of glyphs_in written tree_font font_of all_glyph_failures
+unfolding font_on_literals
 accepted = refl
 
 abbrev refusal : ℕ → ℕ → List ℕ → Rule → ℕ → Result (List ℕ) Refusal
@@ -117,7 +110,7 @@ pub fronts_refused : map font_of (
     ∷ of_text UnexpectedEnd 257
     ∷ of_text TrailingText 259
     ∷ []
-unfolding is_utf8 chars utf8_valid_len encode is_space is_word octal_value hex_value byte_of character_of escape_begun escape_unit escape_digit escape_next start value_ended key_ended text_ended unexpected_rule text_begun bracket_opened value_begun list_closed dictionary_closed between in_word in_quoted in_bytes in_half step whole finish read_of are_digits digits_value billionths_of fraction_of unsigned_of decimal_of decimal_at whole_failures text_failures name_failures empty_list_failures empty_dictionary_failures natural_in version_failures axis_value_failures dictionary_failures axis_values_failures dictionaries_failures master_parts_failures master_failures masters_failures numbers_failures design_forms_failures feature_forms_failures top_failures header_failures axis_count_failures header_whole_failures units_per_em master_record master_numbers place_under header_record header_of codes_failures glyph_parts_failures glyphs_failures index_failures code_at codes_at glyph_codes glyph_name glyph_text is_exported entry_of glyph_numbers index_of type_failures node_parts_failures node_failures nodes_failures closed_failures other_shape_failures shape_parts_failures shape_failures shapes_failures layer_failures entry_failures entries_failures layer_numbers glyph_failures glyph_whole_failures coordinate_of point_of contour_of shapes_of layer_record glyph_record glyph_of flat_record flat_of total entry_selector directory_head directory_entry unadjusted_file file head_table hhea_table maxp_table drawn_of glyphs_in written tree_font font_of all_glyph_failures
+unfolding font_on_literals
 fronts_refused = refl
 
 -- text behind a dictionary, a key that stands twice, an escape that is none, a list without an end, a key without a value, a
@@ -129,7 +122,7 @@ pub texts_refused : map font_of (
     ∷ codes "{a=(1,2"
     ∷ codes "{a=;}"
     ∷ (255 ∷ [])
-    ∷ replicate 75 40
+    ∷ replicate 65 40
     ∷ codes "{}"
     ∷ []) ≡
     of_text TrailingText 9
@@ -141,7 +134,7 @@ pub texts_refused : map font_of (
     ∷ of_text TooDeep 64
     ∷ refusal 0 1 [] MissingKey 0
     ∷ []
-unfolding is_utf8 chars utf8_valid_len encode is_space is_word octal_value hex_value byte_of character_of escape_begun escape_unit escape_digit escape_next start value_ended key_ended text_ended unexpected_rule text_begun bracket_opened value_begun list_closed dictionary_closed between in_word in_quoted in_bytes in_half step whole finish read_of are_digits digits_value billionths_of fraction_of unsigned_of decimal_of decimal_at whole_failures text_failures name_failures empty_list_failures empty_dictionary_failures natural_in version_failures axis_value_failures dictionary_failures axis_values_failures dictionaries_failures master_parts_failures master_failures masters_failures numbers_failures design_forms_failures feature_forms_failures top_failures header_failures axis_count_failures header_whole_failures units_per_em master_record master_numbers place_under header_record header_of codes_failures glyph_parts_failures glyphs_failures index_failures code_at codes_at glyph_codes glyph_name glyph_text is_exported entry_of glyph_numbers index_of type_failures node_parts_failures node_failures nodes_failures closed_failures other_shape_failures shape_parts_failures shape_failures shapes_failures layer_failures entry_failures entries_failures layer_numbers glyph_failures glyph_whole_failures coordinate_of point_of contour_of shapes_of layer_record glyph_record glyph_of flat_record flat_of total entry_selector directory_head directory_entry unadjusted_file file head_table hhea_table maxp_table drawn_of glyphs_in written tree_font font_of all_glyph_failures
+unfolding font_on_literals
 texts_refused = refl
 
 -- an em of 15 units, a name that stands twice and a code that does
@@ -154,8 +147,27 @@ pub parts_refused : map font_of (
     ∷ refusal 0 2 [] DuplicateGlyph 237
     ∷ refusal 0 2 [] DuplicateUnicode 237
     ∷ []
-unfolding is_utf8 chars utf8_valid_len encode is_space is_word octal_value hex_value byte_of character_of escape_begun escape_unit escape_digit escape_next start value_ended key_ended text_ended unexpected_rule text_begun bracket_opened value_begun list_closed dictionary_closed between in_word in_quoted in_bytes in_half step whole finish read_of are_digits digits_value billionths_of fraction_of unsigned_of decimal_of decimal_at whole_failures text_failures name_failures empty_list_failures empty_dictionary_failures natural_in version_failures axis_value_failures dictionary_failures axis_values_failures dictionaries_failures master_parts_failures master_failures masters_failures numbers_failures design_forms_failures feature_forms_failures top_failures header_failures axis_count_failures header_whole_failures units_per_em master_record master_numbers place_under header_record header_of codes_failures glyph_parts_failures glyphs_failures index_failures code_at codes_at glyph_codes glyph_name glyph_text is_exported entry_of glyph_numbers index_of type_failures node_parts_failures node_failures nodes_failures closed_failures other_shape_failures shape_parts_failures shape_failures shapes_failures layer_failures entry_failures entries_failures layer_numbers glyph_failures glyph_whole_failures coordinate_of point_of contour_of shapes_of layer_record glyph_record glyph_of flat_record flat_of total entry_selector directory_head directory_entry unadjusted_file file head_table hhea_table maxp_table drawn_of glyphs_in written tree_font font_of all_glyph_failures
+unfolding font_on_literals
 parts_refused = refl
+
+-- the letter's source with another version or other masters
+abbrev letter_under : List ℕ → List (List ℕ) → List ℕ
+letter_under version masters = source_of version masters letter (codes "unitsPerEm = 1000;" ∷ [])
+
+-- version 2, no master, a master with a coordinate although there is no axis, and a master of which the letter has no layer
+pub masters_refused : map font_of (
+    letter_under (codes "2") (master (codes "m1") [])
+    ∷ letter_under (codes "3") []
+    ∷ letter_under (codes "3") (master (codes "m1") (codes "axesValues = (" ∷ codes "1" ∷ codes ");" ∷ []))
+    ∷ letter_under (codes "3") (master (codes "m2") [])
+    ∷ []) ≡
+    refusal 0 1 [] WrongVersion 19
+    ∷ refusal 0 1 [] NoMaster 53
+    ∷ refusal 0 1 [] AxisCount 55
+    ∷ of_letter MissingLayer 82
+    ∷ []
+unfolding font_on_literals
+masters_refused = refl
 
 -- a cubic node, an open contour, no width, a fraction and a coordinate that is too large
 pub glyphs_refused : map font_of (
@@ -171,10 +183,10 @@ pub glyphs_refused : map font_of (
     ∷ of_letter NotWhole 171
     ∷ of_letter CoordinateTooLarge 171
     ∷ []
-unfolding is_utf8 chars utf8_valid_len encode is_space is_word octal_value hex_value byte_of character_of escape_begun escape_unit escape_digit escape_next start value_ended key_ended text_ended unexpected_rule text_begun bracket_opened value_begun list_closed dictionary_closed between in_word in_quoted in_bytes in_half step whole finish read_of are_digits digits_value billionths_of fraction_of unsigned_of decimal_of decimal_at whole_failures text_failures name_failures empty_list_failures empty_dictionary_failures natural_in version_failures axis_value_failures dictionary_failures axis_values_failures dictionaries_failures master_parts_failures master_failures masters_failures numbers_failures design_forms_failures feature_forms_failures top_failures header_failures axis_count_failures header_whole_failures units_per_em master_record master_numbers place_under header_record header_of codes_failures glyph_parts_failures glyphs_failures index_failures code_at codes_at glyph_codes glyph_name glyph_text is_exported entry_of glyph_numbers index_of type_failures node_parts_failures node_failures nodes_failures closed_failures other_shape_failures shape_parts_failures shape_failures shapes_failures layer_failures entry_failures entries_failures layer_numbers glyph_failures glyph_whole_failures coordinate_of point_of contour_of shapes_of layer_record glyph_record glyph_of flat_record flat_of total entry_selector directory_head directory_entry unadjusted_file file head_table hhea_table maxp_table drawn_of glyphs_in written tree_font font_of all_glyph_failures
+unfolding font_on_literals
 glyphs_refused = refl
 
 -- the greatest coordinate
 pub greatest_accepted : is_ok (font_of (thousand (letter_with (codes "1") (codes "(16383,0,l)") (codes "(250,700,l)") (codes "width = 500;" ∷ [])))) ≡ true
-unfolding is_utf8 chars utf8_valid_len encode is_space is_word octal_value hex_value byte_of character_of escape_begun escape_unit escape_digit escape_next start value_ended key_ended text_ended unexpected_rule text_begun bracket_opened value_begun list_closed dictionary_closed between in_word in_quoted in_bytes in_half step whole finish read_of are_digits digits_value billionths_of fraction_of unsigned_of decimal_of decimal_at whole_failures text_failures name_failures empty_list_failures empty_dictionary_failures natural_in version_failures axis_value_failures dictionary_failures axis_values_failures dictionaries_failures master_parts_failures master_failures masters_failures numbers_failures design_forms_failures feature_forms_failures top_failures header_failures axis_count_failures header_whole_failures units_per_em master_record master_numbers place_under header_record header_of codes_failures glyph_parts_failures glyphs_failures index_failures code_at codes_at glyph_codes glyph_name glyph_text is_exported entry_of glyph_numbers index_of type_failures node_parts_failures node_failures nodes_failures closed_failures other_shape_failures shape_parts_failures shape_failures shapes_failures layer_failures entry_failures entries_failures layer_numbers glyph_failures glyph_whole_failures coordinate_of point_of contour_of shapes_of layer_record glyph_record glyph_of flat_record flat_of total entry_selector directory_head directory_entry unadjusted_file file head_table hhea_table maxp_table drawn_of glyphs_in written tree_font font_of all_glyph_failures
+unfolding font_on_literals
 greatest_accepted = refl

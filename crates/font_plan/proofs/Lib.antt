@@ -1,6 +1,7 @@
 pub mod AcceptedLaws
 pub mod DrawnLaws
 pub mod Names
+pub mod OnLiterals
 pub mod Steps
 pub mod TableLaws
 pub mod TooLarge
