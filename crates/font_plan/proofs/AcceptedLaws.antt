@@ -1,6 +1,6 @@
 -- A source is accepted exactly where each of its parts is.
 use Rattle.std.proofs.Common.{◌≡◌, ℕ, ◌≤◌, Bool, true, false, List, length, Option, Some, None, Result, Ok, Err, nat_lt, ap, refl, sym, ◌∙◌, arith}
-use Rattle.std.specs.Prelude.{min, if◌then◌else◌}
+use Rattle.std.specs.Prelude.{min, codes, if◌then◌else◌}
 use Rattle.std.proofs.lemmas.Bool.Decides.{nat_tests}
 use Rattle.refusal_codes.specs.declared.refusal.Refusal.{Refusal}
 use Rattle.refusal_codes.specs.Gives.{◌>>=◌}
@@ -9,10 +9,12 @@ use Rattle.plist_reader.proofs.GivenTexts.{given}
 use Rattle.plist_reader.proofs.OneAnswer.{tree-of}
 use Rattle.glyphs_source.specs.HeaderReading.{header_of}
 use Rattle.glyphs_source.specs.IndexReading.{index_of}
+use Rattle.font_ir.specs.Tables.{over_limit}
+use Rattle.font_ir.proofs.TableLemmas.{is_within}
 use Rattle.glyf_writer.specs.Tables as outlines
 use Rattle.font_assembly.specs.File.{Table, file, file_len}
 use Rattle.font_plan.specs.Accepted.{IsFontOf}
-use Rattle.font_plan.specs.Font.{source_too_large, too_many_glyphs, font_too_large, glyphs_in, parts_of, tables_of, filed, filed_unless, written, glyphs_font, tree_font, font_of}
+use Rattle.font_plan.specs.Font.{source_too_large, too_many_glyphs, table_too_large, font_too_large, glyphs_in, parts_of, tables_of, unless_too_large, filed, written, glyphs_font, tree_font, font_of}
 
 -- what was passed on, and what came of it
 record Passed {A B : Type 0} (given : Result A Refusal) (next : A → Result B Refusal) (made : B) : Type 0 where
@@ -32,17 +34,25 @@ within limit n refusal otherwise made e = chosen (nat_lt limit n) refl e
     chosen true is f = absurd cc
     chosen false is f = (grind (arith, nat_tests), f)
 
-unless : (too_large : Option ℕ) (tables : List Table) (font : List ℕ) → filed_unless too_large tables ≡ Ok font → (too_large ≡ None) × (filed tables ≡ Ok font)
-unless (Some n) tables font e = absurd cc
-unless None tables font e = (refl, e)
+unless : (refused : ℕ → Refusal) (too_large : Option ℕ) (answer : Result (List ℕ) Refusal) (font : List ℕ) → unless_too_large refused too_large answer ≡ Ok font → (too_large ≡ None) × (answer ≡ Ok font)
+unless refused (Some n) answer font e = absurd cc
+unless refused None answer font e = (refl, e)
+
+-- a length that isn't over the limit
+small : (n : ℕ) → over_limit n ≡ None → n ≤ 4294967295
+small n e = chosen (nat_lt 4294967295 n) refl e
+  where
+    chosen : (b : Bool) → nat_lt 4294967295 n ≡ b → (if b then Some (min n 18446744073709551615) else None) ≡ None → n ≤ 4294967295
+    chosen true is f = absurd cc
+    chosen false is f = grind (arith, nat_tests)
 
 same_file : (made font : List ℕ) (answer : Result (List ℕ) Refusal) → answer ≡ Ok made → answer ≡ Ok font → font ≡ made
 same_file made font answer e f = let same : font ≡ made = cc in same
 
 fitting : (tables : List Table) (font : List ℕ) → filed tables ≡ Ok font → (file_len tables ≤ 4294967295) × (font ≡ file tables)
 fitting tables font e =
-    let fits = within 4294967295 (file_len tables) (font_too_large (min (file_len tables) 18446744073709551615)) (Ok (file tables)) font e in
-    (fits.0, same_file (file tables) font (Ok (file tables)) refl fits.1)
+    let fits = unless font_too_large (over_limit (file_len tables)) (Ok (file tables)) font e in
+    (small (file_len tables) fits.0, same_file (file tables) font (Ok (file tables)) refl fits.1)
 
 pub accepted_font : (source font : List ℕ) → font_of source ≡ Ok font → IsFontOf source font
 unfolding font_of tree_font written
@@ -53,7 +63,7 @@ accepted_font source font e =
     let index = passed (index_of tree.value) (λ index. (glyphs_in tree.value header.value index >>= glyphs_font header.value)) font header.rest in
     let glyphs = passed (glyphs_in tree.value header.value index.value) (glyphs_font header.value) font index.rest in
     let few = within 65535 (length glyphs.value) (too_many_glyphs (length glyphs.value)) (written header.value glyphs.value) font glyphs.rest in
-    let tables = unless (outlines.too_large (parts_of header.value glyphs.value)) (tables_of header.value glyphs.value) font few.1 in
+    let tables = unless (table_too_large (codes "glyf")) (outlines.too_large (parts_of header.value glyphs.value)) (filed (tables_of header.value glyphs.value)) font few.1 in
     let fits = fitting (tables_of header.value glyphs.value) font tables.1 in
     record {
       tree = tree.value;
@@ -76,6 +86,9 @@ below limit n refusal otherwise few =
     let is : nat_lt limit n ≡ false = grind (arith, nat_tests) in
     ap (λ (b : Bool). if b then Err refusal else otherwise) is
 
+fits : (n : ℕ) → n ≤ 4294967295 → over_limit n ≡ None
+fits n few = is_within n (min n 18446744073709551615) refl (omega arith)
+
 pub font_accepted : (source font : List ℕ) → IsFontOf source font → font_of source ≡ Ok font
 unfolding font_of tree_font written
 font_accepted source font f =
@@ -85,6 +98,6 @@ font_accepted source font f =
     ∙ ap (λ index. index >>= λ index. (glyphs_in f.tree f.header index >>= glyphs_font f.header)) f.index_read
     ∙ ap (λ glyphs. glyphs >>= glyphs_font f.header) f.drawn
     ∙ below 65535 (length f.glyphs) (too_many_glyphs (length f.glyphs)) (written f.header f.glyphs) f.few_glyphs
-    ∙ ap (λ too_large. filed_unless too_large (tables_of f.header f.glyphs)) f.tables_fit
-    ∙ below 4294967295 (file_len (tables_of f.header f.glyphs)) (font_too_large (min (file_len (tables_of f.header f.glyphs)) 18446744073709551615)) (Ok (file (tables_of f.header f.glyphs))) f.file_fits
+    ∙ ap (λ too_large. unless_too_large (table_too_large (codes "glyf")) too_large (filed (tables_of f.header f.glyphs))) f.tables_fit
+    ∙ ap (λ too_large. unless_too_large font_too_large too_large (Ok (file (tables_of f.header f.glyphs)))) (fits (file_len (tables_of f.header f.glyphs)) f.file_fits)
     ∙ ap Ok (sym f.is_file)

@@ -2,7 +2,7 @@
 --
 -- The parts are defined in the crates that read and write them. Here they are joined: each part is made of those before it, and
 -- the first that refuses the source refuses it all.
-use Rattle.std.specs.Prelude.{ℕ, ◌+◌, min, Bool, false, not, ◌&&◌, List, [], ◌∷◌, ◌++◌, length, map, nat_lt, nat_eq, codes, Option, Some, None, Result, Ok, Err, if◌then◌else◌}
+use Rattle.std.specs.Prelude.{ℕ, ◌+◌, Bool, false, not, ◌&&◌, List, [], ◌∷◌, ◌++◌, length, map, nat_lt, nat_eq, codes, Option, Some, None, Result, Ok, Err, if◌then◌else◌}
 use Rattle.std.specs.Cmp.Lexicographic.{pointwise}
 use Rattle.refusal_codes.specs.declared.refusal.Refusal.{Refusal}
 use Rattle.refusal_codes.specs.declared.rule.Rule.TheVariants.{TooLarge, TooManyGlyphs, TableTooLarge}
@@ -20,6 +20,7 @@ use Rattle.glyphs_layers.specs.LayerReading.{glyph_of}
 use Rattle.component_flatten.specs.Flattening.{flat_of}
 use Rattle.glyf_writer.specs.GlyphData.{simple_data}
 use Rattle.font_ir.specs.Outlines.{outline_at}
+use Rattle.font_ir.specs.Tables.{over_limit}
 use Rattle.glyf_writer.specs.Tables as outlines
 use Rattle.metrics_tables.specs.declared.measures.Measures.{Measures}
 use Rattle.metrics_tables.specs.Measuring.{measures_of}
@@ -116,17 +117,18 @@ abbrev pub tables_of : Header → List FlatGlyph → List Table
 tables_of header glyphs =
     tables_with header (measures_of header glyphs) (outlines.glyf_bytes (parts_of header glyphs)) (outlines.loca_bytes (parts_of header glyphs))
 
--- their file, where neither they nor it are too large. A length that is above the greatest of 64 bits is told as that one.
+-- an answer, unless a length is too large, which is refused so
+abbrev pub unless_too_large : (ℕ → Refusal) → Option ℕ → Result (List ℕ) Refusal → Result (List ℕ) Refusal
+unless_too_large refused (Some length) answer = Err (refused length)
+unless_too_large refused None answer = answer
+
+-- their file, where it is not too large
 abbrev pub filed : List Table → Result (List ℕ) Refusal
-filed tables =
-    if nat_lt 4294967295 (file_len tables) then Err (font_too_large (min (file_len tables) 18446744073709551615)) else Ok (file tables)
+filed tables = unless_too_large font_too_large (over_limit (file_len tables)) (Ok (file tables))
 
-abbrev pub filed_unless : Option ℕ → List Table → Result (List ℕ) Refusal
-filed_unless (Some length) tables = Err (table_too_large (codes "glyf") length)
-filed_unless None tables = filed tables
-
+-- and where none of them is
 unfoldable pub written : Header → List FlatGlyph → Result (List ℕ) Refusal
-written header glyphs = filed_unless (outlines.too_large (parts_of header glyphs)) (tables_of header glyphs)
+written header glyphs = unless_too_large (table_too_large (codes "glyf")) (outlines.too_large (parts_of header glyphs)) (filed (tables_of header glyphs))
 
 -- a font has at most 65,535 glyphs
 abbrev pub glyphs_font : Header → List FlatGlyph → Result (List ℕ) Refusal
