@@ -16,7 +16,7 @@ ghost use Rattle.font_plan.specs.Font.{written, filed, tables_with, parts_of, ta
 use font_assembly::assemble;
 use font_ir::{FlatGlyph, GlyphOrder, Header, TableError, Tag};
 use glyf_writer::{glyf_loca, simple_bytes};
-use metrics_tables::{Measures, head, hhea, hmtx, maxp, measure};
+use metrics_tables::{MeasureError, Measures, head, hhea, hmtx, maxp, measure};
 use plain_lists::Text;
 use refusal_codes::{CompileError, NoMemory, Refusal, Rule};
 use std::alloc::Global;
@@ -109,8 +109,9 @@ fn measured(
 {
     match measure(alloc, header, order, glyphs) {
         Ok(measures) => Ok(measures),
+        Err(MeasureError::NoMemory) => Err(NoMemory),
         // A font of one master has no deltas and no regions.
-        Err(_) => Err(NoMemory),
+        Err(MeasureError::TooLarge { .. } | MeasureError::Regions(_)) => unreachable!(),
     }
 }
 
