@@ -1,32 +1,28 @@
 -- How a run of a command ends, and what it leaves. fontc's own.
 use Rattle.std.specs.Prelude.{◌≡◌, ◌⊎◌, ℕ, List, take, Option, Some, None, Ok, Err, IfSome}
 use Rattle.outside_io.specs.Counts.{HasRisen, NoneRises}
-use Rattle.outside_io.specs.Files.{Holding, told_bytes, replaced_by, Leaves, LeavesOthers}
+use Rattle.outside_io.specs.Files.{Holding, told_bytes, replaced_by, Leaves, LeavesOthers, LeavesAll}
 use Rattle.refusal_codes.specs.declared.refusal.Refusal.{Refusal}
 use Rattle.font_plan.specs.Font.{font_of}
 use Rattle.fontc_cli.specs.Commands.{Build}
 use Rattle.fontc_cli.specs.declared.status.Status.{Status}
 use Rattle.fontc_cli.specs.declared.status.Status.TheVariants.{Done, Usage, Refused, ReadFault, WriteFault, NoMemory}
 
--- each path is as before
-abbrev pub LeavesEach : (List ℕ → Holding) → (List ℕ → Holding) → Type 0
-LeavesEach old new = (path : List ℕ) → Leaves (old path) (new path)
-
--- the font of what the source's path held, where the files tell it
-abbrev pub IsFontOf : Holding → List ℕ → Type 0
-IsFontOf source font = IfSome (told_bytes source) (λ bytes. font_of bytes ≡ Ok font)
+-- these bytes are the font of what the source's path held, where the files tell it
+abbrev pub HoldsFontOf : Holding → List ℕ → Type 0
+HoldsFontOf source font = IfSome (told_bytes source) (λ bytes. font_of bytes ≡ Ok font)
 
 -- The output holds exactly the font of what the source's path held, and every other path is as before.
 pub record IsBuilt (command : Build) (old new : List ℕ → Holding) : Type 0 where
   pub font : List ℕ
-  pub font_is : IsFontOf (old command.source) font
+  pub font_is : HoldsFontOf (old command.source) font
   pub output : Leaves (replaced_by font (old command.output)) (new command.output)
   pub others : LeavesOthers command.output old new
 
 -- The output is as before, or holds first bytes of the font that was to be written. Every other path is as before.
 pub record IsPartlyBuilt (command : Build) (old new : List ℕ → Holding) : Type 0 where
   pub font : List ℕ
-  pub font_is : IsFontOf (old command.source) font
+  pub font_is : HoldsFontOf (old command.source) font
   pub output : Leaves (old command.output) (new command.output)
       ⊎ ((n : ℕ) × Leaves (replaced_by (take n font) (old command.output)) (new command.output))
   pub others : LeavesOthers command.output old new
@@ -49,9 +45,14 @@ pub record Outside : Type 0 where
 abbrev pub outside : {D : Type 0} → (D → List ℕ → Holding) → (D → List ℕ → ℕ) → (D → List ℕ → ℕ) → D → Outside
 outside holds failed_reads failed_writes files = record { holds = holds files; failed_reads = failed_reads files; failed_writes = failed_writes files }
 
--- no path has changed, and no read and no write has failed
+-- a fact on the outsides that files are before and after a run
+abbrev pub Between : {D : Type 0} → (Outside → Outside → Type 0) → (D → List ℕ → Holding) → (D → List ℕ → ℕ) → (D → List ℕ → ℕ) → D → D → Type 0
+Between fact holds failed_reads failed_writes old new =
+    fact (outside holds failed_reads failed_writes old) (outside holds failed_reads failed_writes new)
+
+-- no path has changed, each is as far told as before, and no read and no write has failed
 pub record IsUntouched (old new : Outside) : Type 0 where
-  pub paths : LeavesEach old.holds new.holds
+  pub paths : LeavesAll old.holds new.holds
   pub reads : NoneRises old.failed_reads new.failed_reads
   pub writes : NoneRises old.failed_writes new.failed_writes
 
@@ -62,7 +63,7 @@ BuildEnds command Done old new =
     IsBuilt command old.holds new.holds × NoneRises old.failed_reads new.failed_reads × NoneRises old.failed_writes new.failed_writes
 BuildEnds command (Refused r) old new = IsUntouched old new × IsRefused (old.holds command.source) r
 BuildEnds command ReadFault old new =
-    LeavesEach old.holds new.holds × HasRisen (old.failed_reads command.source) (new.failed_reads command.source)
+    LeavesAll old.holds new.holds × HasRisen (old.failed_reads command.source) (new.failed_reads command.source)
     × NoneRises old.failed_writes new.failed_writes
 BuildEnds command WriteFault old new =
     IsPartlyBuilt command old.holds new.holds × NoneRises old.failed_reads new.failed_reads

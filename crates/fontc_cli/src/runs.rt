@@ -2,7 +2,7 @@ ghost use Rattle.std.specs.Prelude.{◌≡◌, ◌≤◌, map, length, IfSome};
 ghost use Rattle.std.specs.String.{string_bytes};
 ghost use Rattle.outside_io.specs.Files.{told_bytes};
 ghost use Rattle.fontc_cli.specs.Commands.{command_of};
-ghost use Rattle.fontc_cli.specs.Runs.{BuildEnds, RunEnds, IsComplete, outside};
+ghost use Rattle.fontc_cli.specs.Runs.{BuildEnds, RunEnds, IsComplete, Between};
 ghost use Rattle.fontc_cli.specs.Words.{shown};
 
 use crate::command::{BuildCommand, read_command};
@@ -28,8 +28,8 @@ pub fn run<F: Files, C: Console, G: Gate + Sync>(
     console: &mut C,
     _gate: &G,
 ) -> Report
-    ensures ends { RunEnds (command_of (map string_bytes words.now)) result.status (outside F.holds F.failed_reads F.failed_writes files.old) (outside F.holds F.failed_reads F.failed_writes files.new) }
-    ensures complete { IsComplete (command_of (map string_bytes words.now)) result.status (outside F.holds F.failed_reads F.failed_writes files.old) (outside F.holds F.failed_reads F.failed_writes files.new) }
+    ensures ends { Between (RunEnds (command_of (map string_bytes words.now)) result.status) F.holds F.failed_reads F.failed_writes files.old files.new }
+    ensures complete { Between (IsComplete (command_of (map string_bytes words.now)) result.status) F.holds F.failed_reads F.failed_writes files.old files.new }
     ensures silent { console.new ≡ console.old }
 {
     run_alone(alloc, words, files, console)
@@ -42,8 +42,8 @@ pub fn run_alone<F: Files, C: Console>(
     files: &mut F,
     _console: &mut C,
 ) -> Report
-    ensures ends { RunEnds (command_of (map string_bytes words.now)) result.status (outside F.holds F.failed_reads F.failed_writes files.old) (outside F.holds F.failed_reads F.failed_writes files.new) }
-    ensures complete { IsComplete (command_of (map string_bytes words.now)) result.status (outside F.holds F.failed_reads F.failed_writes files.old) (outside F.holds F.failed_reads F.failed_writes files.new) }
+    ensures ends { Between (RunEnds (command_of (map string_bytes words.now)) result.status) F.holds F.failed_reads F.failed_writes files.old files.new }
+    ensures complete { Between (IsComplete (command_of (map string_bytes words.now)) result.status) F.holds F.failed_reads F.failed_writes files.old files.new }
     ensures silent { _console.new ≡ _console.old }
 {
     let status = match read_command(words) {
@@ -55,7 +55,7 @@ pub fn run_alone<F: Files, C: Console>(
 
 /// Compiles the source at one path and writes its font to another.
 fn build<F: Files>(alloc: Global, command: BuildCommand<'_>, files: &mut F) -> Status
-    ensures { BuildEnds (shown command.entry) result (outside F.holds F.failed_reads F.failed_writes files.old) (outside F.holds F.failed_reads F.failed_writes files.new) }
+    ensures { Between (BuildEnds (shown command.entry) result) F.holds F.failed_reads F.failed_writes files.old files.new }
 {
     match read_whole(alloc, files, command.source, SOURCE_LIMIT) {
         Ok(source) => build_source(alloc, command, files, source.as_slice()),
@@ -74,7 +74,7 @@ fn build_source<F: Files>(
 ) -> Status
     requires fits { length source.now ≤ 67108864 }
     requires read { IfSome (told_bytes (F.holds files.old command.source.now)) (λ bytes. source.now ≡ bytes) }
-    ensures { BuildEnds (shown command.entry) result (outside F.holds F.failed_reads F.failed_writes files.old) (outside F.holds F.failed_reads F.failed_writes files.new) }
+    ensures { Between (BuildEnds (shown command.entry) result) F.holds F.failed_reads F.failed_writes files.old files.new }
 {
     match compile_one(alloc, source) {
         Ok(built) => match write_whole(files, command.output, built.font.as_slice()) {

@@ -1,5 +1,5 @@
 -- a source that is too long is refused for that
-use Rattle.std.proofs.Common.{◌≡◌, ℕ, ◌<◌, List, length, Option, Some, None, IfSome, Err, inr}
+use Rattle.std.proofs.Common.{◌≡◌, ℕ, ◌<◌, List, length, Option, Some, None, IfSome, Err}
 use Rattle.refusal_codes.specs.declared.refusal.Refusal.{Refusal}
 use Rattle.font_plan.specs.Font.{font_of}
 use Rattle.fontc_cli.proofs.runs.build.Goals as goal
@@ -11,7 +11,7 @@ refused_if_told (Some bytes) r refused long = refused bytes long
 pub returns-in-Err-TooLong : goal.returns-in-Err-TooLong
 returns-in-Err-TooLong g c = (
   record {
-    paths = λ path. inr (c.in-Err-TooLong.ensures.paths path);
+    paths = c.in-Err-TooLong.ensures.paths;
     reads = c.in-Err-TooLong.ensures.reads_ok (λ e. absurd cc);
     writes = c.in-Err-TooLong.ensures.writes;
   },
