@@ -13,7 +13,7 @@ mod tree;
 
 pub use nodes::Nodes;
 pub use source::{
-    one_front_is_the_longest, keys_lead_to_their_values, read, sources_have_one_answer,
+    keys_lead_to_their_values, one_front_is_the_longest, read, sources_have_one_answer,
     trees_are_unique, trees_stand_in_their_sources,
 };
 pub use tree::{NodeRef, Tree, TreeNode, TreeValue, ValueRef};
