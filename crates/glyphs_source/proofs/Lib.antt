@@ -1,4 +1,6 @@
 pub mod Examples
 pub mod HeaderLaws
 pub mod IndexLaws
+pub mod LocalRules
+pub mod RepeatLaws
 pub mod Repeating

@@ -1,4 +1,4 @@
-ghost use Rattle.std.specs.Prelude.{◌≡◌, ◌<◌, ◌^◌, ◌++◌, [], length, map, option_copied, option_map, slice_get, nat_eq, IfOk, None, false, ◌==◌, ◌∷◌};
+ghost use Rattle.std.specs.Prelude.{◌≡◌, ◌<◌, ◌^◌, ◌++◌, [], length, map, option_copied, option_map, slice_get, nat_eq, IfOk, IfErr, None, false, ◌==◌, ◌∷◌};
 ghost use Rattle.std.specs.Cmp.Lexicographic.{pointwise};
 ghost use Rattle.std.specs.Cmp.{partial_equiv_from_equiv};
 ghost use Rattle.plist_reader.specs.Tree.{IsTree};
@@ -7,6 +7,7 @@ ghost use Rattle.indexmap.specs.IndexMap.{values};
 ghost use Rattle.refusal_codes.specs.declared.errors.ReadError.TheVariants as read_errors;
 ghost use Rattle.refusal_codes.specs.First.{foremost, judged, refusal_of};
 ghost use Rattle.refusal_codes.specs.Gives.{Gives};
+ghost use Rattle.glyphs_source.specs.Repeats.{IsWithoutRepeats, TellsRepeatOf};
 ghost use Rattle.glyphs_source.specs.Same.{same_index, same_index_equiv};
 ghost use Rattle.glyphs_source.specs.IndexReading.{entries_from, glyph_numbers, glyph_name, entry_of, is_among, repeated_names, repeats, counting, repeated_codes, index_of};
 
@@ -91,8 +92,18 @@ impl Eq for GlyphIndex {
 /// The error is the least failure by place, then by rule, of the rules of single values; where none of them fails, it is
 /// the first glyph whose name an earlier one has, or else the first in which a code stands again among those exported.
 /// Where memory runs out, the error is that.
-#[tactic(auto, using(crate::proofs::IndexLaws::entries_from_length), unfolding(crate::specs::IndexReading::index_of))]
 pub fn glyph_index(alloc: Global, tree: &Tree) -> Result<GlyphIndex, ReadError>
+    requires { IsTree tree.now }
+    ensures entries { Gives (λ index. index) result (index_of tree.now) }
+    ensures few { IfOk result (λ index. length index < 2 ^ 32) }
+    ensures distinct { IfOk result IsWithoutRepeats }
+    ensures repeat { IfErr result (TellsRepeatOf tree.now) }
+{
+    read_index(alloc, tree)
+}
+
+#[tactic(auto, using(crate::proofs::IndexLaws::entries_from_length), unfolding(crate::specs::IndexReading::index_of))]
+fn read_index(alloc: Global, tree: &Tree) -> Result<GlyphIndex, ReadError>
     requires { IsTree tree.now }
     ensures entries { Gives (λ index. index) result (index_of tree.now) }
     ensures few { IfOk result (λ index. length index < 2 ^ 32) }
