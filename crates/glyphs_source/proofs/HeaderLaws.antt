@@ -1,18 +1,23 @@
--- A header that is read has one master, at no axis.
-use Rattle.std.proofs.Common.{◌≡◌, ℕ, ◌<◌, ◌^◌, Bool, true, false, List, [], ◌∷◌, ◌++◌, length, map, Option, Some, None, Ok, refl, sym, ap, ◌∙◌, subst, lit<}
+-- A header that is read has one master, at no axis, and its numbers are in their ranges.
+use Rattle.std.proofs.Common.{◌≡◌, ℕ, ◌+◌, ◌<◌, ◌≤◌, ◌*◌, ◌/◌, ◌^◌, pos, ◌-ℤ◌, ◌==◌, ◌&&◌, ◌||◌, not, cond, nat_le, Bool, true, false, List, [], ◌∷◌, ◌++◌, length, map, Option, Some, None, Ok, refl, sym, ap, ◌∙◌, subst, lit<, lit≤, arith}
 use Rattle.std.specs.Prelude.{codes, option_and_then, unwrap_or, if◌then◌else◌}
 use Rattle.std.specs.Option.{option_map_or}
+use Rattle.std.specs.List.{AllByRecursion}
+use Rattle.std.proofs.lemmas.Bool.Decides.{nat_tests}
+use Rattle.std.proofs.lemmas.Int.{ints}
 use Rattle.plist_reader.specs.declared.tree.Tree.{Tree}
 use Rattle.plist_reader.specs.Tree.{find_in}
 use Rattle.font_ir.specs.declared.header.Header.{Header}
 use Rattle.font_ir.specs.declared.header.Master.{Master}
 use Rattle.refusal_codes.specs.declared.first.Failure.{Failure}
-use Rattle.refusal_codes.specs.declared.rule.Rule.TheVariants.{MissingKey}
+use Rattle.refusal_codes.specs.declared.rule.Rule.TheVariants.{MissingKey, OutOfRange}
 use Rattle.refusal_codes.specs.First.{first_of, foremost, refusal_of}
 use Rattle.refusal_codes.proofs.FirstLaws.{first_of_none}
 use Rattle.refusal_codes.proofs.JudgedLaws.{judged_ok}
-use Rattle.glyphs_source.specs.Values.{fails, items_at, is_dictionary, under_by}
-use Rattle.glyphs_source.specs.HeaderReading.{HasSmallNumbers, IsReadHeader, masters_failures_by, masters_failures, name_and_numbers_failures, design_forms_failures, feature_forms_failures, top_failures, header_failures, whole_rules_by, header_whole_failures, master_record, first_master, master_numbers, header_record, header_of}
+use Rattle.glyphs_source.specs.declared.decimals.Decimal.{Decimal}
+use Rattle.glyphs_source.specs.Decimals.{is_whole}
+use Rattle.glyphs_source.specs.Values.{fails, text_at, items_at, is_dictionary, decimal_at, name_failures_by, name_failures, under_by, natural_by, natural_in}
+use Rattle.glyphs_source.specs.HeaderReading.{IsMetric, HasMetricsInRange, HasNumbersInRange, IsReadHeader, units_per_em, masters_failures_by, masters_failures, name_and_numbers_failures, design_forms_failures, feature_forms_failures, top_failures, header_failures, whole_rules_by, header_whole_failures, master_record, first_master, master_numbers, header_record, header_of}
 
 -- of two lists that are empty together the second is
 last_empty : (xs ys : List Failure) → xs ++ ys ≡ [] → ys ≡ []
@@ -64,21 +69,113 @@ located : (t : Tree) (m : ℕ) (ms : List Master) → ms ≡ master_record t m �
 unfolding master_record
 located t m ms e = ap (map (λ (master : Master). master.location)) e
 
-no_axes : (t : Tree) → (header_record t).axes ≡ []
-unfolding header_record
-no_axes t = refl
+-- ---- its numbers
 
-first_origin : (t : Tree) → (header_record t).origin ≡ 0
-unfolding header_record
-first_origin t = refl
+abbrev IsWithin : ℕ → ℕ → ℕ → Type 0
+IsWithin low high n = (low ≤ n) × (n ≤ high)
 
--- what a header that is read fulfils
-pub read_header : (t : Tree) (h : Header) → h ≡ header_record t → first_of (header_failures t) ≡ None → foremost (header_whole_failures t) ≡ None → HasSmallNumbers h → IsReadHeader h
-read_header t h is local whole numbers =
-    let found = one_master t local whole in
+picked : (low high whole : ℕ) (p q : Bool) → nat_le low whole ≡ p → nat_le whole high ≡ q → low ≤ high → IsWithin low high (cond (p && q) whole low)
+picked low high whole true true e f h = (grind (arith, nat_tests), grind (arith, nat_tests))
+picked low high whole true false e f h = (omega arith, h)
+picked low high whole false q e f h = (omega arith, h)
+
+chosen : (low high whole : ℕ) (a s : Bool) → low ≤ high → IsWithin low high (cond (a && (s && (nat_le low whole && nat_le whole high))) whole low)
+chosen low high whole true true h = picked low high whole (nat_le low whole) (nat_le whole high) refl refl h
+chosen low high whole true false h = (omega arith, h)
+chosen low high whole false s h = (omega arith, h)
+
+natural_by-within : (low high : ℕ) (o : Option Decimal) → low ≤ high → IsWithin low high (natural_by low high o)
+natural_by-within low high None h = (omega arith, h)
+natural_by-within low high (Some d) h = chosen low high d.whole (is_whole d) (not d.negative || d.whole == 0) h
+
+natural-within : (t : Tree) (low high missing : ℕ) (o : Option ℕ) → low ≤ high → IsWithin low high missing → IsWithin low high (option_map_or (natural_in low high t) o missing)
+unfolding natural_in
+natural-within t low high missing None h k = k
+natural-within t low high missing (Some n) h k = natural_by-within low high (decimal_at t n) h
+
+units_within : (t : Tree) → IsWithin 16 16384 (units_per_em t)
+unfolding units_per_em
+units_within t = natural-within t 16 16384 16 (find_in t t.top (codes "unitsPerEm")) (lit≤ tt) (lit≤ tt, lit≤ tt)
+
+first_empty : (xs ys : List Failure) → xs ++ ys ≡ [] → xs ≡ []
+first_empty [] ys e = refl
+first_empty (x ∷ xs) ys e = absurd cc
+
+sized : (t : Tree) (n : ℕ) (size : ℕ) (p q : Bool) → nat_le 1 size ≡ p → nat_le size 255 ≡ q → cond (p && q) [] (fails OutOfRange t n) ≡ [] → IsWithin 1 255 size
+sized t n size true true e f g = (grind (arith, nat_tests), grind (arith, nat_tests))
+sized t n size true false e f g = absurd cc
+sized t n size false q e f g = absurd cc
+
+name_within : (t : Tree) (n : ℕ) (o : Option (List ℕ)) → name_failures_by t n o ≡ [] → IsWithin 1 255 (length (unwrap_or o []))
+name_within t n None e = absurd cc
+name_within t n (Some text) e = sized t n (length text) (nat_le 1 (length text)) (nat_le (length text) 255) refl refl e
+
+name_under : (t : Tree) (o : Option ℕ) → under_by (name_failures t) (fails MissingKey t t.top) o ≡ [] → IsWithin 1 255 (length (unwrap_or (option_and_then (text_at t) o) []))
+unfolding name_failures
+name_under t None e = absurd cc
+name_under t (Some n) e = name_within t n (text_at t n) e
+
+family_within : (t : Tree) → first_of (header_failures t) ≡ None → IsWithin 1 255 (length (header_record t).family)
+unfolding header_failures top_failures name_and_numbers_failures header_record
+family_within t e =
+    let top = dictionary_there (is_dictionary t t.top) (top_failures t) _ (first_of_none _ e) in
+    let own = first_empty (name_and_numbers_failures t) _ (first_empty (name_and_numbers_failures t ++ design_forms_failures t) _ (first_empty _ _ top)) in
+    name_under t (find_in t t.top (codes "familyName")) (last_empty _ _ (first_empty _ _ (first_empty _ _ own)))
+
+signed : (a u : ℕ) → a ≤ u → u ≤ a + 16383 → a ≤ 16383 → IsMetric (pos a) × IsMetric (pos a -ℤ pos u)
+signed a u below near top = ((omega (arith, ints, top), omega (arith, ints, top)), (omega (arith, ints, below, near), omega (arith, ints, below, near)))
+
+four_fifths : (u : ℕ) → u ≤ 16384 → (u * 4 / 5 ≤ u) × (u ≤ u * 4 / 5 + 16383) × (u * 4 / 5 ≤ 16383)
+four_fifths u units = (omega (arith, units), omega (arith, units), omega (arith, units))
+
+metrics_within : (t : Tree) (m : ℕ) → HasMetricsInRange (master_record t m)
+unfolding master_record
+metrics_within t m =
+    let units = units_within t in
+    let four = four_fifths (units_per_em t) units.1 in
+    let both = signed (units_per_em t * 4 / 5) (units_per_em t) four.0 four.1 four.2 in
+    record { ascender = both.0; descender = both.1; cap = (omega (arith, ints), omega (arith, ints)); xheight = (omega (arith, ints), omega (arith, ints)) }
+
+numbers_within : (t : Tree) → first_of (header_failures t) ≡ None → foremost (header_whole_failures t) ≡ None → HasNumbersInRange (header_record t)
+unfolding header_record
+numbers_within t e w =
+    let units = units_within t in
+    let family = family_within t e in
+    let found = one_master t e w in
     record {
-      numbers = numbers;
-      one_master = located t found.0 h.masters (ap (λ (x : Header). x.masters) is ∙ found.1);
-      no_axes = ap (λ (x : Header). x.axes) is ∙ no_axes t;
-      origin = ap (λ (x : Header). x.origin) is ∙ first_origin t;
+      units_from = units.0;
+      units = units.1;
+      family_from = family.0;
+      family = family.1;
+      major = (natural-within t 0 32767 1 (find_in t t.top (codes "versionMajor")) (lit≤ tt) (lit≤ tt, lit≤ tt)).1;
+      minor = (natural-within t 0 999 0 (find_in t t.top (codes "versionMinor")) (lit≤ tt) (lit≤ tt, lit≤ tt)).1;
+      metrics = subst (AllByRecursion HasMetricsInRange) (sym found.1) (metrics_within t found.0, tt);
     }
+
+-- ---- what a header that is read fulfils
+
+one_design : (t : Tree) (m : ℕ) → map (λ (master : Master). master.design) (master_record t m ∷ []) ≡ [] ∷ []
+unfolding master_record
+one_design t m = refl
+
+one_user : (t : Tree) (m : ℕ) → map (λ (master : Master). master.user) (master_record t m ∷ []) ≡ [] ∷ []
+unfolding master_record
+one_user t m = refl
+
+read_record : (t : Tree) → first_of (header_failures t) ≡ None → foremost (header_whole_failures t) ≡ None → IsReadHeader (header_record t)
+unfolding header_record
+read_record t e w =
+    let found = one_master t e w in
+    record {
+      numbers = numbers_within t e w;
+      one_master = located t found.0 (header_record t).masters found.1;
+      no_design = ap (map (λ (master : Master). master.design)) found.1 ∙ one_design t found.0;
+      no_user = ap (map (λ (master : Master). master.user)) found.1 ∙ one_user t found.0;
+      no_axes = refl;
+      origin = refl;
+      no_instances = refl;
+      no_kerning = refl;
+    }
+
+pub read_header : (t : Tree) (h : Header) → h ≡ header_record t → first_of (header_failures t) ≡ None → foremost (header_whole_failures t) ≡ None → IsReadHeader h
+read_header t h is local whole = subst IsReadHeader (sym is) (read_record t local whole)

@@ -1,7 +1,8 @@
 -- What a source says of the whole font, and the rules that it may fail there (Glyphs file format, version 3; the rules
 -- and the defaults are fontc's own). One master is read, without axes: a form that isn't built is of a wrong shape.
-use Rattle.std.specs.Prelude.{◌≡◌, ℕ, ◌*◌, ◌/◌, ◌≤◌, Bool, not, ◌&&◌, ◌||◌, ◌==◌, nat_lt, List, [], ◌∷◌, ◌++◌, length, slice_get, map, Option, Some, None, Result, pos, ◌-ℤ◌, codes, option_and_then, if◌then◌else◌}
+use Rattle.std.specs.Prelude.{◌≡◌, ℕ, ◌*◌, ◌/◌, ◌≤◌, Bool, not, ◌&&◌, ◌||◌, ◌==◌, nat_lt, List, [], ◌∷◌, ◌++◌, length, slice_get, map, Option, Some, None, Result, ℤ, pos, neg_ℤ, ◌-ℤ◌, ◌≤ℤ◌, codes, option_and_then, if◌then◌else◌}
 use Rattle.std.specs.Option.{option_map_or}
+use Rattle.std.specs.List.{AllByRecursion}
 use Rattle.plist_reader.specs.declared.tree.Tree.{Tree}
 use Rattle.plist_reader.specs.Tree.{find_in}
 use Rattle.font_ir.specs.declared.header.Header.{Header}
@@ -173,15 +174,33 @@ header_of t = judged (refusal_of 0 1 []) (first_of (header_failures t)) (foremos
 
 -- ---- what each header that is read fulfils
 
--- its numbers are in their ranges
-pub record HasSmallNumbers (header : Header) : Type 0 where
+-- a metric is from -16383 to 16383
+abbrev pub IsMetric : ℤ → Type 0
+IsMetric z = (neg_ℤ (pos 16383) ≤ℤ z) × (z ≤ℤ pos 16383)
+
+pub record HasMetricsInRange (master : Master) : Type 0 where
+  pub ascender : IsMetric master.ascender
+  pub descender : IsMetric master.descender
+  pub cap : IsMetric master.cap
+  pub xheight : IsMetric master.xheight
+
+-- its numbers are in their ranges, and the family's name has 1 to 255 bytes
+pub record HasNumbersInRange (header : Header) : Type 0 where
+  pub units_from : 16 ≤ header.upem
   pub units : header.upem ≤ 16384
+  pub family_from : 1 ≤ length header.family
+  pub family : length header.family ≤ 255
   pub major : header.major ≤ 32767
   pub minor : header.minor ≤ 999
+  pub metrics : AllByRecursion HasMetricsInRange header.masters
 
--- one master, which is the default one, and no axes
+-- one master, which is the default one, and no axes, so it has no coordinates; nor are there instances or kerning
 pub record IsReadHeader (header : Header) : Type 0 where
-  pub numbers : HasSmallNumbers header
+  pub numbers : HasNumbersInRange header
   pub one_master : map (λ master. master.location) header.masters ≡ [] ∷ []
+  pub no_design : map (λ master. master.design) header.masters ≡ [] ∷ []
+  pub no_user : map (λ master. master.user) header.masters ≡ [] ∷ []
   pub no_axes : header.axes ≡ []
   pub origin : header.origin ≡ 0
+  pub no_instances : header.instances ≡ []
+  pub no_kerning : header.kerning ≡ []

@@ -3,7 +3,7 @@ ghost use Rattle.plist_reader.specs.Tree.{IsTree};
 ghost use Rattle.refusal_codes.specs.declared.errors.ReadError.TheVariants as read_errors;
 ghost use Rattle.refusal_codes.specs.First.{refusal_of};
 ghost use Rattle.refusal_codes.specs.Gives.{Gives};
-ghost use Rattle.glyphs_source.specs.HeaderReading.{units_per_em, master_record, first_master, master_numbers, place_under, header_record, header_of, HasSmallNumbers, IsReadHeader};
+ghost use Rattle.glyphs_source.specs.HeaderReading.{units_per_em, master_record, first_master, master_numbers, place_under, header_record, header_of, IsReadHeader};
 
 use crate::header_rules::{note_header, whole_failure};
 use crate::keys::{copied, items_under, natural_or, text_under};
@@ -45,8 +45,7 @@ fn refused(alloc: Global, failure: Failure) -> ReadError
 
 #[tactic(auto, unfolding(crate::specs::HeaderReading::header_record))]
 fn record(alloc: Global, tree: &Tree) -> Result<Header, AllocError>
-    ensures record { IfOk result (λ header. header ≡ header_record tree.now) }
-    ensures numbers { IfOk result HasSmallNumbers }
+    ensures { IfOk result (λ header. header ≡ header_record tree.now) }
 {
     let family = copied(alloc, text_under(tree, tree.top, b"familyName"))?;
     let masters = masters(alloc, tree, master_numbers(tree))?;

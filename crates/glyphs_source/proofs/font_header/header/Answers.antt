@@ -9,4 +9,4 @@ pub returns-clause-read : goal.returns-clause-read
 returns-clause-read c =
     let t = c.args.tree.now in
     let local = ap (λ least. noted least (header_failures t)) (sym c.new-first.ensures) ∙ sym c.note_header.ensures ∙ sym c.get.ensures ∙ c.in_default.is in
-    read_header t c.in_ok-record.field-0 c.in_ok-record.ensures.record local (sym c.whole_failure.ensures ∙ c.in_default-whole_failure.is) c.in_ok-record.ensures.numbers
+    read_header t c.in_ok-record.field-0 c.in_ok-record.ensures local (sym c.whole_failure.ensures ∙ c.in_default-whole_failure.is)
