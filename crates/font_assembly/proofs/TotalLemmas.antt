@@ -1,9 +1,10 @@
 -- The sum of the 32-bit numbers of bytes, part by part.
-use Rattle.std.proofs.Common.{◌≡◌, ℕ, suc, ◌+◌, ◌-◌, ◌%◌, ◌^◌, ◌≤◌, List, [], ◌∷◌, ◌++◌, length, replicate, get_or, take, drop, refl, ap, arith, length-append, append_assoc}
+use Rattle.std.proofs.Common.{◌≡◌, ℕ, suc, ◌+◌, ◌-◌, ◌%◌, ◌^◌, ◌<◌, ◌≤◌, List, [], ◌∷◌, ◌++◌, length, replicate, take, drop, refl, ap, arith, length-append, append_assoc}
 use Rattle.std.proofs.Math.Seq.{take-length}
 use Rattle.std.specs.Int.{w32, from_be_bytes}
 use Rattle.std.proofs.lemmas.List.{append-nil}
 use Rattle.std.proofs.lemmas.List.Sums.{sum_by-cons, sum_by-append}
+use Rattle.byteorder.specs.Endian.{big_number}
 use Rattle.font_ir.specs.DataTypes.{padding, padded}
 use Rattle.font_assembly.specs.Checksum.{words, total}
 
@@ -49,11 +50,21 @@ pub wraps : (s x t m : ℕ) → (s + (x + t)) % 2 ^ 32 ≡ m → ((s + x) % 2 ^ 
 wraps s x t m e = omega arith
 
 -- the first four bytes of a list go into the sum
-pub total-step : (s x m : ℕ) (rest : List ℕ) → 4 ≤ length rest → x ≡ from_be_bytes w32 (get_or rest 0 0 ∷ get_or rest 1 0 ∷ get_or rest 2 0 ∷ get_or rest 3 0 ∷ []) → (s + total rest) % 2 ^ 32 ≡ m → ((s + x) % 2 ^ 32 + total (take (length rest - 4) (drop 4 rest))) % 2 ^ 32 ≡ m
+pub total-step : (s x m : ℕ) (rest : List ℕ) → 4 ≤ length rest → x ≡ big_number 4 rest → (s + total rest) % 2 ^ 32 ≡ m → ((s + x) % 2 ^ 32 + total (take (length rest - 4) (drop 4 rest))) % 2 ^ 32 ≡ m
 total-step s x m [] h e i = absurd (omega arith)
 total-step s x m (a ∷ []) h e i = absurd (omega arith)
 total-step s x m (a ∷ b ∷ []) h e i = absurd (omega arith)
 total-step s x m (a ∷ b ∷ c ∷ []) h e i = absurd (omega arith)
 total-step s x m (a ∷ b ∷ c ∷ d ∷ rest) h e i =
     let same : length (a ∷ b ∷ c ∷ d ∷ rest) - 4 ≡ length rest = omega arith in
-    rw (same, take-length rest) (wraps s x (total rest) m (rw (e, ← total-four a b c d rest) i))
+    let number : x ≡ from_be_bytes w32 (a ∷ b ∷ c ∷ d ∷ []) = omega arith in
+    rw (same, take-length rest) (wraps s x (total rest) m (rw (number, ← total-four a b c d rest) i))
+
+-- the number of fewer than four bytes and zeros
+pub total-last : (bytes : List ℕ) → length bytes < 4 → big_number 4 (bytes ++ drop (length bytes) (0 ∷ 0 ∷ 0 ∷ 0 ∷ [])) ≡ total bytes
+unfolding total
+total-last [] h = refl
+total-last (a ∷ []) h = omega arith
+total-last (a ∷ b ∷ []) h = omega arith
+total-last (a ∷ b ∷ c ∷ []) h = omega arith
+total-last (a ∷ b ∷ c ∷ d ∷ rest) h = absurd (omega arith)

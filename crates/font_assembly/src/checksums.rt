@@ -1,18 +1,16 @@
 ghost use Rattle.std.specs.Prelude.{◌≡◌, ◌<◌, length};
 ghost use Rattle.font_assembly.specs.Checksum as sums;
 
+use byteorder::{BigEndian, ByteOrder};
+
 /// The number that fewer than four bytes hold, with zeros after them.
-#[tactic(auto, unfolding(crate::specs::Checksum::total))]
 fn last_word(bytes: &[u8]) -> u32
     requires { length bytes.now < 4 }
     ensures { result ≡ sums.total bytes.now }
 {
-    match bytes {
-        [a] => u32::from_be_bytes([*a, 0, 0, 0]),
-        [a, b] => u32::from_be_bytes([*a, *b, 0, 0]),
-        [a, b, c] => u32::from_be_bytes([*a, *b, *c, 0]),
-        _ => 0,
-    }
+    let mut word = [0; 4];
+    word[..bytes.len()].copy_from_slice(bytes);
+    BigEndian::read_u32(&word)
 }
 
 /// The sum of the 32-bit numbers of padded bytes, which wraps.
@@ -21,9 +19,9 @@ pub fn checksum(bytes: &[u8]) -> u32
 {
     let mut sum = 0u32;
     let mut rest = bytes;
-    while let [a, b, c, d, tail @ ..] = rest {
-        sum = sum.wrapping_add(u32::from_be_bytes([*a, *b, *c, *d]));
-        rest = tail;
+    while rest.len() >= 4 {
+        sum = sum.wrapping_add(BigEndian::read_u32(rest));
+        rest = &rest[4..];
     }
     sum.wrapping_add(last_word(rest))
 }

@@ -8,6 +8,7 @@ ghost use Rattle.font_assembly.specs.File as files;
 ghost use Rattle.font_assembly.specs.Assembled.{table_of, tables_of};
 
 use crate::checksums::checksum;
+use byteorder::{BigEndian, ByteOrder};
 use font_ir::{TableError, Tag, padding, push_uint16, push_uint32, push_zeros};
 use std::alloc::{AllocError, Global};
 use std::sync::Arc;
@@ -206,7 +207,7 @@ fn adjust(font: &mut Vec<u8>, offset: usize)
     ensures { font.new.items ≡ files.with_word font.old.items offset (files.adjustment font.old.items) }
 {
     let adjustment = WHOLE.wrapping_sub(checksum(font));
-    font[offset..offset + 4].copy_from_slice(&adjustment.to_be_bytes());
+    BigEndian::write_u32(&mut font[offset..offset + 4], adjustment);
 }
 
 /// The font file of tables (OpenType 1.9, "Organization of an OpenType Font"): the directory, and the tables in the
