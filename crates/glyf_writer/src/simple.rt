@@ -16,6 +16,10 @@ use std::alloc::Global;
 ///
 /// The outline is that at the place `origin`, of the glyph's list of places. `variable` says whether the font has axes. A glyph
 /// without points has no bytes.
+///
+/// # Errors
+///
+/// `NoMemory` alone, where memory ran out.
 pub fn simple_bytes(
     alloc: Global,
     glyph: &FlatGlyph,
