@@ -4,7 +4,7 @@ use Rattle.std.proofs.lemmas.List.{at_drop_more}
 use Rattle.std.specs.List.{fold}
 use Rattle.std.specs.Int.{int_min, int_max}
 use Rattle.font_ir.specs.Extremes.{least, greatest}
-use Rattle.metrics_tables.specs.Least.{lesser_of}
+use Rattle.metrics_tables.specs.Comparisons.{lesser_of}
 use Rattle.metrics_tables.specs.Tables.{right_bearings}
 
 -- the least of a number that may be there and of others

@@ -1,3 +1,3 @@
-pub mod Least
+pub mod Comparisons
 pub mod Measuring
 pub mod Tables

@@ -12,7 +12,7 @@ use Rattle.metrics_tables.specs.declared.measures.Measures.{Measures}
 use Rattle.metrics_tables.specs.declared.measures.Maxima.{Maxima}
 use Rattle.metrics_tables.specs.declared.measures.MeasureError.{MeasureError}
 use Rattle.metrics_tables.specs.declared.measures.MeasureError.TheVariants.{TooLarge, Regions, NoMemory}
-use Rattle.metrics_tables.specs.Least.{greatest_count}
+use Rattle.metrics_tables.specs.Comparisons.{greatest_count}
 
 abbrev pub glyphs_of : List (Arc FlatGlyph Global) → List FlatGlyph
 glyphs_of glyphs = map arc_value glyphs

@@ -7,7 +7,7 @@ use Rattle.font_ir.specs.declared.header.Header.{Header}
 use Rattle.font_ir.specs.declared.header.Master.{Master}
 use Rattle.font_ir.specs.Extremes.{least, greatest}
 use Rattle.metrics_tables.specs.declared.measures.Measures.{Measures}
-use Rattle.metrics_tables.specs.Least.{greatest_count}
+use Rattle.metrics_tables.specs.Comparisons.{greatest_count}
 
 -- version 1.0, as two halves or as a number in 16.16
 abbrev pub version_1 : List ℕ
@@ -121,10 +121,10 @@ hmtx_table measures = metric_records measures.advances measures.bounds
 -- what measuring answers: at most 65,535 advances, and bounds for each
 pub record AreMeasures (measures : Measures) : Type 0 where
   pub few : length measures.advances ≤ 65535
-  pub one_bounds : length measures.bounds ≡ length measures.advances
+  pub as_many_bounds : length measures.bounds ≡ length measures.advances
 
 -- a default master, and a version of fontc's sources
-pub record HasOrigin (header : Header) : Type 0 where
+pub record HasOriginAndVersion (header : Header) : Type 0 where
   pub origin : header.origin < length header.masters
   pub major : header.major ≤ 32767
   pub minor : header.minor ≤ 999

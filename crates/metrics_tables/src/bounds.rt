@@ -1,6 +1,6 @@
 ghost use Rattle.std.specs.Prelude.{◌≡◌, ◌<◌, pos, ◌-ℤ◌, length, Option};
 ghost use Rattle.font_ir.specs.Extremes.{least as least_of, greatest as greatest_of};
-ghost use Rattle.metrics_tables.specs.Least.{lesser_of, greater_of};
+ghost use Rattle.metrics_tables.specs.Comparisons.{lesser_of, greater_of};
 ghost use Rattle.metrics_tables.specs.Tables.{side, boxes_of, right_bearings, cut as cut_of};
 
 /// The lesser of a number, where there is one, and another.

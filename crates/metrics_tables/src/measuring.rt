@@ -1,9 +1,9 @@
 ghost use Rattle.std.specs.Prelude.{◌≡◌, ◌<◌, ℕ, [], length, map, unsigned_abs, IfOk};
 ghost use Rattle.std.specs.List.{All};
-ghost use Rattle.metrics_tables.specs.Least.{greatest_count};
+ghost use Rattle.metrics_tables.specs.Comparisons.{greatest_count};
 ghost use Rattle.metrics_tables.specs.Measuring.{glyphs_of, measures_of, maxima_of, width_at, IsStatic, IsMeasurable, HasMastersPlaces, Measured};
 ghost use Rattle.font_ir.specs.Outlines.{contours_at, points_at, bounds_of};
-ghost use Rattle.metrics_tables.specs.Tables.{AreMeasures, HasOrigin};
+ghost use Rattle.metrics_tables.specs.Tables.{AreMeasures, HasOriginAndVersion};
 ghost use Rattle.font_ir.specs.FlatGlyphs.{IsFlatGlyph};
 
 use crate::measures::{Maxima, MeasureError, Measures};
@@ -123,8 +123,8 @@ pub fn measure(
     order: &GlyphOrder,
     glyphs: &[Arc<FlatGlyph>],
 ) -> Result<Measures, MeasureError>
-    requires origin { HasOrigin header.now }
-    requires fixed { IsStatic header.now (glyphs_of glyphs.now) }
+    requires origin { HasOriginAndVersion header.now }
+    requires static_font { IsStatic header.now (glyphs_of glyphs.now) }
     requires flat { All IsFlatGlyph (glyphs_of glyphs.now) }
     requires places { All (HasMastersPlaces header.now) (glyphs_of glyphs.now) }
     requires one_glyph { length glyphs.now ≡ length order.now.names }

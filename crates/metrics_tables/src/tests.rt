@@ -1,7 +1,7 @@
 ghost use Rattle.std.specs.Prelude.{◌≡◌, ◌≤◌, ◌<◌, ℕ, pos, true, [], ◌∷◌, length, map, IfOk};
 ghost use Rattle.std.specs.List.{All};
 ghost use Rattle.font_ir.specs.FlatGlyphs.{IsFlatGlyph, IsSmallPoint, point_count};
-ghost use Rattle.metrics_tables.specs.Tables.{AreMeasures, HasOrigin};
+ghost use Rattle.metrics_tables.specs.Tables.{AreMeasures, HasOriginAndVersion};
 ghost use Rattle.font_ir.specs.declared.glyph.DrawnPoint.{DrawnPoint as APoint};
 
 use super::*;
@@ -14,7 +14,7 @@ use std::sync::Arc;
 use std::test::Fail;
 
 fn header(alloc: Global) -> Result<Header, Fail>
-    ensures origin { IfOk result HasOrigin }
+    ensures origin { IfOk result HasOriginAndVersion }
     ensures axes { IfOk result (λ header. header.axes ≡ []) }
     ensures locations { IfOk result (λ header. map (λ master. master.location) header.masters ≡ [] ∷ []) }
 {
@@ -109,7 +109,7 @@ fn order(rt: &impl Abort, alloc: Global) -> Result<GlyphOrder, Fail>
 
 /// The measures of a `.notdef` without points and the triangle.
 fn measured(rt: &impl Abort, alloc: Global, header: &Header) -> Result<Measures, Fail>
-    requires origin { HasOrigin header.now }
+    requires origin { HasOriginAndVersion header.now }
     requires axes { header.now.axes ≡ [] }
     requires locations { map (λ master. master.location) header.now.masters ≡ [] ∷ [] }
     ensures { IfOk result AreMeasures }

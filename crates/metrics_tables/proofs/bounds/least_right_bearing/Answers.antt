@@ -2,7 +2,7 @@ use Rattle.std.proofs.Common.{arith, ◌≡◌, ◌+◌, ◌<◌, drop, get_or, 
 use Rattle.std.specs.Int.{w32, int_min}
 use Rattle.std.specs.List.{fold}
 use Rattle.std.proofs.lemmas.Int.{ints}
-use Rattle.metrics_tables.specs.Least.{lesser_of}
+use Rattle.metrics_tables.specs.Comparisons.{lesser_of}
 use Rattle.metrics_tables.specs.Tables.{right_bearings}
 use Rattle.metrics_tables.proofs.LeastLemmas.{least_onto, bearing_there, no_bearing}
 use Rattle.metrics_tables.proofs.bounds.least_right_bearing.Goals as goal

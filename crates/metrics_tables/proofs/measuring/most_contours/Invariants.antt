@@ -1,5 +1,5 @@
 use Rattle.std.proofs.Common.{◌≡◌, max, length, map, drop}
-use Rattle.metrics_tables.specs.Least.{greatest_count}
+use Rattle.metrics_tables.specs.Comparisons.{greatest_count}
 use Rattle.font_ir.specs.Outlines.{contours_at}
 use Rattle.metrics_tables.proofs.measuring.most_contours.Given as goal
 

@@ -1,5 +1,5 @@
 use Rattle.std.proofs.Common.{◌≡◌, max, drop}
-use Rattle.metrics_tables.specs.Least.{greatest_count}
+use Rattle.metrics_tables.specs.Comparisons.{greatest_count}
 use Rattle.metrics_tables.proofs.tables.greatest_advance.Given as goal
 
 abbrev pub invariant-loop-advance : goal.invariant-loop-advance
