@@ -21,7 +21,7 @@ use Rattle.font_ir.specs.FlatGlyphs.{AreGlyphPlaces, IsFlatGlyph, IsSmallPoint, 
 use Rattle.font_ir.specs.Notdef.{made_notdef_of}
 use Rattle.glyphs_source.specs.HeaderReading.{IsReadHeader}
 use Rattle.font_plan.specs.Drawn.{IsDrawn}
-use Rattle.font_plan.specs.Font.{Entry, others_from, drawn_of, all_drawn, followed_by, notdef_from, glyphs_in, order_in}
+use Rattle.font_plan.specs.Font.{Entry, others_from, drawn_of, all_drawn, followed_by, notdef_from, notdef_of, glyphs_in, order_in}
 
 -- ---- as many glyphs as names
 
@@ -42,7 +42,7 @@ names_of index = map (λ (glyph : ℕ × Entry). glyph.1.0) (others_from 0 index
 
 pub one_glyph_a_name : (t : Tree) (h : Header) (index : List Entry) (flats : List FlatGlyph) → glyphs_in t h index ≡ Ok flats → length flats ≡ length (order_in index).names
 unfolding glyphs_in
-one_glyph_a_name t h index flats e = first (notdef_from t h 0 index) e
+one_glyph_a_name t h index flats e = first (notdef_of t h (notdef_from 0 index)) e
   where
     first : (notdef : Result FlatGlyph Refusal) → (notdef >>= λ flat. followed_by (flat ∷ []) (all_drawn t h (others_from 0 index))) ≡ Ok flats → length flats ≡ suc (length (names_of index))
     first (Err r) f = absurd cc

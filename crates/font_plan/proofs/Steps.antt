@@ -1,6 +1,7 @@
 -- One step over the entries of an index: what is left from an entry on is that entry and what is left behind it.
-use Rattle.std.proofs.Common.{◌≡◌, ℕ, ◌+◌, Bool, true, false, List, [], ◌∷◌, ◌++◌, drop, Some, Result, Ok, Err, ap, refl, sym, ◌∙◌, append_assoc, map, length, ◌<◌, ◌≤◌, arith}
+use Rattle.std.proofs.Common.{◌≡◌, ℕ, ◌+◌, Bool, true, false, List, [], ◌∷◌, ◌++◌, drop, Option, Some, None, Result, Ok, Err, ap, refl, sym, ◌∙◌, append_assoc, map, length, ◌<◌, ◌≤◌, arith}
 use Rattle.std.specs.Prelude.{slice_get, if◌then◌else◌}
+use Rattle.std.specs.Option.{option_map}
 use Rattle.std.proofs.lemmas.List.{drop_more, length-append}
 use Rattle.std.proofs.lemmas.Option.{slice_get_within, get_or_from_slice_get}
 use Rattle.refusal_codes.specs.declared.refusal.Refusal.{Refusal}
@@ -10,28 +11,24 @@ use Rattle.font_ir.specs.declared.glyph.FlatGlyph.{FlatGlyph}
 use Rattle.refusal_codes.specs.declared.errors.ReadError.{ReadError}
 use Rattle.refusal_codes.specs.declared.errors.ReadError.TheVariants as read_errors
 use Rattle.refusal_codes.specs.Gives.{◌>>=◌, RefusesRead}
-use Rattle.font_plan.specs.Font.{Entry, is_notdef, is_other, others_from, drawn_of, all_drawn, followed_by, notdef_from, notdef_number_from}
+use Rattle.font_plan.specs.Font.{Entry, is_notdef, is_other, others_from, drawn_of, all_drawn, followed_by, notdef_from}
 
 rest_at : {X : Type 0} (xs : List X) (n : ℕ) (x : X) → slice_get xs n ≡ Some x → drop n xs ≡ x ∷ drop (n + 1) xs
 rest_at xs n x e = drop_more xs n x (slice_get_within xs n x e) ∙ ap (λ y. y ∷ drop (n + 1) xs) (get_or_from_slice_get xs n x x e)
 
 -- ---- `.notdef`
 
-pub notdef_here : (t : Tree) (h : Header) (index : List Entry) (n : ℕ) (entry : Entry) → slice_get index n ≡ Some entry → is_notdef entry ≡ true → notdef_from t h n (drop n index) ≡ drawn_of t h (n, entry)
-notdef_here t h index n entry at is =
-    ap (notdef_from t h n) (rest_at index n entry at) ∙ ap (λ (b : Bool). if b then drawn_of t h (n, entry) else notdef_from t h (n + 1) (drop (n + 1) index)) is
+pub notdef_here : (index : List Entry) (n : ℕ) (entry : Entry) → slice_get index n ≡ Some entry → is_notdef entry ≡ true → notdef_from n (drop n index) ≡ Some (n, entry)
+notdef_here index n entry at is =
+    ap (notdef_from n) (rest_at index n entry at) ∙ ap (λ (b : Bool). if b then Some (n, entry) else notdef_from (n + 1) (drop (n + 1) index)) is
 
-pub notdef_later : (t : Tree) (h : Header) (index : List Entry) (n : ℕ) (entry : Entry) → slice_get index n ≡ Some entry → is_notdef entry ≡ false → notdef_from t h n (drop n index) ≡ notdef_from t h (n + 1) (drop (n + 1) index)
-notdef_later t h index n entry at is =
-    ap (notdef_from t h n) (rest_at index n entry at) ∙ ap (λ (b : Bool). if b then drawn_of t h (n, entry) else notdef_from t h (n + 1) (drop (n + 1) index)) is
+pub notdef_later : (index : List Entry) (n : ℕ) (entry : Entry) → slice_get index n ≡ Some entry → is_notdef entry ≡ false → notdef_from n (drop n index) ≡ notdef_from (n + 1) (drop (n + 1) index)
+notdef_later index n entry at is =
+    ap (notdef_from n) (rest_at index n entry at) ∙ ap (λ (b : Bool). if b then Some (n, entry) else notdef_from (n + 1) (drop (n + 1) index)) is
 
-pub number_here : (index : List Entry) (n : ℕ) (entry : Entry) → slice_get index n ≡ Some entry → is_notdef entry ≡ true → notdef_number_from n (drop n index) ≡ Some n
-number_here index n entry at is =
-    ap (notdef_number_from n) (rest_at index n entry at) ∙ ap (λ (b : Bool). if b then Some n else notdef_number_from (n + 1) (drop (n + 1) index)) is
-
-pub number_later : (index : List Entry) (n : ℕ) (entry : Entry) → slice_get index n ≡ Some entry → is_notdef entry ≡ false → notdef_number_from n (drop n index) ≡ notdef_number_from (n + 1) (drop (n + 1) index)
-number_later index n entry at is =
-    ap (notdef_number_from n) (rest_at index n entry at) ∙ ap (λ (b : Bool). if b then Some n else notdef_number_from (n + 1) (drop (n + 1) index)) is
+pub no_notdef : (found : Option (ℕ × Entry)) → None ≡ option_map (λ (glyph : ℕ × Entry). glyph.0) found → found ≡ None
+no_notdef None e = refl
+no_notdef (Some glyph) e = absurd cc
 
 -- ---- the others
 

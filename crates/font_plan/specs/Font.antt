@@ -3,6 +3,7 @@
 -- The parts are defined in the crates that read and write them. Here they are joined: each part is made of those before it, and
 -- the first that refuses the source refuses it all.
 use Rattle.std.specs.Prelude.{ℕ, ◌+◌, Bool, false, not, ◌&&◌, List, [], ◌∷◌, ◌++◌, length, map, nat_lt, nat_eq, codes, Option, Some, None, Result, Ok, Err, if◌then◌else◌}
+use Rattle.std.specs.Option.{option_map}
 use Rattle.std.specs.Cmp.Lexicographic.{pointwise}
 use Rattle.refusal_codes.specs.declared.refusal.Refusal.{Refusal}
 use Rattle.refusal_codes.specs.declared.rule.Rule.TheVariants.{TooLarge, TooManyGlyphs, TableTooLarge}
@@ -63,6 +64,11 @@ others_from number [] = []
 others_from number (entry ∷ entries) =
     if is_other entry then (number, entry) ∷ others_from (number + 1) entries else others_from (number + 1) entries
 
+-- the first `.notdef` with its number, of entries numbered from this number on
+abbrev pub notdef_from : ℕ → List Entry → Option (ℕ × Entry)
+notdef_from number [] = None
+notdef_from number (entry ∷ entries) = if is_notdef entry then Some (number, entry) else notdef_from (number + 1) entries
+
 -- a glyph, read and drawn
 unfoldable pub drawn_of : Tree → Header → ℕ × Entry → Result FlatGlyph Refusal
 drawn_of tree header glyph = glyph_of tree header.masters glyph.1.0 glyph.0 glyph.1.1.node >>= flat_of glyph.1.0
@@ -76,25 +82,19 @@ all_drawn tree header [] = Ok []
 all_drawn tree header (glyph ∷ glyphs) = drawn_of tree header glyph >>= λ flat. followed_by (flat ∷ []) (all_drawn tree header glyphs)
 
 -- the glyph `.notdef`: the source's, or else a made one
-abbrev pub notdef_from : Tree → Header → ℕ → List Entry → Result FlatGlyph Refusal
-notdef_from tree header number [] = Ok (made_notdef_of header)
-notdef_from tree header number (entry ∷ entries) =
-    if is_notdef entry then drawn_of tree header (number, entry) else notdef_from tree header (number + 1) entries
-
--- its number, where the source has it
-abbrev pub notdef_number_from : ℕ → List Entry → Option ℕ
-notdef_number_from number [] = None
-notdef_number_from number (entry ∷ entries) = if is_notdef entry then Some number else notdef_number_from (number + 1) entries
+abbrev pub notdef_of : Tree → Header → Option (ℕ × Entry) → Result FlatGlyph Refusal
+notdef_of tree header None = Ok (made_notdef_of header)
+notdef_of tree header (Some glyph) = drawn_of tree header glyph
 
 -- the glyphs of the font in its order: `.notdef`, and then the others in the order of the file
 unfoldable pub glyphs_in : Tree → Header → List Entry → Result (List FlatGlyph) Refusal
 glyphs_in tree header index =
-    notdef_from tree header 0 index >>= λ notdef. followed_by (notdef ∷ []) (all_drawn tree header (others_from 0 index))
+    notdef_of tree header (notdef_from 0 index) >>= λ notdef. followed_by (notdef ∷ []) (all_drawn tree header (others_from 0 index))
 
 -- that order
 abbrev pub order_in : List Entry → Glyphs
 order_in index = record {
-  numbers = notdef_number_from 0 index ∷ map (λ glyph. Some glyph.0) (others_from 0 index);
+  numbers = option_map (λ glyph. glyph.0) (notdef_from 0 index) ∷ map (λ glyph. Some glyph.0) (others_from 0 index);
   names = codes ".notdef" ∷ map (λ glyph. glyph.1.0) (others_from 0 index);
 }
 

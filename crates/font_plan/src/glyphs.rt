@@ -7,9 +7,9 @@ ghost use Rattle.refusal_codes.specs.Gives.{Gives};
 ghost use Rattle.glyphs_source.specs.HeaderReading.{header_of, IsReadHeader};
 ghost use Rattle.metrics_tables.specs.Measuring.{glyphs_of};
 ghost use Rattle.font_plan.specs.Drawn.{IsDrawn};
-ghost use Rattle.font_plan.specs.Font.{drawn_of, all_drawn, followed_by, others_from, notdef_from, glyphs_in};
+ghost use Rattle.font_plan.specs.Font.{drawn_of, all_drawn, followed_by, others_from, notdef_from, notdef_of, glyphs_in};
 
-use crate::order::{entry_at, is_notdef, is_other};
+use crate::order::{entry_at, is_other, notdef_number};
 use component_flatten::flatten;
 use font_ir::{FlatGlyph, Header, made_notdef};
 use glyphs_layers::raw_glyph;
@@ -41,7 +41,6 @@ pub fn glyphs_in(
 }
 
 /// The glyph `.notdef`: the source's, or else a made one.
-#[tactic(auto, using(crate::proofs::Steps::notdef_here))]
 fn notdef(
     alloc: Global,
     tree: &Tree,
@@ -51,16 +50,13 @@ fn notdef(
     requires header { header_of tree.now ≡ Ok header.now }
     requires read { IsReadHeader header.now }
     requires few { length index.now < 2 ^ 32 }
-    ensures glyph { Gives (λ glyph. glyph) result (notdef_from tree.now header.now 0 index.now) }
+    ensures glyph { Gives (λ glyph. glyph) result (notdef_of tree.now header.now (notdef_from 0 index.now)) }
     ensures drawn { IfOk result (IsDrawn header.now) }
 {
-    for number in 0..index.len() as u32 {
-        let (name, _) = entry_at(index, number);
-        if is_notdef(name) {
-            return drawn(alloc, tree, header, index, number);
-        }
+    match notdef_number(index) {
+        Some(number) => drawn(alloc, tree, header, index, number),
+        None => Ok(made_notdef(alloc, header)?),
     }
-    Ok(made_notdef(alloc, header)?)
 }
 
 /// Adds the exported glyphs other than `.notdef`, drawn.

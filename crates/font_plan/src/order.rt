@@ -1,10 +1,11 @@
 //! The order of the font's glyphs.
 
-ghost use Rattle.std.specs.Prelude.{◌≡◌, ◌<◌, ◌≤◌, ◌^◌, ◌+◌, ◌++◌, ◌∷◌, [], length, map, IfOk, OnOk, Some, is_some, slice_get, false, codes, nat_eq};
+ghost use Rattle.std.specs.Prelude.{◌≡◌, ◌<◌, ◌≤◌, ◌^◌, ◌+◌, ◌++◌, ◌∷◌, [], length, map, IfOk, OnOk, IfSome, Some, is_some, slice_get, false, codes, nat_eq};
 ghost use Rattle.std.specs.List.{IsDistinct};
+ghost use Rattle.std.specs.Option.{option_map};
 ghost use Rattle.std.specs.Cmp.Lexicographic.{pointwise};
 ghost use Rattle.font_ir.specs.Glyphs.{gid_of};
-ghost use Rattle.font_plan.specs.Font.{is_other, others_from, notdef_number_from, order_in};
+ghost use Rattle.font_plan.specs.Font.{Entry, is_other, others_from, notdef_from, order_in};
 
 use font_ir::{GlyphOrder, Name};
 use glyphs_source::{GlyphIndex, IndexEntry};
@@ -27,10 +28,11 @@ pub fn order_in(alloc: Global, index: &GlyphIndex) -> Result<GlyphOrder, NoMemor
     Ok(order)
 }
 
-/// The number of `.notdef`, where the source has it.
-fn notdef_number(index: &GlyphIndex) -> Option<u32>
+/// The number of the first `.notdef`, where the source has one.
+pub fn notdef_number(index: &GlyphIndex) -> Option<u32>
     requires { length index.now < 2 ^ 32 }
-    ensures { result ≡ notdef_number_from 0 index.now }
+    ensures number { result ≡ option_map (λ glyph. glyph.0) (notdef_from 0 index.now) }
+    ensures entry { IfSome result (λ number. (entry : Entry) × (slice_get index.now number ≡ Some entry) × (notdef_from 0 index.now ≡ Some (number, entry))) }
 {
     for number in 0..index.len() as u32 {
         let (name, _) = entry_at(index, number);

@@ -1,7 +1,7 @@
--- the number is to be found in what is left
+-- the glyph is to be found in what is left
 use Rattle.std.proofs.Common.{◌≡◌, drop}
-use Rattle.font_plan.specs.Font.{notdef_number_from}
+use Rattle.font_plan.specs.Font.{notdef_from}
 use Rattle.font_plan.proofs.order.notdef_number.Given as goal
 
 abbrev pub invariant-loop-number : goal.invariant-loop-number
-invariant-loop-number l = notdef_number_from l.number (drop l.number l.index) ≡ notdef_number_from 0 l.index
+invariant-loop-number l = notdef_from l.number (drop l.number l.index) ≡ notdef_from 0 l.index

@@ -1,7 +1,0 @@
--- the glyph is to be found in what is left
-use Rattle.std.proofs.Common.{◌≡◌, drop}
-use Rattle.font_plan.specs.Font.{notdef_from}
-use Rattle.font_plan.proofs.glyphs.notdef.Given as goal
-
-abbrev pub invariant-loop-number : goal.invariant-loop-number
-invariant-loop-number l = notdef_from l.tree l.header l.number (drop l.number l.index) ≡ notdef_from l.tree l.header 0 l.index
