@@ -33,6 +33,9 @@ impl From<AllocError> for ReadWholeError {
 }
 
 /// All bytes that a path holds, where there are at most `limit` of them. It reads to the end, or past the limit.
+///
+/// `TooLong` says that there are more, `Failed` that a read failed, and `NoMemory` that memory ran out. Whatever it answers, each
+/// path is as before.
 pub fn read_whole<F: Files>(
     alloc: Global,
     files: &mut F,

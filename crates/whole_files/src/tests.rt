@@ -2,7 +2,7 @@ use super::*;
 use outside_io::MemFiles;
 use std::test::Fail;
 
-/// Files whose calls handle at most 100 bytes, with 259 bytes in `in`, and of which this call fails.
+/// Files that hold nothing, whose calls handle at most 100 bytes, and of which this call fails.
 fn listed(alloc: Global, call: u64) -> Result<MemFiles, Fail> {
     let mut files = MemFiles::with_room(alloc, 2, 1000).ok().ok_or("memory")?;
     files.step(100);
