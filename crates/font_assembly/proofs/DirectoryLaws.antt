@@ -25,7 +25,8 @@ length_bodies (t ∷ ts) fit =
     let rest = length_bodies ts (and_second (fits_head t) (list_all fits_head ts) fit) in
     omega (arith, length-append (unadjusted t ++ zeros_after t) (bodies ts), here, rest)
 
-rooms-append : (before : List Table) (t : Table) (after : List Table) → room_of_all (before ++ t ∷ after) ≡ room_of_all before + (room_of t + room_of_all after)
+rooms-append : (before : List Table) (t : Table) (after : List Table)
+    → room_of_all (before ++ t ∷ after) ≡ room_of_all before + (room_of t + room_of_all after)
 rooms-append [] t after = omega arith
 rooms-append (b ∷ before) t after = let rest = rooms-append before t after in omega (arith, rest)
 
@@ -50,10 +51,15 @@ record Parts (ts : List Table) : Type 0 where
   tables : file ts ≡ directory ts ++ placed (adjustment (unadjusted_file ts)) ts
   fours : length front % 4 ≡ 0
 
-word_set : (bytes front four back : List ℕ) (offset n : ℕ) → bytes ≡ front ++ four ++ back → offset ≡ length front → length four ≡ 4 → with_word bytes offset n ≡ front ++ uint32 n ++ back
+word_set : (bytes front four back : List ℕ) (offset n : ℕ) → bytes ≡ front ++ four ++ back → offset ≡ length front
+    → length four ≡ 4 → with_word bytes offset n ≡ front ++ uint32 n ++ back
 word_set bytes front four back offset n e place long =
-    let before : take offset bytes ≡ front = ap (take offset) (e ∙ append_assoc front four back) ∙ first_part front (four ++ back) offset place in
-    let after : drop (offset + 4) bytes ≡ back = ap (drop (offset + 4)) e ∙ last_part (front ++ four) back (offset + 4) (omega (arith, length-append front four, place, long)) in
+    let before : take offset bytes ≡ front =
+    ap (take offset) (e ∙ append_assoc front four back) ∙ first_part front (four ++ back) offset place
+    in
+    let after : drop (offset + 4) bytes ≡ back =
+    ap (drop (offset + 4)) e ∙ last_part (front ++ four) back (offset + 4) (omega (arith, length-append front four, place, long))
+    in
     ap (λ xs. xs ++ uint32 n ++ drop (offset + 4) bytes) before ∙ ap (λ xs. front ++ uint32 n ++ xs) after
 
 parts : (ts : List Table) → AreTables ts → Parts ts
@@ -64,8 +70,12 @@ parts ts are =
     let zeros : List ℕ = 0 ∷ 0 ∷ 0 ∷ 0 ∷ [] in
     let len = length_directory ts are.tags in
     let both = length-append (directory ts) a.front in
-    let with_zeros : unadjusted_file ts ≡ (directory ts ++ a.front) ++ zeros ++ a.back = ap (λ w. directory ts ++ w) a.cleared ∙ three_parts (directory ts) a.front zeros a.back in
-    let with_number : file ts ≡ (directory ts ++ a.front) ++ uint32 n ++ a.back = word_set (unadjusted_file ts) (directory ts ++ a.front) zeros a.back (head_offset ts (first_offset ts) + 8) n with_zeros (omega (arith, both, len, a.place)) refl in
+    let with_zeros : unadjusted_file ts ≡ (directory ts ++ a.front) ++ zeros ++ a.back =
+    ap (λ w. directory ts ++ w) a.cleared ∙ three_parts (directory ts) a.front zeros a.back
+    in
+    let with_number : file ts ≡ (directory ts ++ a.front) ++ uint32 n ++ a.back =
+    word_set (unadjusted_file ts) (directory ts ++ a.front) zeros a.back (head_offset ts (first_offset ts) + 8) n with_zeros (omega (arith, both, len, a.place)) refl
+    in
     record {
       front = directory ts ++ a.front;
       back = a.back;
@@ -94,12 +104,14 @@ total_number : (n : ℕ) → n < 2 ^ 32 → total (uint32 n) ≡ n
 unfolding total
 total_number n small = omega (arith, from_be_bytes-to_be_bytes_4 n small)
 
-total_with : (front back : List ℕ) (n : ℕ) → length front % 4 ≡ 0 → n < 2 ^ 32 → total (front ++ uint32 n ++ back) ≡ total front + n + total back
+total_with : (front back : List ℕ) (n : ℕ) → length front % 4 ≡ 0 → n < 2 ^ 32
+    → total (front ++ uint32 n ++ back) ≡ total front + n + total back
 total_with front back n fours small =
     let longer : length (front ++ uint32 n) % 4 ≡ 0 = omega (arith, length-append front (uint32 n), fours) in
     total-append (front ++ uint32 n) back longer ∙ ap (λ s. s + total back) (total-append front (uint32 n) fours ∙ ap (λ s. total front + s) (total_number n small))
 
-adds_up : (front back whole n sum : ℕ) → whole ≡ front + back → n ≡ (0xB1B0AFBA + (2 ^ 32 - whole % 2 ^ 32)) % 2 ^ 32 → sum ≡ front + n + back → sum % 2 ^ 32 ≡ 0xB1B0AFBA
+adds_up : (front back whole n sum : ℕ) → whole ≡ front + back → n ≡ (0xB1B0AFBA + (2 ^ 32 - whole % 2 ^ 32)) % 2 ^ 32
+    → sum ≡ front + n + back → sum % 2 ^ 32 ≡ 0xB1B0AFBA
 adds_up front back whole n sum w e s = omega arith
 
 pub checksum_file : (ts : List Table) → AreTables ts → checksum (file ts) ≡ 0xB1B0AFBA
@@ -124,17 +136,20 @@ offset_part h d t c o l e p = simp append_assoc
 length_part : (h d t c o l e p : List ℕ) → (h ++ (d ++ (t ++ c ++ o ++ l) ++ e)) ++ p ≡ (h ++ d ++ t ++ c ++ o) ++ l ++ (e ++ p)
 length_part h d t c o l e p = simp append_assoc
 
-tags_before : (before : List Table) (t : Table) (after : List Table) → All (λ table. length table.tag ≡ 4) (before ++ t ∷ after) → All (λ table. length table.tag ≡ 4) before
+tags_before : (before : List Table) (t : Table) (after : List Table) → All (λ table. length table.tag ≡ 4) (before ++ t ∷ after)
+    → All (λ table. length table.tag ≡ 4) before
 tags_before [] t after tags = λ k d h. absurd (omega arith)
 tags_before (b ∷ before) t after tags =
     All-cons (λ (table : Table). length table.tag ≡ 4) b before (tags 0 b (omega arith))
     (tags_before before t after (All-tail (λ (table : Table). length table.tag ≡ 4) b (before ++ t ∷ after) tags))
 
-tag_of : (before : List Table) (t : Table) (after : List Table) → All (λ table. length table.tag ≡ 4) (before ++ t ∷ after) → length t.tag ≡ 4
+tag_of : (before : List Table) (t : Table) (after : List Table) → All (λ table. length table.tag ≡ 4) (before ++ t ∷ after)
+    → length t.tag ≡ 4
 tag_of [] t after tags = tags 0 t (omega arith)
 tag_of (b ∷ before) t after tags = tag_of before t after (All-tail (λ (table : Table). length table.tag ≡ 4) b (before ++ t ∷ after) tags)
 
-pub leads : (before : List Table) (t : Table) (after : List Table) → AreTables (before ++ t ∷ after) → file_len (before ++ t ∷ after) < 2 ^ 32 → LeadsTo (file (before ++ t ∷ after)) (length before) t
+pub leads : (before : List Table) (t : Table) (after : List Table) → AreTables (before ++ t ∷ after)
+    → file_len (before ++ t ∷ after) < 2 ^ 32 → LeadsTo (file (before ++ t ∷ after)) (length before) t
 unfolding directory_entry
 leads before t after are fits =
     let ts = before ++ t ∷ after in
@@ -158,7 +173,9 @@ leads before t after are fits =
     let hdt = length-append (h ++ d) t.tag in
     let hdtc = length-append (h ++ d ++ t.tag) (uint32 sum) in
     let hdtco = length-append (h ++ d ++ t.tag ++ uint32 sum) (uint32 offset) in
-    let whole : file ts ≡ (h ++ (d ++ (t.tag ++ uint32 sum ++ uint32 offset ++ uint32 count) ++ e)) ++ tables = p.tables ∙ ap (λ entries. (h ++ entries) ++ tables) (entries-append before t after start) in
+    let whole : file ts ≡ (h ++ (d ++ (t.tag ++ uint32 sum ++ uint32 offset ++ uint32 count) ++ e)) ++ tables =
+    p.tables ∙ ap (λ entries. (h ++ entries) ++ tables) (entries-append before t after start)
+    in
     let tag_is : tag_at (file ts) k ≡ t.tag =
     ap (λ f. bytes_at f (12 + 16 * k) 4) (whole ∙ tag_part h d t.tag (uint32 sum) (uint32 offset) (uint32 count) e tables)
     ∙ found (h ++ d) t.tag (uint32 sum ++ uint32 offset ++ uint32 count ++ e ++ tables) (12 + 16 * k) 4 (omega (arith, twelve, sixteens, hd)) (sym four) in

@@ -16,7 +16,8 @@ use Rattle.font_assembly.proofs.FileLemmas.{head_has_54, length_unadjusted, and_
 -- ---- bytes at a place
 
 -- bytes that stand after so many others
-pub found : (before part after : List ℕ) (place count : ℕ) → place ≡ length before → count ≡ length part → bytes_at (before ++ part ++ after) place count ≡ part
+pub found : (before part after : List ℕ) (place count : ℕ) → place ≡ length before → count ≡ length part
+    → bytes_at (before ++ part ++ after) place count ≡ part
 found before part after place count p c =
     rw (append_assoc before part after, p, c, drop-append_seam before (part ++ after), take-append_seam part after) refl
 
@@ -26,13 +27,15 @@ three_parts a b c d = simp append_assoc
 four_parts : (a b c d e : List ℕ) → ((a ++ b ++ c) ++ d) ++ e ≡ a ++ b ++ (c ++ d ++ e)
 four_parts a b c d e = simp append_assoc
 
-pub number_found : (before after : List ℕ) (place n : ℕ) → place ≡ length before → n < 2 ^ 32 → uint32_at (before ++ uint32 n ++ after) place ≡ n
+pub number_found : (before after : List ℕ) (place n : ℕ) → place ≡ length before → n < 2 ^ 32
+    → uint32_at (before ++ uint32 n ++ after) place ≡ n
 number_found before after place n p small =
     ap (from_be_bytes w32) (found before (uint32 n) after place 4 p refl) ∙ from_be_bytes-to_be_bytes_4 n small
 
 -- ---- the directory
 
-pub length_entries : (ts : List Table) (offset : ℕ) → All (λ table. length table.tag ≡ 4) ts → length (directory_entries ts offset) ≡ 16 * length ts
+pub length_entries : (ts : List Table) (offset : ℕ) → All (λ table. length table.tag ≡ 4) ts
+    → length (directory_entries ts offset) ≡ 16 * length ts
 unfolding directory_entry
 length_entries [] offset tags = refl
 length_entries (t ∷ ts) offset tags =
@@ -75,16 +78,20 @@ first_part xs ys n e = rw (e, take-append_seam xs ys) refl
 pub last_part : (xs ys : List ℕ) (n : ℕ) → n ≡ length xs → drop n (xs ++ ys) ≡ ys
 last_part xs ys n e = rw (e, drop-append_seam xs ys) refl
 
-cleared : (bytes four : List ℕ) → 12 ≤ length bytes → length four ≡ 4 → with_four (with_four bytes four) (0 ∷ 0 ∷ 0 ∷ 0 ∷ []) ≡ with_four bytes (0 ∷ 0 ∷ 0 ∷ 0 ∷ [])
+cleared : (bytes four : List ℕ) → 12 ≤ length bytes → length four ≡ 4
+    → with_four (with_four bytes four) (0 ∷ 0 ∷ 0 ∷ 0 ∷ []) ≡ with_four bytes (0 ∷ 0 ∷ 0 ∷ 0 ∷ [])
 cleared bytes four long e =
     let eight : 8 ≡ length (take 8 bytes) = omega (arith, length-take 8 bytes) in
     let twelve : 12 ≡ length (take 8 bytes ++ four) = omega (arith, length-take 8 bytes, length-append (take 8 bytes) four) in
-    let front : take 8 (with_four bytes four) ≡ take 8 bytes = ap (take 8) (append_assoc (take 8 bytes) four (drop 12 bytes)) ∙ first_part (take 8 bytes) (four ++ drop 12 bytes) 8 eight in
+    let front : take 8 (with_four bytes four) ≡ take 8 bytes =
+    ap (take 8) (append_assoc (take 8 bytes) four (drop 12 bytes)) ∙ first_part (take 8 bytes) (four ++ drop 12 bytes) 8 eight
+    in
     let back : drop 12 (with_four bytes four) ≡ drop 12 bytes = last_part (take 8 bytes ++ four) (drop 12 bytes) 12 twelve in
     ap (λ xs. xs ++ (0 ∷ 0 ∷ 0 ∷ 0 ∷ []) ++ drop 12 (with_four bytes four)) front ∙ ap (λ xs. take 8 bytes ++ (0 ∷ 0 ∷ 0 ∷ 0 ∷ []) ++ xs) back
 
 -- whatever the four bytes of checksumAdjustment are, they don't count
-unadjusted_with : (t : Table) (four : List ℕ) → is_head t ≡ true → IsTrue (fits_head t) → length four ≡ 4 → unadjusted (record { tag = t.tag; bytes = with_four t.bytes four }) ≡ unadjusted t
+unadjusted_with : (t : Table) (four : List ℕ) → is_head t ≡ true → IsTrue (fits_head t) → length four ≡ 4
+    → unadjusted (record { tag = t.tag; bytes = with_four t.bytes four }) ≡ unadjusted t
 unadjusted_with t four it long e =
     let fifty_four : length t.bytes ≡ 54 = head_has_54 t it long in
     rw it (cleared t.bytes four (omega arith) e)
@@ -117,12 +124,14 @@ behind part whole t room more e led = record {
   same = led.same;
 }
 
-pub length_room : (t : Table) (bytes : List ℕ) → length bytes ≡ length t.bytes → IsTrue (fits_head t) → length (bytes ++ zeros_after t) ≡ room_of t
+pub length_room : (t : Table) (bytes : List ℕ) → length bytes ≡ length t.bytes → IsTrue (fits_head t)
+    → length (bytes ++ zeros_after t) ≡ room_of t
 length_room t bytes e long =
     let same = length_unadjusted t long in
     simp (length-append, length-replicate, same) (omega arith)
 
-bodies_led : (before : List Table) (t : Table) (after : List Table) → IsTrue (list_all fits_head (before ++ t ∷ after)) → Led (bodies (before ++ t ∷ after)) t (room_of_all before)
+bodies_led : (before : List Table) (t : Table) (after : List Table) → IsTrue (list_all fits_head (before ++ t ∷ after))
+    → Led (bodies (before ++ t ∷ after)) t (room_of_all before)
 bodies_led [] t after fit = record {
   front = [];
   body = unadjusted t;
@@ -143,10 +152,12 @@ long_head t n it long =
     let fifty_four : length t.bytes ≡ 54 = head_has_54 t it long in
     length-with_four t.bytes (uint32 n) (omega arith) refl
 
-placed_head : (n : ℕ) (t : Table) (ts : List Table) → is_head t ≡ true → placed n (t ∷ ts) ≡ (with_four t.bytes (uint32 n) ++ zeros_after t) ++ bodies ts
+placed_head : (n : ℕ) (t : Table) (ts : List Table) → is_head t ≡ true
+    → placed n (t ∷ ts) ≡ (with_four t.bytes (uint32 n) ++ zeros_after t) ++ bodies ts
 placed_head n t ts it = ap (λ (b : Bool). if b then (with_four t.bytes (uint32 n) ++ zeros_after t) ++ bodies ts else (unadjusted t ++ zeros_after t) ++ placed n ts) it
 
-placed_other : (n : ℕ) (t : Table) (ts : List Table) → is_head t ≡ false → placed n (t ∷ ts) ≡ (unadjusted t ++ zeros_after t) ++ placed n ts
+placed_other : (n : ℕ) (t : Table) (ts : List Table) → is_head t ≡ false
+    → placed n (t ∷ ts) ≡ (unadjusted t ++ zeros_after t) ++ placed n ts
 placed_other n t ts other = ap (λ (b : Bool). if b then (with_four t.bytes (uint32 n) ++ zeros_after t) ++ bodies ts else (unadjusted t ++ zeros_after t) ++ placed n ts) other
 
 moved : (xs ys : List ℕ) (t : Table) (room : ℕ) → xs ≡ ys → Led ys t room → Led xs t room
@@ -160,7 +171,8 @@ moved xs ys t room e led = record {
   same = led.same;
 }
 
-pub placed_led : (n : ℕ) (before : List Table) (t : Table) (after : List Table) → IsTrue (list_all fits_head (before ++ t ∷ after)) → Led (placed n (before ++ t ∷ after)) t (room_of_all before)
+pub placed_led : (n : ℕ) (before : List Table) (t : Table) (after : List Table)
+    → IsTrue (list_all fits_head (before ++ t ∷ after)) → Led (placed n (before ++ t ∷ after)) t (room_of_all before)
 placed_led n [] t after fit =
     let fits = and_first (fits_head t) (list_all fits_head after) fit in
     ⊎_elim
@@ -218,7 +230,9 @@ adjusted n offset (t ∷ ts) there fit =
     let fifty_four : length t.bytes ≡ 54 = head_has_54 t it fits in
     let eight : length (take 8 t.bytes) ≡ 8 = omega (arith, length-take 8 t.bytes) in
     let here : head_offset (t ∷ ts) offset ≡ offset = ap (λ (b : Bool). if b then offset else head_offset ts (offset + room_of t)) it in
-    let bytes : unadjusted t ≡ with_four t.bytes (0 ∷ 0 ∷ 0 ∷ 0 ∷ []) = ap (λ (b : Bool). if b then with_four t.bytes (0 ∷ 0 ∷ 0 ∷ 0 ∷ []) else t.bytes) it in
+    let bytes : unadjusted t ≡ with_four t.bytes (0 ∷ 0 ∷ 0 ∷ 0 ∷ []) =
+    ap (λ (b : Bool). if b then with_four t.bytes (0 ∷ 0 ∷ 0 ∷ 0 ∷ []) else t.bytes) it
+    in
     record {
       front = take 8 t.bytes;
       back = drop 12 t.bytes ++ zeros_after t ++ bodies ts;
@@ -230,7 +244,9 @@ adjusted n offset (t ∷ ts) there fit =
     (λ (other : is_head t ≡ false).
     let more : IsTrue (list_any is_head ts) = rw other at there in
     let rest = adjusted n (offset + room_of t) ts more (and_second (fits_head t) (list_all fits_head ts) fit) in
-    let later : head_offset (t ∷ ts) offset ≡ head_offset ts (offset + room_of t) = ap (λ (b : Bool). if b then offset else head_offset ts (offset + room_of t)) other in
+    let later : head_offset (t ∷ ts) offset ≡ head_offset ts (offset + room_of t) =
+    ap (λ (b : Bool). if b then offset else head_offset ts (offset + room_of t)) other
+    in
     let whole = length-append (unadjusted t ++ zeros_after t) rest.front in
     let fours : room_of t % 4 ≡ 0 = omega arith in
     record {

@@ -212,7 +212,8 @@ fn adjust(font: &mut Vec<u8>, offset: usize)
 
 /// The font file of tables (OpenType 1.9, "Organization of an OpenType Font"): the directory, and the tables in the
 /// order given, each padded with zeros to a multiple of four bytes. Whatever the checksumAdjustment of the 'head' that
-/// is handed in, the file has the one of OpenType 1.9, "head", over the whole file.
+/// is handed in, the file has the one of OpenType 1.9, "head", over the whole file. What its directory says of each table, its
+/// checksum and its length are laws of `directory_leads_to_tables`.
 ///
 /// # Errors
 ///
