@@ -178,6 +178,7 @@ header_of t = judged (refusal_of 0 1 []) (first_of (header_failures t)) (foremos
 abbrev pub IsMetric : ℤ → Type 0
 IsMetric z = (neg_ℤ (pos 16383) ≤ℤ z) × (z ≤ℤ pos 16383)
 
+-- each of a master's metrics is
 pub record HasMetricsInRange (master : Master) : Type 0 where
   pub ascender : IsMetric master.ascender
   pub descender : IsMetric master.descender

@@ -102,6 +102,7 @@ pub fn glyph_index(alloc: Global, tree: &Tree) -> Result<GlyphIndex, ReadError>
     read_index(alloc, tree)
 }
 
+/// What `glyph_index` answers.
 #[tactic(auto, using(crate::proofs::IndexLaws::entries_from_length), unfolding(crate::specs::IndexReading::index_of))]
 fn read_index(alloc: Global, tree: &Tree) -> Result<GlyphIndex, ReadError>
     requires { IsTree tree.now }
