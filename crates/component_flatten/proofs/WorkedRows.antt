@@ -1,12 +1,12 @@
 -- Worked examples: what the job of a flat glyph answers for a triangle at one place.
-use Rattle.std.proofs.Common.{◌≡◌, [], ◌∷◌, refl}
-use Rattle.std.specs.Prelude.{Ok, Err, ℤ, pos, neg_ℤ, true, codes}
+use Rattle.std.proofs.Common.{◌≡◌, ℕ, [], ◌∷◌, refl}
+use Rattle.std.specs.Prelude.{Ok, Err, ℤ, pos, neg_ℤ, true, replicate, codes}
 use Rattle.font_ir.specs.declared.glyph.DrawnPoint.{DrawnPoint}
 use Rattle.font_ir.specs.declared.glyph.Contour.{Contour}
 use Rattle.font_ir.specs.declared.glyph.Shape.TheVariants.{Path}
 use Rattle.font_ir.specs.declared.glyph.GlyphIr.{GlyphIr}
 use Rattle.font_ir.specs.declared.glyph.FlatGlyph.{FlatGlyph}
-use Rattle.refusal_codes.specs.declared.rule.Rule.TheVariants.{CoordinateTooLarge}
+use Rattle.refusal_codes.specs.declared.rule.Rule.TheVariants.{CoordinateTooLarge, TooManyPoints}
 use Rattle.component_flatten.specs.Flattening.{flat_record, flat_of}
 
 abbrev point : ℤ → ℤ → DrawnPoint
@@ -54,3 +54,28 @@ beyond-refused = refl
 pub below-refused : flat_of (codes "A") (triangle (neg_ℤ (pos 1073676289))) ≡ Err (record { stratum = 1; kind = 4; name = codes "A"; rule = CoordinateTooLarge; place = 82 })
 unfolding flat_of flat_record
 below-refused = refl
+
+-- a contour of so many points at the origin
+abbrev many_points : ℕ → Contour
+many_points n = record { points = replicate n (point (pos 0) (pos 0)) }
+
+abbrev many : ℕ → GlyphIr
+many n = record {
+  number = 0;
+  place = 82;
+  masters = 1;
+  places = [] ∷ [];
+  layers = record { width = pos 500; shapes = Path (many_points n) ∷ []; anchors = [] } ∷ [];
+}
+
+-- 8,000 points are drawn
+pub most_points-drawn :
+    flat_of (codes "A") (many 8000)
+    ≡ Ok (record { number = 0; place = 82; places = [] ∷ []; widths = pos 500 ∷ []; drawn = (many_points 8000 ∷ []) ∷ []; kept = []; anchors = [] })
+unfolding flat_of flat_record
+most_points-drawn = refl
+
+-- and one more is refused at the glyph
+pub more_points-refused : flat_of (codes "A") (many 8001) ≡ Err (record { stratum = 1; kind = 4; name = codes "A"; rule = TooManyPoints; place = 82 })
+unfolding flat_of flat_record
+more_points-refused = refl

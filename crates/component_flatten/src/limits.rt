@@ -26,7 +26,7 @@ pub fn too_many_points(drawn: &[Sequence<Contour>]) -> bool
     false
 }
 
-/// Whether these contours have more points than there may be. It counts no further than that.
+/// Whether these contours have more points than there may be.
 fn has_many_points(contours: &[Contour]) -> bool
     ensures { result ≡ has_many_points contours.now }
 {
