@@ -6,3 +6,6 @@ mod flat;
 mod limits;
 
 pub use flat::flatten;
+
+#[cfg(test)]
+mod tests;
