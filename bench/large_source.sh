@@ -1,6 +1,7 @@
 #!/usr/bin/env bash
 # Tells how much memory fontc takes for a source of 500 glyphs (or as many as are asked for) of 100 points each, as a multiple of
 # the source's size: for the whole build, and for reading alone, which a source of another format version ends.
+# It needs GNU time as /usr/bin/time.
 # usage: bench/large_source.sh [GLYPHS]
 set -euo pipefail
 glyphs="${1:-500}"
