@@ -20,6 +20,3 @@ pub use order::GlyphOrder;
 pub use outline::{StoredPoint, bounds_of, stored_point};
 pub use plain_lists::Text as Name;
 pub use variation::{LayoutTable, Location, Region, Tag};
-
-#[cfg(test)]
-mod tests;
