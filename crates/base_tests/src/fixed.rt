@@ -1,4 +1,4 @@
-use super::*;
+use fixed_math::{Fixed, mul, ratio, round_half_up};
 
 #[test]
 fn products_are_rounded_to_the_nearest(rt: HostRuntime) {

@@ -1,4 +1,4 @@
-use super::*;
+use plain_lists::{Sequence, Text};
 use std::test::Fail;
 
 #[test]

@@ -1,4 +1,8 @@
-use super::*;
+use outside_io::{
+    Console, Files, Gate, MemConsole, MemFiles, OpenGate, RealConsole, RealFiles, SureConsole,
+    SureFiles,
+};
+use refusal_codes::NoMemory;
 use std::alloc::Global;
 use std::fs;
 use std::test::Fail;
@@ -31,7 +35,7 @@ fn begins<F: Files>(files: &mut F, path: &str) -> bool {
 }
 
 /// Files with a source of 259 bytes in `in`, whose calls handle at most 100 bytes, and of which this one fails.
-fn listed(alloc: Global, call: u64) -> Result<MemFiles, refusal_codes::NoMemory> {
+pub(crate) fn listed(alloc: Global, call: u64) -> Result<MemFiles, NoMemory> {
     let mut files = MemFiles::with_room(alloc, 2, 1000)?;
     files.put(alloc, "in", &[7; 259])?;
     files.step(100);
@@ -40,7 +44,7 @@ fn listed(alloc: Global, call: u64) -> Result<MemFiles, refusal_codes::NoMemory>
 }
 
 /// Whether a path holds this many times this byte.
-fn holds(files: &MemFiles, path: &str, count: usize, byte: u8) -> bool {
+pub(crate) fn holds(files: &MemFiles, path: &str, count: usize, byte: u8) -> bool {
     match files.held(path) {
         Some(bytes) => bytes.len() == count && bytes.iter().all(|b| *b == byte),
         None => false,

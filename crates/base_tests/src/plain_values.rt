@@ -1,41 +1,15 @@
-use super::*;
-use fixed_math::{F2Dot14, Fixed};
+use fixed_math::Fixed;
+use fixtures::header;
+use font_ir::{
+    Contour, DrawnPoint, GlyphOrder, StoredPoint, bounds_of, made_notdef, padding, push_int16,
+    push_uint16, push_uint32, push_zeros, stored_point,
+};
 use plain_lists::Sequence;
-use std::alloc::Global;
 use std::test::Fail;
-
-fn header(alloc: Global) -> Result<Header, Fail> {
-    let mut masters = Sequence::new(alloc);
-    masters.push(Master {
-        id: Name::from_string(String::from_str(alloc, "m1")?),
-        design: Sequence::new(alloc),
-        user: Sequence::new(alloc),
-        location: Sequence::from_vec(vec![in alloc; F2Dot14(0)]?),
-        ascender: 800,
-        descender: -200,
-        cap: 0,
-        xheight: 0,
-        place: 0,
-    })?;
-    Ok(Header {
-        upem: 1001,
-        family: Name::from_string(String::new(alloc)),
-        major: 1,
-        minor: 0,
-        axes: Sequence::new(alloc),
-        masters,
-        masters_place: 0,
-        origin: 0,
-        instances: Sequence::new(alloc),
-        kerning: Sequence::new(alloc),
-        kern_place: 0,
-        features: Name::from_string(String::new(alloc)),
-    })
-}
 
 #[test]
 fn a_made_notdef_is_half_an_em_wide(rt: HostRuntime) -> Result<(), Fail> {
-    let glyph = made_notdef(rt.alloc(), &header(rt.alloc())?)?;
+    let glyph = made_notdef(rt.alloc(), &header(rt.alloc(), 1001)?)?;
     assert_eq!(rt; glyph.number, 4294967295);
     assert_eq!(rt; glyph.widths.as_slice(), [500].as_slice());
     Ok(())

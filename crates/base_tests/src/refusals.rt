@@ -1,15 +1,10 @@
-use super::*;
 use plain_lists::Text;
+use refusal_codes::{Refusal, Rule};
+use std::alloc::Global;
 use std::cmp::Ordering;
 use std::test::Fail;
 
-fn refusal(
-    alloc: std::alloc::Global,
-    kind: u8,
-    name: &str,
-    rule: Rule,
-    place: u64,
-) -> Result<Refusal, Fail> {
+fn refusal(alloc: Global, kind: u8, name: &str, rule: Rule, place: u64) -> Result<Refusal, Fail> {
     Ok(Refusal {
         stratum: 1,
         kind,

@@ -1,24 +1,6 @@
-use super::*;
-use outside_io::MemFiles;
+use crate::outside::{holds, listed};
 use std::test::Fail;
-
-/// Files that hold nothing, whose calls handle at most 100 bytes, and of which this call fails.
-fn listed(alloc: Global, call: u64) -> Result<MemFiles, Fail> {
-    let mut files = MemFiles::with_room(alloc, 2, 1000).ok().ok_or("memory")?;
-    files.step(100);
-    if files.fail(alloc, call).is_err() {
-        return Err("memory".into());
-    }
-    Ok(files)
-}
-
-/// Whether a path holds this many times this byte.
-fn holds(files: &MemFiles, path: &str, count: usize, byte: u8) -> bool {
-    match files.held(path) {
-        Some(bytes) => bytes.len() == count && bytes.iter().all(|b| *b == byte),
-        None => false,
-    }
-}
+use whole_files::{ReadWholeError, read_whole, write_whole};
 
 #[test]
 fn a_path_is_written_and_read_in_steps(rt: HostRuntime) -> Result<(), Fail> {

@@ -1,41 +1,8 @@
-use super::*;
+use fixtures::cubic_source;
+use font_plan::{compile_one, source_too_large};
 use refusal_codes::{CompileError, Refusal, Rule};
 use std::alloc::Global;
 use std::test::Fail;
-
-const TRIANGLE: &[u8] = b"{
-.formatVersion = 3;
-familyName = Tri;
-fontMaster = (
-{
-id = m1;
-}
-);
-glyphs = (
-{
-glyphname = A;
-layers = (
-{
-layerId = m1;
-shapes = (
-{
-closed = 1;
-nodes = (
-(0,0,l),
-(500,0,l),
-(250,700,l)
-);
-}
-);
-width = 500;
-}
-);
-unicode = 65;
-}
-);
-unitsPerEm = 1000;
-}
-";
 
 /// The triangle with a glyph that isn't exported and a `.notdef` of 600 units behind it.
 const THREE_GLYPHS: &[u8] = b"{
@@ -91,15 +58,6 @@ unitsPerEm = 1000;
 }
 ";
 
-/// The triangle with a cubic node, the third one.
-fn with_cubic_node(alloc: Global) -> Result<Vec<u8>, Fail> {
-    let mut source = Vec::from_slice(alloc, TRIANGLE)?;
-    if let Some(kind) = source.get_mut(190) {
-        *kind = b'c';
-    }
-    Ok(source)
-}
-
 #[test]
 fn notdef_is_the_first_glyph_and_hidden_ones_are_none(rt: HostRuntime) -> Result<(), Fail> {
     let built = compile_one(rt.alloc(), THREE_GLYPHS)?;
@@ -131,7 +89,7 @@ fn refusal_of(alloc: Global, source: &[u8]) -> Option<Refusal> {
 
 #[test]
 fn a_refusal_tells_its_job_its_rule_and_its_place(rt: HostRuntime) -> Result<(), Fail> {
-    let cubic = with_cubic_node(rt.alloc())?;
+    let cubic = cubic_source(rt.alloc())?;
     let refusal = refusal_of(rt.alloc(), cubic.as_slice()).ok_or("no refusal")?;
     assert_eq!(rt; (refusal.stratum, refusal.kind), (1, 3));
     assert_eq!(rt; refusal.name.as_str(), "A");

@@ -1,7 +1,7 @@
 ghost use Rattle.std.specs.Prelude.{◌≡◌, length, All, IfOk};
 ghost use Rattle.axis_space.specs.Coordinates.{HasAxis};
 
-use super::*;
+use axis_space::{MapError, avar_map, normalise, user_of};
 use fixed_math::{F2Dot14, Fixed};
 use font_ir::{Master, Name};
 use plain_lists::Sequence;

@@ -1,11 +1,11 @@
 ghost use Rattle.std.specs.Prelude.{◌≡◌, [], ◌∷◌, IfOk, length};
 
-use super::*;
 use fixed_math::{F2Dot14, Fixed};
 use font_ir::{Location, Region};
 use plain_lists::Sequence;
 use std::alloc::{AllocError, Global};
 use std::test::Fail;
+use variation_model::{DeltaError, Model, scalar};
 
 fn place(alloc: Global, x: i16, y: i16) -> Result<Location, AllocError>
     ensures { IfOk result (λ l. l ≡ record { 0 = x } ∷ record { 0 = y } ∷ []) }

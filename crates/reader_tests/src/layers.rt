@@ -1,45 +1,12 @@
-use super::*;
 use fixed_math::Fixed;
+use fixtures::SOURCE;
 use font_ir::{DrawnPoint, Shape};
+use glyphs_layers::raw_glyph;
 use glyphs_source::{glyph_index, header};
 use plist_reader::read;
 use std::test::Fail;
 
-const TRIANGLE: &[u8] = b"{
-.formatVersion = 3;
-familyName = Tri;
-fontMaster = (
-{
-id = m1;
-}
-);
-glyphs = (
-{
-glyphname = A;
-layers = (
-{
-layerId = m1;
-shapes = (
-{
-closed = 1;
-nodes = (
-(0,0,l),
-(500,0,l),
-(250,700,l)
-);
-}
-);
-width = 500;
-}
-);
-unicode = 65;
-}
-);
-unitsPerEm = 1000;
-}
-";
-
-fn point(x: i32, y: i32) -> DrawnPoint {
+pub(crate) fn point(x: i32, y: i32) -> DrawnPoint {
     DrawnPoint {
         x: Fixed(x),
         y: Fixed(y),
@@ -49,7 +16,7 @@ fn point(x: i32, y: i32) -> DrawnPoint {
 
 #[test]
 fn the_last_node_stored_starts_a_contour(rt: HostRuntime) -> Result<(), Fail> {
-    let tree = read(rt.alloc(), TRIANGLE)?;
+    let tree = read(rt.alloc(), SOURCE)?;
     let header = header(rt.alloc(), &tree)?;
     let index = glyph_index(rt.alloc(), &tree)?;
     assert_eq!(rt; index.len(), 1);

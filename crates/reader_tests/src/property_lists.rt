@@ -1,11 +1,8 @@
-use super::*;
+use fixtures::SOURCE;
+use plist_reader::{ValueRef, read};
 use refusal_codes::{ReadError, Rule};
 use std::alloc::{AllocError, Global};
 use std::test::Fail;
-
-/// A source of one triangle.
-const TRIANGLE: &[u8] =
-    b"{\n.formatVersion = 3;\nfamilyName = Tri;\nfontMaster = (\n{\nid = m1;\n}\n);\nglyphs = (\n{\nglyphname = A;\nlayers = (\n{\nlayerId = m1;\nshapes = (\n{\nclosed = 1;\nnodes = (\n(0,0,l),\n(500,0,l),\n(250,700,l)\n);\n}\n);\nwidth = 500;\n}\n);\nunicode = 65;\n}\n);\nunitsPerEm = 1000;\n}\n";
 
 /// A list of a string with a surrogate pair, a line feed and an octal escape, and of a byte string.
 const ESCAPES: &[u8] = b"(\"\\Ud83d\\Ude00\\n\\101\",<0aF f>,\n)";
@@ -35,7 +32,7 @@ fn many_keys(alloc: Global, count: u32) -> Result<String, AllocError> {
 
 #[test]
 fn a_source_is_read_and_its_values_are_found(rt: HostRuntime) -> Result<(), Fail> {
-    let tree = read(rt.alloc(), TRIANGLE)?;
+    let tree = read(rt.alloc(), SOURCE)?;
     let glyphs = tree.find(tree.top, b"glyphs").ok_or("no glyphs")?;
     let node = tree.nodes.get(glyphs).ok_or("no node")?;
     assert_eq!(rt; node.place, 80);

@@ -1,13 +1,14 @@
 ghost use Rattle.std.specs.Prelude.{IfOk};
 ghost use Rattle.plist_reader.specs.Tree.{IsTree};
 
-use super::*;
 use font_ir::Header;
+use glyphs_source::{glyph_index, header};
 use plist_reader::{Tree, read};
 use refusal_codes::{ReadError, Rule};
 use std::test::Fail;
 
-const TRIANGLE: &[u8] = b"{
+/// A source of two glyphs without layers.
+const TWO_GLYPHS: &[u8] = b"{
 .formatVersion = 3;
 familyName = Tri;
 fontMaster = (
@@ -30,15 +31,15 @@ unitsPerEm = 1000;
 }
 ";
 
-fn triangle(rt: &HostRuntime) -> Result<Tree, ReadError>
+fn two_glyphs(rt: &HostRuntime) -> Result<Tree, ReadError>
     ensures { IfOk result IsTree }
 {
-    read(rt.alloc(), TRIANGLE)
+    read(rt.alloc(), TWO_GLYPHS)
 }
 
 #[test]
 fn a_header_has_the_defaults_of_the_format(rt: HostRuntime) -> Result<(), Fail> {
-    let tree = triangle(&rt)?;
+    let tree = two_glyphs(&rt)?;
     let header = header(rt.alloc(), &tree)?;
     assert_eq!(rt; header.upem, 1000);
     assert_eq!(rt; header.family.as_str(), "Tri");
@@ -52,7 +53,7 @@ fn a_header_has_the_defaults_of_the_format(rt: HostRuntime) -> Result<(), Fail> 
 
 #[test]
 fn an_index_finds_glyphs_by_name_and_by_number(rt: HostRuntime) -> Result<(), Fail> {
-    let tree = triangle(&rt)?;
+    let tree = two_glyphs(&rt)?;
     let index = glyph_index(rt.alloc(), &tree)?;
     assert_eq!(rt; index.len(), 2);
     assert!(rt; !index.is_empty());
