@@ -1,9 +1,6 @@
 use fixed_math::Fixed;
 use fixtures::header;
-use font_ir::{
-    Contour, DrawnPoint, GlyphOrder, StoredPoint, bounds_of, made_notdef, padding, push_int16,
-    push_uint16, push_uint32, push_zeros, stored_point,
-};
+use font_ir::{Contour, DrawnPoint, GlyphOrder, StoredPoint, bounds_of, made_notdef, stored_point};
 use plain_lists::Sequence;
 use std::test::Fail;
 
@@ -75,17 +72,5 @@ fn the_bounds_are_of_all_points(rt: HostRuntime) -> Result<(), Fail> {
         },
     ]?;
     assert_eq!(rt; bounds_of(contours.as_slice()), Some([-1, -10, 250, 700]));
-    Ok(())
-}
-
-#[test]
-fn the_highest_byte_stands_first(rt: HostRuntime) -> Result<(), Fail> {
-    let mut bytes = Vec::new(rt.alloc());
-    push_uint16(&mut bytes, 1000)?;
-    push_int16(&mut bytes, -200)?;
-    push_uint32(&mut bytes, 0x5F0F3CF5)?;
-    push_zeros(&mut bytes, padding(54))?;
-    let expected = [0x03, 0xe8, 0xff, 0x38, 0x5f, 0x0f, 0x3c, 0xf5, 0, 0];
-    assert_eq!(rt; bytes.as_slice(), expected.as_slice());
     Ok(())
 }

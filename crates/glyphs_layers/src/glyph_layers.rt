@@ -1,9 +1,7 @@
 ghost use Rattle.std.specs.Prelude.{◌≡◌, ◌<◌, ◌^◌, length, map, slice_get, Ok, Err, IfOk, OnOk, IfSome, [], ◌∷◌, ◌++◌};
 ghost use Rattle.glyphs_source.specs.HeaderReading.{header_of};
 ghost use Rattle.font_ir.specs.ReadGlyphs.{IsReadGlyph, HasNoComponents, HasNoAnchors};
-ghost use Rattle.refusal_codes.specs.First.{refusal_of};
-ghost use Rattle.refusal_codes.specs.Gives.{Gives, RefusesRead};
-ghost use Rattle.font_ir.specs.declared.glyph.GlyphIr.{GlyphIr};
+ghost use Rattle.refusal_codes.specs.Gives.{Gives};
 ghost use Rattle.glyphs_layers.specs.LayerReading.{glyph_record, glyph_of};
 
 use crate::layer_rules::{layer_numbers, note_glyph, whole_failure};
@@ -12,7 +10,7 @@ use font_ir::{GlyphIr, Header, Location, Master, Name};
 use glyphs_source::{GlyphIndex, place_at};
 use plain_lists::Sequence;
 use plist_reader::Tree;
-use refusal_codes::{Failure, FirstFailure, ReadError};
+use refusal_codes::{FirstFailure, ReadError, job};
 use std::alloc::{AllocError, Global};
 
 /// The layers of the glyph with this number in the index: one per master.
@@ -67,23 +65,12 @@ fn read_glyph(
     let mut first = FirstFailure::new();
     note_glyph(tree, masters, glyph, &mut first);
     if let Some(failure) = first.get() {
-        return Err(refused(alloc, name, failure));
+        return Err(failure.refused(job::RAW, name.copy(alloc)?));
     }
     if let Some(failure) = whole_failure(tree, masters, glyph) {
-        return Err(refused(alloc, name, failure));
+        return Err(failure.refused(job::RAW, name.copy(alloc)?));
     }
     Ok(record(alloc, tree, masters, number, glyph)?)
-}
-
-/// The error of a failure that the job of a glyph's layers finds: the job is of stratum 1 and kind 3, and has the glyph's
-/// name.
-fn refused(alloc: Global, name: &Name, failure: Failure) -> ReadError
-    ensures { RefusesRead {Y = GlyphIr} result (Err (refusal_of 1 3 name.now failure)) }
-{
-    match name.copy(alloc) {
-        Ok(name) => ReadError::Refused(failure.refusal(1, 3, name)),
-        Err(_) => ReadError::NoMemory,
-    }
 }
 
 #[tactic(auto, unfolding(crate::specs::LayerReading::glyph_record))]

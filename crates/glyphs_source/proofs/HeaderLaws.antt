@@ -12,6 +12,7 @@ use Rattle.font_ir.specs.declared.header.Master.{Master}
 use Rattle.refusal_codes.specs.declared.first.Failure.{Failure}
 use Rattle.refusal_codes.specs.declared.rule.Rule.TheVariants.{MissingKey, OutOfRange}
 use Rattle.refusal_codes.specs.First.{first_of, foremost, refusal_of}
+use Rattle.refusal_codes.specs.declared.job.TheConstants.{HEADER}
 use Rattle.refusal_codes.proofs.FirstLaws.{first_of_none}
 use Rattle.refusal_codes.proofs.JudgedLaws.{judged_ok}
 use Rattle.glyphs_source.specs.declared.decimals.Decimal.{Decimal}
@@ -53,7 +54,7 @@ one_master t e w = there t (find_in t t.top (codes "fontMaster")) (local_none t 
 pub header-masters : (t : Tree) (h : Header) → header_of t ≡ Ok h → (m : ℕ) × (h.masters ≡ master_record t m ∷ [])
 unfolding header_of
 header-masters t h e =
-    let parts = judged_ok (refusal_of 0 1 []) (first_of (header_failures t)) (foremost (header_whole_failures t)) (header_record t) h e in
+    let parts = judged_ok (refusal_of HEADER []) (first_of (header_failures t)) (foremost (header_whole_failures t)) (header_record t) h e in
     let found = one_master t parts.0 parts.1 in
     (found.0, ap (λ (x : Header). x.masters) (sym parts.2) ∙ found.1)
 

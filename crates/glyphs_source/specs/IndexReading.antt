@@ -10,6 +10,7 @@ use Rattle.refusal_codes.specs.declared.refusal.Refusal.{Refusal}
 use Rattle.refusal_codes.specs.declared.rule.Rule.TheVariants.{WrongShape, DuplicateGlyph, DuplicateUnicode}
 use Rattle.refusal_codes.specs.declared.first.Failure.{Failure}
 use Rattle.refusal_codes.specs.First.{first_of, foremost, or_next, refusal_of, judged}
+use Rattle.refusal_codes.specs.declared.job.TheConstants.{INDEX}
 use Rattle.glyphs_source.specs.declared.decimals.Decimal.{Decimal}
 use Rattle.glyphs_source.specs.declared.entries.IndexEntry.{IndexEntry}
 use Rattle.glyphs_source.specs.declared.values.Range.TheVariants.{Any, Code}
@@ -127,8 +128,8 @@ repeated_codes t before [] = []
 repeated_codes t before (e ∷ es) =
     (if repeats before (counting e) then fails DuplicateUnicode t e.node else []) ++ repeated_codes t (before ++ counting e) es
 
--- what the job of the index answers: it is of stratum 0 and kind 2, and without a name
+-- what the job of the index answers
 unfoldable pub index_of : Tree → Result (List (List ℕ × IndexEntry)) Refusal
 index_of t =
     let entries = entries_from t 0 (glyph_numbers t) in
-    judged (refusal_of 0 2 []) (first_of (index_failures t)) (or_next (foremost (repeated_names t [] (glyph_numbers t))) (foremost (repeated_codes t [] (map (λ entry. entry.1) entries)))) entries
+    judged (refusal_of INDEX []) (first_of (index_failures t)) (or_next (foremost (repeated_names t [] (glyph_numbers t))) (foremost (repeated_codes t [] (map (λ entry. entry.1) entries)))) entries

@@ -2,10 +2,11 @@ ghost use Rattle.std.specs.Prelude.{◌≡◌, pos, true};
 
 use fixed_math::Fixed;
 use fixtures::{GLYPH_DATA, glyph, one_contour, triangle};
-use font_ir::{DrawnPoint, TableError};
+use font_ir::DrawnPoint;
 use glyf_writer::{glyf_loca, simple_bytes};
 use std::sync::Arc;
 use std::test::Fail;
+use table_bytes::TableError;
 
 #[test]
 fn the_triangle_stands_behind_a_glyph_without_data(rt: HostRuntime) -> Result<(), Fail> {
