@@ -34,29 +34,30 @@ fn measured(rt: &impl Abort, alloc: Global, header: &Header) -> Result<Measures,
     Ok(measure(alloc, header, &order(rt, alloc)?, glyphs.as_slice())?)
 }
 
-/// The tables of the triangle's font, with no adjustment in the table head.
-const HEAD: &str = "0001000000010000000000005f0f3cf5000303e8000000000000000000000000\
-    000000000000000001f402bc00000006000200010000";
+/// The tables head, hhea, maxp and hmtx, one after another.
+fn tables(alloc: Global, header: &Header, measures: &Measures) -> Result<Vec<u8>, Fail>
+    requires header { HasOriginAndVersion header.now }
+    requires measures { AreMeasures measures.now }
+{
+    let mut tables = head(alloc, header, measures)?;
+    tables.extend_from_slice(hhea(alloc, header, measures)?.as_slice())?;
+    tables.extend_from_slice(maxp(alloc, header, measures)?.as_slice())?;
+    tables.extend_from_slice(hmtx(alloc, header, measures)?.as_slice())?;
+    Ok(tables)
+}
 
-const HHEA: &str = "000100000320ff38000001f40000000001f4000100000000000000000000000000000002";
-
-const MAXP: &str = "0001000000020003000100000000000200000000000000000000000000000000";
-
-const HMTX: &str = "01f4000001f40000";
+/// These tables of the triangle's font, with no adjustment in the table head.
+const TABLES: &str = "0001000000010000000000005f0f3cf5000303e8000000000000000000000000\
+    000000000000000001f402bc00000006000200010000\
+    000100000320ff38000001f40000000001f4000100000000000000000000000000000002\
+    0001000000020003000100000000000200000000000000000000000000000000\
+    01f4000001f40000";
 
 #[test]
 fn a_triangle_and_a_notdef_have_these_tables(rt: HostRuntime) -> Result<(), Fail> {
     let header = header(rt.alloc(), 1000)?;
     let measures = measured(&rt, rt.alloc(), &header)?;
-    let tables = [
-        (head(rt.alloc(), &header, &measures)?, HEAD),
-        (hhea(rt.alloc(), &header, &measures)?, HHEA),
-        (maxp(rt.alloc(), &header, &measures)?, MAXP),
-        (hmtx(rt.alloc(), &header, &measures)?, HMTX),
-    ];
-    for (table, expected) in &tables {
-        let expected = hex::decode(rt.alloc(), *expected)?;
-        assert_eq!(rt; table.as_slice(), expected.as_slice());
-    }
+    let tables = tables(rt.alloc(), &header, &measures)?;
+    assert!(rt; tables == hex::decode(rt.alloc(), TABLES)?);
     Ok(())
 }
