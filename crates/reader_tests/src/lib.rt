@@ -2,9 +2,7 @@
 #![tactic(auto)]
 
 #[cfg(test)]
-mod flat;
-#[cfg(test)]
-mod layers;
+mod glyphs;
 #[cfg(test)]
 mod property_lists;
 #[cfg(test)]

@@ -1,5 +1,5 @@
 use fixtures::SOURCE;
-use plist_reader::{ValueRef, read};
+use plist_reader::{Tree, ValueRef, read};
 use refusal_codes::{ReadError, Rule};
 use std::alloc::{AllocError, Global};
 use std::test::Fail;
@@ -30,40 +30,44 @@ fn many_keys(alloc: Global, count: u32) -> Result<String, AllocError> {
     Ok(text)
 }
 
+/// Whether a tree has this value under this number, between these places.
+fn has_node(tree: &Tree, number: u32, places: (u64, u64), value: ValueRef) -> bool {
+    match tree.nodes.get(number) {
+        Some(node) => (node.place, node.end) == places && node.value == value,
+        None => false,
+    }
+}
+
+/// Whether a tree has this text under this key of its dictionary.
+fn has_text(tree: &Tree, key: &[u8], text: &str) -> bool {
+    match tree.find(tree.top, key) {
+        Some(number) => match tree.nodes.get(number) {
+            Some(node) => node.value == ValueRef::Text(text),
+            None => false,
+        },
+        None => false,
+    }
+}
+
 #[test]
-fn a_source_is_read_and_its_values_are_found(rt: HostRuntime) -> Result<(), Fail> {
+fn values_are_found_by_their_keys(rt: HostRuntime) -> Result<(), Fail> {
     let tree = read(rt.alloc(), SOURCE)?;
+    assert!(rt; has_text(&tree, b"unitsPerEm", "1000") && tree.find(tree.top, b"glyph").is_none());
     let glyphs = tree.find(tree.top, b"glyphs").ok_or("no glyphs")?;
     let node = tree.nodes.get(glyphs).ok_or("no node")?;
-    assert_eq!(rt; node.place, 80);
-    assert_eq!(rt; node.end, 236);
-    let units = tree.find(tree.top, b"unitsPerEm").ok_or("no units")?;
-    let node = tree.nodes.get(units).ok_or("no node")?;
-    assert!(rt; node.value == ValueRef::Text("1000"));
-    assert!(rt; tree.find(tree.top, b"glyph").is_none());
-    assert!(rt; tree.find(units, b"glyphs").is_none());
+    assert!(rt; (node.place, node.end) == (80, 236));
+    assert!(rt; tree.find(glyphs, b"glyphname").is_none());
     Ok(())
 }
 
 #[test]
 fn escapes_are_undone_and_hexadecimal_digits_are_bytes(rt: HostRuntime) -> Result<(), Fail> {
     let tree = read(rt.alloc(), ESCAPES)?;
-    assert_eq!(rt; tree.nodes.len(), 3);
-    assert_eq!(rt; tree.top, 2);
-    let node = tree.nodes.get(0).ok_or("no string")?;
-    assert_eq!(rt; node.place, 1);
-    assert_eq!(rt; node.end, 21);
-    assert!(rt; node.value == ValueRef::Text("\u{1f600}\nA"));
-    let node = tree.nodes.get(1).ok_or("no byte string")?;
-    assert_eq!(rt; node.place, 22);
-    assert_eq!(rt; node.end, 29);
-    assert!(rt; node.value == ValueRef::Bytes(b"\n\xff".as_slice()));
-    let node = tree.nodes.get(2).ok_or("no list")?;
-    assert_eq!(rt; node.place, 0);
-    assert_eq!(rt; node.end, 32);
-    assert!(rt; node.value == ValueRef::Items([0, 1].as_slice()));
+    assert!(rt; tree.nodes.len() == 3 && tree.top == 2 && !tree.nodes.is_empty());
+    assert!(rt; has_node(&tree, 0, (1, 21), ValueRef::Text("\u{1f600}\nA")));
+    assert!(rt; has_node(&tree, 1, (22, 29), ValueRef::Bytes(b"\n\xff".as_slice())));
+    assert!(rt; has_node(&tree, 2, (0, 32), ValueRef::Items([0, 1].as_slice())));
     assert!(rt; tree.nodes.get(3).is_none());
-    assert!(rt; !tree.nodes.is_empty());
     Ok(())
 }
 
@@ -120,15 +124,10 @@ fn a_million_brackets_are_refused_and_a_hundred_thousand_keys_are_read(
     rt: HostRuntime,
 ) -> Result<(), Fail> {
     let brackets = vec![in rt.alloc(); b'('; 1_000_000]?;
-    assert_eq!(rt;
-        refused(rt.alloc(), brackets.as_slice())?,
-        Some((Rule::TooDeep, 64))
-    );
+    assert!(rt; refused(rt.alloc(), brackets.as_slice())? == Some((Rule::TooDeep, 64)));
     let keys = many_keys(rt.alloc(), 100_000)?;
     assert!(rt; keys.len() <= 67_108_864);
     let tree = read(rt.alloc(), keys.as_bytes())?;
-    assert_eq!(rt; tree.nodes.len(), 200_001);
-    let last = tree.find(tree.top, b"k99999").ok_or("no key")?;
-    assert_eq!(rt; last, 199_999);
+    assert!(rt; tree.nodes.len() == 200_001 && tree.find(tree.top, b"k99999") == Some(199_999));
     Ok(())
 }

@@ -37,17 +37,23 @@ fn two_glyphs(rt: &HostRuntime) -> Result<Tree, ReadError>
     read(rt.alloc(), TWO_GLYPHS)
 }
 
+/// Whether a header has what the format gives a source that says nothing of it.
+fn has_defaults(header: &Header) -> bool {
+    match header.masters.as_slice() {
+        [master] => {
+            (header.major, header.minor) == (1, 0)
+                && master.id.as_str() == "m1"
+                && (master.ascender, master.descender) == (800, -200)
+        }
+        _ => false,
+    }
+}
+
 #[test]
 fn a_header_has_the_defaults_of_the_format(rt: HostRuntime) -> Result<(), Fail> {
     let tree = two_glyphs(&rt)?;
     let header = header(rt.alloc(), &tree)?;
-    assert_eq!(rt; header.upem, 1000);
-    assert_eq!(rt; header.family.as_str(), "Tri");
-    assert_eq!(rt; (header.major, header.minor), (1, 0));
-    assert_eq!(rt; header.masters.len(), 1);
-    let master = &header.masters.as_slice()[0];
-    assert_eq!(rt; master.id.as_str(), "m1");
-    assert_eq!(rt; (master.ascender, master.descender), (800, -200));
+    assert!(rt; header.upem == 1000 && header.family.as_str() == "Tri" && has_defaults(&header));
     Ok(())
 }
 
@@ -55,15 +61,12 @@ fn a_header_has_the_defaults_of_the_format(rt: HostRuntime) -> Result<(), Fail> 
 fn an_index_finds_glyphs_by_name_and_by_number(rt: HostRuntime) -> Result<(), Fail> {
     let tree = two_glyphs(&rt)?;
     let index = glyph_index(rt.alloc(), &tree)?;
-    assert_eq!(rt; index.len(), 2);
-    assert!(rt; !index.is_empty());
+    assert!(rt; index.len() == 2 && !index.is_empty());
     let (name, entry) = index.at(1).ok_or("no second glyph")?;
-    assert_eq!(rt; name.as_str(), "B");
-    assert!(rt; !entry.exported);
+    assert!(rt; name.as_str() == "B" && !entry.exported);
     let (name, _) = index.at(0).ok_or("no first glyph")?;
     let entry = index.get(name).ok_or("A is missing")?;
-    assert!(rt; entry.exported);
-    assert_eq!(rt; entry.codes.as_slice(), [65, 97].as_slice());
+    assert!(rt; entry.exported && entry.codes.as_slice() == [65, 97].as_slice());
     Ok(())
 }
 
@@ -107,6 +110,6 @@ fn failure_of(answer: Result<Header, ReadError>) -> Option<(Rule, u64)> {
 fn a_source_without_keys_lacks_one_at_its_dictionary(rt: HostRuntime) -> Result<(), Fail> {
     let tree = read(rt.alloc(), b"{}")?;
     let failure = failure_of(header(rt.alloc(), &tree));
-    assert_eq!(rt; failure, Some((Rule::MissingKey, 0)));
+    assert!(rt; failure == Some((Rule::MissingKey, 0)));
     Ok(())
 }
