@@ -12,6 +12,3 @@ pub use errors::MapError;
 pub use normal::normalise;
 pub use pairs::avar_map;
 pub use points::user_of;
-
-#[cfg(test)]
-mod tests;

@@ -6,6 +6,3 @@ mod flat;
 mod limits;
 
 pub use flat::flatten;
-
-#[cfg(test)]
-mod tests;

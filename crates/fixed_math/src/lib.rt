@@ -43,6 +43,3 @@ pub fn round_half_up(raw: i64) -> i64
 {
     (raw + 32768).div_euclid(65536)
 }
-
-#[cfg(test)]
-mod tests;

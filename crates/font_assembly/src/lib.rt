@@ -7,6 +7,3 @@ mod laws;
 
 pub use file::assemble;
 pub use laws::directory_leads_to_tables;
-
-#[cfg(test)]
-mod tests;

@@ -20,6 +20,3 @@ pub use outline::{StoredPoint, bounds_of, stored_point};
 pub use plain_lists::Text as Name;
 pub use tag::Tag;
 pub use variation::{LayoutTable, Location, Region};
-
-#[cfg(test)]
-mod tests;

@@ -9,6 +9,3 @@ mod written;
 
 pub use compile::{Built, compile_one, source_too_large};
 pub use laws::a_source_is_accepted_with_its_parts;
-
-#[cfg(test)]
-mod tests;

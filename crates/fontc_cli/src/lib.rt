@@ -7,6 +7,3 @@ mod status;
 
 pub use runs::{run, run_alone};
 pub use status::{Report, Status};
-
-#[cfg(test)]
-mod tests;

@@ -9,6 +9,3 @@ mod tables;
 
 pub use simple::simple_bytes;
 pub use tables::glyf_loca;
-
-#[cfg(test)]
-mod tests;

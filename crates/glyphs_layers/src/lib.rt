@@ -6,6 +6,3 @@ mod layer_rules;
 mod layers;
 
 pub use glyph_layers::raw_glyph;
-
-#[cfg(test)]
-mod tests;

@@ -21,6 +21,3 @@ pub use keys::{
 pub use values::{
     Range, decimal_at, is_dictionary, items_at, note_at, note_whole, place_at, text_at,
 };
-
-#[cfg(test)]
-mod tests;

@@ -11,6 +11,3 @@ mod tables;
 pub use measures::{Maxima, MeasureError, Measures};
 pub use measuring::measure;
 pub use tables::{head, hhea, hmtx, maxp};
-
-#[cfg(test)]
-mod tests;

@@ -20,6 +20,3 @@ pub use mem_console::MemConsole;
 pub use mem_files::MemFiles;
 pub use real::{RealConsole, RealFiles};
 pub use sure::{SureConsole, SureFiles};
-
-#[cfg(test)]
-mod tests;

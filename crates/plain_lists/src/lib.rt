@@ -9,6 +9,3 @@ mod text;
 
 pub use sequence::Sequence;
 pub use text::Text;
-
-#[cfg(test)]
-mod tests;

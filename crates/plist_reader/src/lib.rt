@@ -17,6 +17,3 @@ pub use source::{
     trees_are_unique, trees_stand_in_their_sources,
 };
 pub use tree::{NodeRef, Tree, TreeNode, TreeValue, ValueRef};
-
-#[cfg(test)]
-mod tests;

@@ -13,6 +13,3 @@ pub use errors::{CompileError, NoMemory, ReadError};
 pub use first::{Failure, FirstFailure, first_failure_is_the_least};
 pub use refusal::{Refusal, refusals_are_ordered};
 pub use rule::Rule;
-
-#[cfg(test)]
-mod tests;

@@ -12,6 +12,3 @@ pub use errors::DeltaError;
 pub use font_ir::Region;
 pub use model::Model;
 pub use scalars::scalar;
-
-#[cfg(test)]
-mod tests;

@@ -131,6 +131,3 @@ fn behind(bytes: &[u8], count: usize) -> &[u8]
 {
     bytes.split_at(count).1
 }
-
-#[cfg(test)]
-mod tests;

@@ -1,7 +1,0 @@
-use Rattle.std.proofs.Common.{◌≡◌, length}
-use Rattle.std.specs.Prelude.{All}
-use Rattle.font_ir.specs.Coordinates.{HasAxis}
-use Rattle.axis_space.proofs.tests.masters.Given as goal
-
-abbrev pub invariant-loop-place : goal.invariant-loop-place
-invariant-loop-place l = (length l.masters.items ≡ l.place-index) × All (HasAxis 0) l.masters.items

@@ -1,0 +1,7 @@
+//! Tests of the whole compiler, in one call and behind its commands.
+#![tactic(auto)]
+
+#[cfg(test)]
+mod commands;
+#[cfg(test)]
+mod plan;

@@ -1,0 +1,7 @@
+use Rattle.std.proofs.Common.{◌≡◌, length}
+use Rattle.std.specs.Prelude.{All}
+use Rattle.font_ir.specs.Coordinates.{HasAxis}
+use Rattle.model_tests.proofs.axes.masters.Given as goal
+
+abbrev pub invariant-loop-place : goal.invariant-loop-place
+invariant-loop-place l = (length l.masters.items ≡ l.place-index) × All (HasAxis 0) l.masters.items

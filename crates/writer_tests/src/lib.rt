@@ -1,0 +1,9 @@
+//! Tests of the writers, over their public calls.
+#![tactic(auto)]
+
+#[cfg(test)]
+mod assembly;
+#[cfg(test)]
+mod glyf;
+#[cfg(test)]
+mod metrics;
