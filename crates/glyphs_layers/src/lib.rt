@@ -2,8 +2,8 @@
 #![tactic(auto)]
 
 mod glyph_layers;
-mod layer_rules;
 mod layers;
+mod paths;
 
 pub use glyph_layers::raw_glyph;
 
