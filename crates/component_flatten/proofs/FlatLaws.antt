@@ -21,6 +21,7 @@ use Rattle.font_ir.specs.ReadGlyphs.{ShapeForm, path_form, component_form, form_
 use Rattle.refusal_codes.specs.declared.errors.ReadError.{ReadError}
 use Rattle.refusal_codes.specs.declared.first.Failure.{Failure}
 use Rattle.refusal_codes.specs.First.{foremost, refusal_of}
+use Rattle.refusal_codes.specs.declared.job.TheConstants.{FLAT}
 use Rattle.refusal_codes.specs.Gives.{Gives}
 use Rattle.refusal_codes.proofs.JudgedLaws.{judged_ok}
 use Rattle.component_flatten.specs.Flattening.{contours_of, drawn_contours, flat_record, has_many_points, is_small, is_small_point, has_small_points, are_small, limit_failures, flat_of}
@@ -136,6 +137,6 @@ pub flat_glyph : (glyph : GlyphIr) → IsReadGlyph glyph → (name : List ℕ) (
 unfolding flat_of
 flat_glyph glyph read name (Err error) given = tt
 flat_glyph glyph read name (Ok x) given =
-    let parts = judged_ok (refusal_of 1 4 name) None (foremost (limit_failures (flat_record glyph))) (flat_record glyph) x given in
+    let parts = judged_ok (refusal_of FLAT name) None (foremost (limit_failures (flat_record glyph))) (flat_record glyph) x given in
     let kept = limits_kept (flat_record glyph) parts.1 in
     subst (λ (y : FlatGlyph). IsFlatGlyph y) parts.2 (flat_facts glyph read kept.0 kept.1)

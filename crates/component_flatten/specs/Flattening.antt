@@ -17,6 +17,7 @@ use Rattle.refusal_codes.specs.declared.rule.Rule.{Rule}
 use Rattle.refusal_codes.specs.declared.rule.Rule.TheVariants.{CoordinateTooLarge, TooManyPoints}
 use Rattle.refusal_codes.specs.declared.first.Failure.{Failure}
 use Rattle.refusal_codes.specs.First.{foremost, refusal_of, judged}
+use Rattle.refusal_codes.specs.declared.job.TheConstants.{FLAT}
 
 -- ---- what is drawn
 
@@ -66,7 +67,7 @@ limit_failures flat =
     fails_flat (list_any has_many_points flat.drawn) TooManyPoints flat
     ++ fails_flat (not (list_all are_small flat.drawn)) CoordinateTooLarge flat
 
--- what the job of a flat glyph answers, for the glyph with this name: it is of stratum 1 and kind 4, and has the glyph's name
+-- what the job of a flat glyph answers, for the glyph with this name, which the job has too
 unfoldable pub flat_of : List ℕ → GlyphIr → Result FlatGlyph Refusal
 flat_of name glyph =
-    judged (refusal_of 1 4 name) None (foremost (limit_failures (flat_record glyph))) (flat_record glyph)
+    judged (refusal_of FLAT name) None (foremost (limit_failures (flat_record glyph))) (flat_record glyph)

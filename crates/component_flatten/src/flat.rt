@@ -1,9 +1,8 @@
 ghost use Rattle.std.specs.Prelude.{◌≡◌, ◌<◌, [], length, slice_get, Err, IfOk, IfSome};
 ghost use Rattle.font_ir.specs.FlatGlyphs.{IsFlatGlyph};
 ghost use Rattle.font_ir.specs.ReadGlyphs.{IsReadGlyph, HasNoComponents, HasNoAnchors};
-ghost use Rattle.refusal_codes.specs.First.{foremost, refusal_of};
-ghost use Rattle.refusal_codes.specs.Gives.{Gives, RefusesRead};
-ghost use Rattle.font_ir.specs.declared.glyph.FlatGlyph.{FlatGlyph};
+ghost use Rattle.refusal_codes.specs.First.{foremost};
+ghost use Rattle.refusal_codes.specs.Gives.{Gives};
 ghost use Rattle.component_flatten.specs.Flattening.{flat_record, limit_failures, flat_of};
 
 use crate::drawing::{copied_places, drawn, widths};
@@ -11,7 +10,7 @@ use crate::limits::{all_small, too_many_points};
 use font_ir::{FlatGlyph, GlyphIr, Name};
 use glyphs_source::GlyphIndex;
 use plain_lists::Sequence;
-use refusal_codes::{Failure, ReadError, Rule};
+use refusal_codes::{Failure, ReadError, Rule, job};
 use std::alloc::{AllocError, Global};
 use std::sync::Arc;
 
@@ -53,7 +52,7 @@ fn draw(alloc: Global, glyph: &GlyphIr, name: &Name) -> Result<FlatGlyph, ReadEr
 {
     let flat = record(alloc, glyph)?;
     match failure_in(&flat) {
-        Some(failure) => Err(refused(alloc, name, failure)),
+        Some(failure) => Err(failure.refused(job::FLAT, name.copy(alloc)?)),
         None => Ok(flat),
     }
 }
@@ -74,16 +73,6 @@ fn failure_in(flat: &FlatGlyph) -> Option<Failure>
             rule: Rule::CoordinateTooLarge,
             place: flat.place,
         })
-    }
-}
-
-/// The error of a failure that the job of a flat glyph finds: the job is of stratum 1 and kind 4, and has the glyph's name.
-fn refused(alloc: Global, name: &Name, failure: Failure) -> ReadError
-    ensures { RefusesRead {Y = FlatGlyph} result (Err (refusal_of 1 4 name.now failure)) }
-{
-    match name.copy(alloc) {
-        Ok(name) => ReadError::Refused(failure.refusal(1, 4, name)),
-        Err(_) => ReadError::NoMemory,
     }
 }
 

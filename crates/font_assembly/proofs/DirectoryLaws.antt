@@ -3,7 +3,7 @@ use Rattle.std.proofs.Common.{◌≡◌, ℕ, ◌+◌, ◌-◌, ◌*◌, ◌%◌
 use Rattle.std.proofs.lemmas.List.Elements.{All-tail, All-cons}
 use Rattle.std.proofs.lemmas.Nat.{from_be_bytes-to_be_bytes_4}
 use Rattle.std.specs.List.{All, list_all}
-use Rattle.font_ir.specs.DataTypes.{uint32}
+use Rattle.table_bytes.specs.DataTypes.{uint32}
 use Rattle.font_assembly.specs.Checksum.{total, checksum}
 use Rattle.font_assembly.specs.File.{Table, fits_head, unadjusted, room_of, room_of_all, head_offset, directory_head, directory_entry, directory_entries, bodies, first_offset, unadjusted_file, with_word, adjustment, file, file_len}
 use Rattle.font_assembly.specs.Directory.{AreTables, LeadsTo, bytes_at, uint32_at, tag_at, checksum_at, offset_at, length_at}

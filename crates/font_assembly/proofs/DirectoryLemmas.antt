@@ -8,7 +8,7 @@ use Rattle.std.proofs.lemmas.Nat.{from_be_bytes-to_be_bytes_4}
 use Rattle.std.specs.Prelude.{if◌then◌else◌}
 use Rattle.std.specs.Int.{w32, from_be_bytes}
 use Rattle.std.specs.List.{All, list_any, list_all}
-use Rattle.font_ir.specs.DataTypes.{uint32, padding}
+use Rattle.table_bytes.specs.DataTypes.{uint32, padding}
 use Rattle.font_assembly.specs.File.{Table, is_head, fits_head, unadjusted, room_of, room_of_all, head_offset, directory_entry, directory_entries, bodies}
 use Rattle.font_assembly.specs.Directory.{bytes_at, uint32_at}
 use Rattle.font_assembly.proofs.FileLemmas.{head_has_54, length_unadjusted, and_first, and_second}

@@ -5,7 +5,7 @@ use Rattle.std.specs.List.{list_any, list_all}
 use Rattle.std.proofs.lemmas.Bool.Decides.{nat_tests}
 use Rattle.std.proofs.lemmas.Bool.{cases_lt}
 use Rattle.std.proofs.Math.Nat.{pow-le-pow_right, pow-suc}
-use Rattle.font_ir.specs.DataTypes.{padding}
+use Rattle.table_bytes.specs.DataTypes.{padding}
 use Rattle.font_assembly.specs.Checksum.{total, checksum}
 use Rattle.font_assembly.specs.File.{Table, greatest_power, is_head, fits_head, unadjusted, room_of, room_of_all, head_offset}
 use Rattle.font_assembly.proofs.TotalLemmas.{total-append}

@@ -5,7 +5,7 @@ use Rattle.std.specs.Int.{w32, from_be_bytes}
 use Rattle.std.proofs.lemmas.List.{append-nil}
 use Rattle.std.proofs.lemmas.List.Sums.{sum_by-cons, sum_by-append}
 use Rattle.byteorder.specs.Endian.{big_number}
-use Rattle.font_ir.specs.DataTypes.{padding, padded}
+use Rattle.table_bytes.specs.DataTypes.{padding, padded}
 use Rattle.font_assembly.specs.Checksum.{words, total}
 
 pub padding-four : (n : ℕ) → padding (suc (suc (suc (suc n)))) ≡ padding n

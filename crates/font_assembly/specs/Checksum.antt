@@ -2,7 +2,7 @@
 use Rattle.std.specs.Prelude.{ℕ, ◌%◌, ◌^◌, List, [], ◌∷◌}
 use Rattle.std.specs.List.{sum}
 use Rattle.std.specs.Int.{w32, from_be_bytes}
-use Rattle.font_ir.specs.DataTypes.{padded}
+use Rattle.table_bytes.specs.DataTypes.{padded}
 
 -- the 32-bit numbers that bytes hold, four bytes each, the highest first
 abbrev pub words : List ℕ → List ℕ

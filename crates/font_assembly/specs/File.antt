@@ -6,7 +6,7 @@ use Rattle.std.specs.List.{flat_map, list_any, list_all}
 use Rattle.std.specs.Cmp.Lexicographic.{pointwise, slice_cmp}
 use Rattle.std.specs.Ordering.{nat_cmp}
 use Rattle.std.specs.declared.cmp.Ordering.{Ordering}
-use Rattle.font_ir.specs.DataTypes.{uint16, uint32, padding, padded}
+use Rattle.table_bytes.specs.DataTypes.{uint16, uint32, padding, padded}
 use Rattle.font_assembly.specs.Checksum.{checksum}
 
 -- a table: its tag's four bytes, and its bytes

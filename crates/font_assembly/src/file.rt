@@ -1,17 +1,18 @@
 ghost use Rattle.std.specs.Prelude.{◌≡◌, ◌+◌, ◌-◌, ◌*◌, ◌^◌, ◌<◌, ◌≤◌, ◌++◌, ℕ, List, length, min, OnOk, IsTrue};
 ghost use Rattle.std.specs.Vec.{vec_len};
 ghost use Rattle.std.specs.Arc.{arc_value};
-ghost use Rattle.font_ir.specs.DataTypes.{padded};
-ghost use Rattle.font_ir.specs.Tables.{Builds, over_limit};
+ghost use Rattle.table_bytes.specs.DataTypes.{padded};
+ghost use Rattle.table_bytes.specs.Tables.{Builds, over_limit};
 ghost use Rattle.font_assembly.specs.Checksum as sums;
 ghost use Rattle.font_assembly.specs.File as files;
 ghost use Rattle.font_assembly.specs.Assembled.{table_of, tables_of};
 
 use crate::checksums::checksum;
 use byteorder::{BigEndian, ByteOrder};
-use font_ir::{TableError, Tag, padding, push_uint16, push_uint32, push_zeros};
+use font_ir::Tag;
 use std::alloc::{AllocError, Global};
 use std::sync::Arc;
+use table_bytes::{TableError, padding, push_uint16, push_uint32, push_zeros};
 
 /// A table: its tag and its bytes.
 type Table = (Tag, Arc<Vec<u8>>);

@@ -1,5 +1,3 @@
 mod Names
 pub mod ExtremesLaws
-pub mod FieldLemmas
 pub mod OutlineLemmas
-pub mod TableLemmas

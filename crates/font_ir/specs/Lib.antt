@@ -1,8 +1,6 @@
-pub mod DataTypes
 pub mod Extremes
 pub mod FlatGlyphs
 pub mod Glyphs
 pub mod Notdef
 pub mod Outlines
 pub mod ReadGlyphs
-pub mod Tables

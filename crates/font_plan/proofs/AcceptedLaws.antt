@@ -9,8 +9,8 @@ use Rattle.plist_reader.proofs.GivenTexts.{given}
 use Rattle.plist_reader.proofs.OneAnswer.{tree-of}
 use Rattle.glyphs_source.specs.HeaderReading.{header_of}
 use Rattle.glyphs_source.specs.IndexReading.{index_of}
-use Rattle.font_ir.specs.Tables.{over_limit}
-use Rattle.font_ir.proofs.TableLemmas.{is_within}
+use Rattle.table_bytes.specs.Tables.{over_limit}
+use Rattle.table_bytes.specs.LimitLaws.{is_within}
 use Rattle.glyf_writer.specs.Tables as outlines
 use Rattle.font_assembly.specs.File.{Table, file, file_len}
 use Rattle.font_plan.specs.Accepted.{IsFontOf}

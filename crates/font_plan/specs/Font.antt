@@ -7,7 +7,10 @@ use Rattle.std.specs.Option.{option_map}
 use Rattle.std.specs.Cmp.Lexicographic.{pointwise}
 use Rattle.refusal_codes.specs.declared.refusal.Refusal.{Refusal}
 use Rattle.refusal_codes.specs.declared.rule.Rule.TheVariants.{TooLarge, TooManyGlyphs, TableTooLarge}
+use Rattle.refusal_codes.specs.First.{refusal_of}
 use Rattle.refusal_codes.specs.Gives.{◌>>=◌}
+use Rattle.refusal_codes.specs.declared.job.TheConstants.{TREE, ORDER, TABLE, FONT}
+use Rattle.refusal_codes.specs.declared.limits.TheConstants.{SOURCE_BYTES}
 use Rattle.plist_reader.specs.declared.tree.Tree.{Tree}
 use Rattle.plist_reader.specs.Reading.{read_of}
 use Rattle.font_ir.specs.declared.header.Header.{Header}
@@ -21,7 +24,7 @@ use Rattle.glyphs_layers.specs.LayerReading.{glyph_of}
 use Rattle.component_flatten.specs.Flattening.{flat_of}
 use Rattle.glyf_writer.specs.GlyphData.{simple_data}
 use Rattle.font_ir.specs.Outlines.{outline_at}
-use Rattle.font_ir.specs.Tables.{over_limit}
+use Rattle.table_bytes.specs.Tables.{over_limit}
 use Rattle.glyf_writer.specs.Tables as outlines
 use Rattle.metrics_tables.specs.declared.measures.Measures.{Measures}
 use Rattle.metrics_tables.specs.Measuring.{measures_of}
@@ -32,18 +35,18 @@ use Rattle.font_assembly.specs.File.{Table, file, file_len}
 
 -- the refusal of a source that is too long
 abbrev pub source_too_large : Refusal
-source_too_large = record { stratum = 0; kind = 0; name = []; rule = TooLarge; place = 67108864 }
+source_too_large = refusal_of TREE [] (record { rule = TooLarge; place = SOURCE_BYTES })
 
 -- the refusal of too many glyphs
 abbrev pub too_many_glyphs : ℕ → Refusal
-too_many_glyphs count = record { stratum = 2; kind = 9; name = []; rule = TooManyGlyphs; place = count }
+too_many_glyphs count = refusal_of ORDER [] (record { rule = TooManyGlyphs; place = count })
 
 -- the refusal of a table that is too long, and of a font that is
 abbrev pub table_too_large : List ℕ → ℕ → Refusal
-table_too_large tag length = record { stratum = 4; kind = 16; name = tag; rule = TableTooLarge; place = length }
+table_too_large tag length = refusal_of TABLE tag (record { rule = TableTooLarge; place = length })
 
 abbrev pub font_too_large : ℕ → Refusal
-font_too_large length = record { stratum = 5; kind = 17; name = []; rule = TableTooLarge; place = length }
+font_too_large length = refusal_of FONT [] (record { rule = TableTooLarge; place = length })
 
 -- ---- the glyphs of the font
 

@@ -14,7 +14,8 @@ use font_ir::{FlatGlyph, Header};
 use glyphs_source::{GlyphIndex, glyph_index, header};
 use plain_lists::Text;
 use plist_reader::{Tree, read};
-use refusal_codes::{CompileError, Refusal, Rule};
+use refusal_codes::limits::SOURCE_BYTES;
+use refusal_codes::{CompileError, Failure, Refusal, Rule, job};
 use std::alloc::Global;
 use std::sync::Arc;
 
@@ -75,17 +76,15 @@ fn compile_glyphs(
     write_font(alloc, header, &order, glyphs)
 }
 
-/// The refusal of too many glyphs: the job of the order is of stratum 2 and kind 9, and has no name.
+/// The refusal of too many glyphs, which the job of the order finds.
 fn too_many_glyphs(alloc: Global, count: u64) -> Refusal
     ensures { result ≡ too_many_glyphs count }
 {
-    Refusal {
-        stratum: 2,
-        kind: 9,
-        name: Text::new(alloc),
+    let failure = Failure {
         rule: Rule::TooManyGlyphs,
         place: count,
-    }
+    };
+    failure.refusal(job::ORDER, Text::new(alloc))
 }
 
 /// The refusal of a source that has more than 67,108,864 bytes. It takes no memory.
@@ -93,11 +92,9 @@ fn too_many_glyphs(alloc: Global, count: u64) -> Refusal
 pub fn source_too_large(alloc: Global) -> Refusal
     ensures { (source : List ℕ) → 67108864 < length source → font_of source ≡ Err result }
 {
-    Refusal {
-        stratum: 0,
-        kind: 0,
-        name: Text::new(alloc),
+    let failure = Failure {
         rule: Rule::TooLarge,
-        place: 67_108_864,
-    }
+        place: SOURCE_BYTES as u64,
+    };
+    failure.refusal(job::TREE, Text::new(alloc))
 }

@@ -14,13 +14,14 @@ ghost use Rattle.font_plan.specs.Drawn.{IsDrawn};
 ghost use Rattle.font_plan.specs.Font.{written, filed, tables_with, parts_of, table_too_large, font_too_large};
 
 use font_assembly::assemble;
-use font_ir::{FlatGlyph, GlyphOrder, Header, TableError, Tag};
+use font_ir::{FlatGlyph, GlyphOrder, Header, Tag};
 use glyf_writer::{glyf_loca, simple_bytes};
 use metrics_tables::{MeasureError, Measures, head, hhea, hmtx, maxp, measure};
 use plain_lists::Text;
-use refusal_codes::{CompileError, NoMemory, Refusal, Rule};
+use refusal_codes::{CompileError, Failure, NoMemory, Refusal, Rule, job};
 use std::alloc::Global;
 use std::sync::Arc;
+use table_bytes::TableError;
 
 /// The font of these glyphs.
 #[tactic(auto, unfolding(crate::specs::Font::written))]
@@ -161,28 +162,27 @@ fn file_of(alloc: Global, tables: &[(Tag, Arc<Vec<u8>>)]) -> Result<Vec<u8>, Com
     }
 }
 
-/// The refusal of a table "glyf" that is too long: its job is of stratum 4 and kind 16, and has the tag as its name.
+/// The refusal of a table "glyf" that is too long; its job has the tag as its name.
 fn table_too_large(alloc: Global, length: u64) -> Result<Refusal, NoMemory>
     ensures { IfOk result (λ refusal. refusal ≡ table_too_large (codes "glyf") length) }
 {
-    Ok(Refusal {
-        stratum: 4,
-        kind: 16,
-        name: Text::from_string(String::from_str(alloc, "glyf")?),
+    let failure = Failure {
         rule: Rule::TableTooLarge,
         place: length,
-    })
+    };
+    Ok(failure.refusal(
+        job::TABLE,
+        Text::from_string(String::from_str(alloc, "glyf")?),
+    ))
 }
 
-/// The refusal of a font that is too long: its job is of stratum 5 and kind 17, and has no name.
+/// The refusal of a font that is too long, which has no name.
 fn font_too_large(alloc: Global, length: u64) -> Refusal
     ensures { result ≡ font_too_large length }
 {
-    Refusal {
-        stratum: 5,
-        kind: 17,
-        name: Text::new(alloc),
+    let failure = Failure {
         rule: Rule::TableTooLarge,
         place: length,
-    }
+    };
+    failure.refusal(job::FONT, Text::new(alloc))
 }

@@ -10,9 +10,9 @@ use Rattle.font_ir.specs.FlatGlyphs.{IsSmall}
 use Rattle.font_ir.specs.declared.outline.StoredPoint.{StoredPoint}
 use Rattle.glyf_writer.specs.declared.outline.Step.{Step}
 use Rattle.glyf_writer.specs.Outlines.{end_points, steps_from}
-use Rattle.font_ir.specs.DataTypes.{uint16, uint32}
-use Rattle.font_ir.specs.Tables.{over_limit}
-use Rattle.font_ir.proofs.TableLemmas.{is_over, is_within}
+use Rattle.table_bytes.specs.DataTypes.{uint16, uint32}
+use Rattle.table_bytes.specs.Tables.{over_limit}
+use Rattle.table_bytes.specs.LimitLaws.{is_over, is_within}
 use Rattle.glyf_writer.specs.Tables.{offsets, loca_bytes, too_large}
 
 pub shift_zero : (ns : List ℕ) → map (λ n. 0 + n) ns ≡ ns

@@ -4,7 +4,7 @@
 use Rattle.std.specs.Prelude.{ℕ, ◌+◌, ◌-◌, ◌/◌, ◌%◌, ℤ, pos, Bool, List, [], ◌∷◌, ◌++◌, map, length, replicate, nat_lt, ◌==◌, if◌then◌else◌, unsigned_abs, int_lt, bit_or}
 use Rattle.std.specs.List.{flat_map}
 use Rattle.font_ir.specs.declared.outline.StoredPoint.{StoredPoint}
-use Rattle.font_ir.specs.DataTypes.{uint16, int16, padded}
+use Rattle.table_bytes.specs.DataTypes.{uint16, int16, padded}
 use Rattle.glyf_writer.specs.declared.outline.Step.{Step}
 use Rattle.font_ir.specs.Extremes.{least, greatest}
 use Rattle.font_ir.specs.Outlines.{all_points}

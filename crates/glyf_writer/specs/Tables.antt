@@ -2,8 +2,8 @@
 -- format.
 use Rattle.std.specs.Prelude.{ℕ, ◌+◌, List, [], ◌∷◌, map, length, Option, nat_lt, if◌then◌else◌}
 use Rattle.std.specs.List.{concat, flat_map}
-use Rattle.font_ir.specs.DataTypes.{uint32}
-use Rattle.font_ir.specs.Tables.{over_limit}
+use Rattle.table_bytes.specs.DataTypes.{uint32}
+use Rattle.table_bytes.specs.Tables.{over_limit}
 
 -- where each glyph's data begin in "glyf", and last where the last ones end
 abbrev pub offsets : List (List ℕ) → List ℕ

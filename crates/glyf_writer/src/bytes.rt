@@ -1,13 +1,14 @@
 ghost use Rattle.std.specs.Prelude.{◌≡◌, ◌<◌, ◌≤◌, ◌++◌, pos, length, map, slice_index_or, OnOk};
 ghost use Rattle.std.specs.List.{All, flat_map};
 ghost use Rattle.font_ir.specs.FlatGlyphs.{point_count};
-ghost use Rattle.font_ir.specs.DataTypes.{uint16, int16, padded};
+ghost use Rattle.table_bytes.specs.DataTypes.{uint16, int16, padded};
 ghost use Rattle.glyf_writer.specs.Outlines.{end_points};
 ghost use Rattle.glyf_writer.specs.GlyphData.{coordinate_bytes};
 
 use crate::outline::Step;
-use font_ir::{Contour, padding, push_int16, push_uint16, push_zeros};
+use font_ir::Contour;
 use refusal_codes::NoMemory;
+use table_bytes::{padding, push_int16, push_uint16, push_zeros};
 
 /// Writes the bounds xMin, yMin, xMax and yMax.
 pub fn push_bounds(bytes: &mut Vec<u8>, bounds: [i16; 4]) -> Result<(), NoMemory>

@@ -8,9 +8,10 @@ ghost use Rattle.glyf_writer.specs.GlyphData.{simple_data, glyph_bytes, glyph_of
 use crate::bytes::{pad, push_bounds, push_end_points, push_x_coordinates, push_y_coordinates};
 use crate::flags::{flags_of, push_flags};
 use crate::outline::{steps_of, stored_points_of};
-use font_ir::{Contour, FlatGlyph, StoredPoint, bounds_of, push_uint16};
+use font_ir::{Contour, FlatGlyph, StoredPoint, bounds_of};
 use refusal_codes::NoMemory;
 use std::alloc::Global;
+use table_bytes::push_uint16;
 
 /// The data of a simple glyph in the table "glyf" (OpenType 1.9, "Simple Glyph Description"), padded to four bytes.
 ///

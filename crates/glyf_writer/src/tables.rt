@@ -1,12 +1,12 @@
 ghost use Rattle.std.specs.Prelude.{◌≡◌, ◌≤◌, ◌*◌, ◌+◌, ℕ, List, length, map, min, IfOk};
 ghost use Rattle.std.specs.List.{concat};
-ghost use Rattle.font_ir.specs.Tables.{Builds};
+ghost use Rattle.table_bytes.specs.Tables.{Builds};
 ghost use Rattle.glyf_writer.specs.Tables.{glyf_bytes, loca_bytes, too_large};
 
-use font_ir::{TableError, push_uint32};
 use refusal_codes::NoMemory;
 use std::alloc::Global;
 use std::sync::Arc;
+use table_bytes::{TableError, push_uint32};
 
 /// The greatest length that four bytes can say.
 const LONGEST_TABLE: u64 = 4_294_967_295;

@@ -21,6 +21,7 @@ use Rattle.font_ir.specs.ReadGlyphs.{IsReadGlyph, HasNoComponents, HasNoAnchors,
 use Rattle.refusal_codes.specs.declared.errors.ReadError.{ReadError}
 use Rattle.refusal_codes.specs.declared.first.Failure.{Failure}
 use Rattle.refusal_codes.specs.First.{first_of, foremost, refusal_of}
+use Rattle.refusal_codes.specs.declared.job.TheConstants.{RAW}
 use Rattle.refusal_codes.specs.Gives.{Gives}
 use Rattle.refusal_codes.proofs.JudgedLaws.{judged_ok}
 use Rattle.source_values.specs.declared.decimals.Decimal.{Decimal}
@@ -237,7 +238,7 @@ record_facts t m number g at there =
 one_master_facts : (t : Tree) (m : Master) (name : List ℕ) (number g : ℕ) (x : GlyphIr) → m.location ≡ [] → glyph_of t (m ∷ []) name number g ≡ Ok x → Facts number x
 unfolding glyph_of
 one_master_facts t m name number g x at e =
-    let parts = judged_ok (refusal_of 1 3 name) (first_of (glyph_failures t (m ∷ []) g)) (foremost (glyph_whole_failures t (m ∷ []) g)) (glyph_record t (m ∷ []) number g) x e in
+    let parts = judged_ok (refusal_of RAW name) (first_of (glyph_failures t (m ∷ []) g)) (foremost (glyph_whole_failures t (m ∷ []) g)) (glyph_record t (m ∷ []) number g) x e in
     subst (λ (y : GlyphIr). Facts number y) parts.2 (record_facts t m number g at (layer_there t m g parts.1))
 
 -- one location, which has no coordinates, is that of one master

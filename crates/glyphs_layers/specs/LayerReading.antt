@@ -14,6 +14,7 @@ use Rattle.font_ir.specs.declared.glyph.GlyphIr.{GlyphIr}
 use Rattle.font_ir.specs.declared.header.Master.{Master}
 use Rattle.refusal_codes.specs.declared.refusal.Refusal.{Refusal}
 use Rattle.refusal_codes.specs.First.{first_of, foremost, refusal_of, judged}
+use Rattle.refusal_codes.specs.declared.job.TheConstants.{RAW}
 use Rattle.source_values.specs.declared.decimals.Decimal.{Decimal}
 use Rattle.source_values.specs.declared.kinds.Range.TheVariants.{Coordinate}
 use Rattle.source_values.specs.Decimals.{is_whole}
@@ -96,10 +97,10 @@ glyph_record t masters number glyph = record {
   layers = flat_map (master_layers t (layer_numbers t glyph)) masters;
 }
 
--- what the job of a glyph's layers answers, for the glyph with this name, number and dictionary: it is of stratum 1 and
--- kind 3, and has the glyph's name
+-- what the job of a glyph's layers answers, for the glyph with this name, number and dictionary; the job has the
+-- glyph's name
 unfoldable pub glyph_of : Tree → List Master → List ℕ → ℕ → ℕ → Result GlyphIr Refusal
 glyph_of t masters name number glyph =
     let local = first_of (glyph_failures t masters glyph) in
     let whole = foremost (glyph_whole_failures t masters glyph) in
-    judged (refusal_of 1 3 name) local whole (glyph_record t masters number glyph)
+    judged (refusal_of RAW name) local whole (glyph_record t masters number glyph)

@@ -1,9 +1,8 @@
 ghost use Rattle.std.specs.Prelude.{◌≡◌, ◌<◌, ◌^◌, length, map, flat_map, slice_get, Ok, Err, IfOk, OnOk, IfSome, [], ◌∷◌, ◌++◌};
 ghost use Rattle.glyphs_source.specs.HeaderReading.{header_of};
 ghost use Rattle.font_ir.specs.ReadGlyphs.{IsReadGlyph, HasNoComponents, HasNoAnchors};
-ghost use Rattle.refusal_codes.specs.First.{noted, refusal_of};
-ghost use Rattle.refusal_codes.specs.Gives.{Gives, RefusesRead};
-ghost use Rattle.font_ir.specs.declared.glyph.GlyphIr.{GlyphIr};
+ghost use Rattle.refusal_codes.specs.First.{noted};
+ghost use Rattle.refusal_codes.specs.Gives.{Gives};
 ghost use Rattle.glyphs_layers.specs.LayerRules.{layer_numbers, glyph_failures};
 ghost use Rattle.glyphs_layers.specs.LayerReading.{master_layers, glyph_of};
 
@@ -12,7 +11,7 @@ use font_ir::{GlyphIr, Header, LayerIr, Location, Master, Name};
 use glyphs_source::{GlyphIndex, headers_have_one_master};
 use plain_lists::Sequence;
 use plist_reader::Tree;
-use refusal_codes::{Failure, FirstFailure, ReadError, Rule};
+use refusal_codes::{Failure, FirstFailure, ReadError, Rule, job};
 use source_values::{Dictionary, Each, items_under, optional, place_at};
 use std::alloc::{AllocError, Global};
 
@@ -69,14 +68,14 @@ fn read_glyph(
     let mut first = FirstFailure::new();
     let layers = glyph_layers(alloc, tree, masters, glyph, &mut first)?;
     if let Some(failure) = first.get() {
-        return Err(refused(alloc, name, failure));
+        return Err(failure.refused(job::RAW, name.copy(alloc)?));
     }
     if layers.len() < masters.len() {
         let failure = Failure {
             rule: Rule::MissingLayer,
             place: place_at(tree, glyph),
         };
-        return Err(refused(alloc, name, failure));
+        return Err(failure.refused(job::RAW, name.copy(alloc)?));
     }
     Ok(GlyphIr {
         number,
@@ -101,17 +100,6 @@ fn glyph_layers(
 {
     optional(tree, glyph, b"layers", &Each(Dictionary(Entry)), first);
     read_layers(alloc, tree, items_under(tree, glyph, b"layers"), masters, first)
-}
-
-/// The error of a failure that the job of a glyph's layers finds: the job is of stratum 1 and kind 3, and has the glyph's
-/// name.
-fn refused(alloc: Global, name: &Name, failure: Failure) -> ReadError
-    ensures { RefusesRead {Y = GlyphIr} result (Err (refusal_of 1 3 name.now failure)) }
-{
-    match name.copy(alloc) {
-        Ok(name) => ReadError::Refused(failure.refusal(1, 3, name)),
-        Err(_) => ReadError::NoMemory,
-    }
 }
 
 /// The masters' locations.

@@ -14,6 +14,7 @@ use Rattle.refusal_codes.specs.declared.errors.ReadError.{ReadError}
 use Rattle.refusal_codes.specs.Gives.{Gives}
 use Rattle.refusal_codes.specs.declared.rule.Rule.TheVariants.{MissingKey, OutOfRange}
 use Rattle.refusal_codes.specs.First.{first_of, foremost, refusal_of}
+use Rattle.refusal_codes.specs.declared.job.TheConstants.{HEADER}
 use Rattle.refusal_codes.proofs.FirstLaws.{first_of_none}
 use Rattle.refusal_codes.proofs.JudgedLaws.{judged_ok}
 use Rattle.source_values.specs.declared.decimals.Decimal.{Decimal}
@@ -179,7 +180,7 @@ pub read_header : (t : Tree) (h : Header) → header_of t ≡ Ok h → IsReadHea
 unfolding header_of
 read_header t h e =
     let parts =
-        judged_ok (refusal_of 0 1 []) (first_of (header_failures t)) (foremost (header_whole_failures t))
+        judged_ok (refusal_of HEADER []) (first_of (header_failures t)) (foremost (header_whole_failures t))
         (header_record t) h e in
     subst IsReadHeader parts.2 (read_record t parts.0 parts.1)
 

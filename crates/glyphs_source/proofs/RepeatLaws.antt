@@ -17,6 +17,7 @@ use Rattle.refusal_codes.specs.declared.errors.ReadError.TheVariants as read_err
 use Rattle.refusal_codes.specs.declared.first.Failure.{Failure}
 use Rattle.refusal_codes.specs.declared.rule.Rule.TheVariants.{DuplicateGlyph, DuplicateUnicode}
 use Rattle.refusal_codes.specs.First.{first_of, foremost, or_next, refusal_of, judged}
+use Rattle.refusal_codes.specs.declared.job.TheConstants.{INDEX}
 use Rattle.refusal_codes.specs.Gives.{Gives}
 use Rattle.glyphs_source.specs.declared.entries.IndexEntry.{IndexEntry}
 use Rattle.source_values.specs.Values.{place_at}
@@ -180,7 +181,7 @@ module _ (t : Tree) where
   abbrev code_again : Option Failure
   code_again = foremost (repeated_codes t [] (map (λ entry. entry.1) all_entries))
 
-  without : (local names again : Option Failure) → names ≡ name_again → again ≡ code_again → (index : List (List ℕ × IndexEntry)) → judged (refusal_of 0 2 []) local (or_next names again) all_entries ≡ Ok index → IsWithoutRepeats index
+  without : (local names again : Option Failure) → names ≡ name_again → again ≡ code_again → (index : List (List ℕ × IndexEntry)) → judged (refusal_of INDEX []) local (or_next names again) all_entries ≡ Ok index → IsWithoutRepeats index
   without (Some f) names again n a index e = absurd cc
   without None (Some f) again n a index e = absurd cc
   without None None (Some f) n a index e = absurd cc
@@ -189,7 +190,7 @@ module _ (t : Tree) where
     codes = subst distinct_codes (codes_of all_entries) (codes_none t [] (map (λ entry. entry.1) all_entries) (none_distinct nat_eq) (sym a));
   })
 
-  tells : (local names again : Option Failure) → local ≡ first_of (index_failures t) → names ≡ name_again → again ≡ code_again → (r : Refusal) → judged (refusal_of 0 2 []) local (or_next names again) all_entries ≡ Err r → TellsRepeat t r
+  tells : (local names again : Option Failure) → local ≡ first_of (index_failures t) → names ≡ name_again → again ≡ code_again → (r : Refusal) → judged (refusal_of INDEX []) local (or_next names again) all_entries ≡ Err r → TellsRepeat t r
   tells (Some f) names again l n a r e =
       let other = first_local t f (sym l) in
       subst (TellsRepeat t) (ap (λ x. refused_by x r) e) (record { name = λ h. absurd (other.0 h); code = λ h. absurd (other.1 h) })

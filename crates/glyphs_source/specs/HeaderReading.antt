@@ -11,6 +11,7 @@ use Rattle.refusal_codes.specs.declared.refusal.Refusal.{Refusal}
 use Rattle.refusal_codes.specs.declared.rule.Rule.TheVariants.{WrongShape, WrongVersion, OutOfRange, NoMaster, AxisCount}
 use Rattle.refusal_codes.specs.declared.first.Failure.{Failure}
 use Rattle.refusal_codes.specs.First.{first_of, foremost, refusal_of, judged}
+use Rattle.refusal_codes.specs.declared.job.TheConstants.{HEADER}
 use Rattle.source_values.specs.declared.decimals.Decimal.{Decimal}
 use Rattle.source_values.specs.declared.kinds.Range.TheVariants.{Natural}
 use Rattle.source_values.specs.Decimals.{is_whole}
@@ -161,9 +162,9 @@ header_record t = record {
   features = [];
 }
 
--- what the job of the header answers: it is of stratum 0 and kind 1, and without a name
+-- what the job of the header answers
 unfoldable pub header_of : Tree → Result Header Refusal
-header_of t = judged (refusal_of 0 1 []) (first_of (header_failures t)) (foremost (header_whole_failures t)) (header_record t)
+header_of t = judged (refusal_of HEADER []) (first_of (header_failures t)) (foremost (header_whole_failures t)) (header_record t)
 
 -- ---- what each header that is read fulfils
 

@@ -11,6 +11,7 @@ use Rattle.refusal_codes.specs.declared.refusal.Refusal.{Refusal}
 use Rattle.refusal_codes.specs.declared.rule.Rule.TheVariants.{WrongShape, DuplicateGlyph, DuplicateUnicode}
 use Rattle.refusal_codes.specs.declared.first.Failure.{Failure}
 use Rattle.refusal_codes.specs.First.{first_of, foremost, or_next, refusal_of, judged}
+use Rattle.refusal_codes.specs.declared.job.TheConstants.{INDEX}
 use Rattle.source_values.specs.declared.decimals.Decimal.{Decimal}
 use Rattle.source_values.specs.declared.kinds.Range.TheVariants.{Any, Code}
 use Rattle.source_values.specs.Decimals.{is_whole}
@@ -118,10 +119,10 @@ repeated_codes t before (e ∷ es) =
     (if repeats before (counting e) then fails DuplicateUnicode t e.node else [])
     ++ repeated_codes t (before ++ counting e) es
 
--- what the job of the index answers: it is of stratum 0 and kind 2, and without a name
+-- what the job of the index answers
 unfoldable pub index_of : Tree → Result (List (List ℕ × IndexEntry)) Refusal
 index_of t =
     let entries = entries_from t 0 (glyph_numbers t) in
     let names_again = foremost (repeated_names t [] (glyph_numbers t)) in
     let codes_again = foremost (repeated_codes t [] (map (λ entry. entry.1) entries)) in
-    judged (refusal_of 0 2 []) (first_of (index_failures t)) (or_next names_again codes_again) entries
+    judged (refusal_of INDEX []) (first_of (index_failures t)) (or_next names_again codes_again) entries

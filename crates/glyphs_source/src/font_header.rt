@@ -2,8 +2,6 @@ ghost use Rattle.std.specs.Prelude.{◌≡◌, ◌≤◌, [], Ok, IfOk};
 ghost use Rattle.plist_reader.specs.declared.tree.Tree.{Tree as SeenTree};
 ghost use Rattle.plist_reader.specs.Tree.{IsTree};
 ghost use Rattle.font_ir.specs.declared.header.Header.{Header as SeenHeader};
-ghost use Rattle.refusal_codes.specs.declared.errors.ReadError.TheVariants as read_errors;
-ghost use Rattle.refusal_codes.specs.First.{refusal_of};
 ghost use Rattle.refusal_codes.specs.Gives.{Gives};
 ghost use Rattle.glyphs_source.specs.HeaderReading.{units_per_em, master_record, first_master, master_numbers, place_under, header_record, header_of, IsReadHeader};
 
@@ -11,7 +9,7 @@ use crate::header_rules::{note_header, whole_failure};
 use font_ir::{Header, Master};
 use plain_lists::{Sequence, Text};
 use plist_reader::Tree;
-use refusal_codes::{Failure, FirstFailure, ReadError};
+use refusal_codes::{FirstFailure, ReadError, job};
 use source_values::{copied, items_under, natural_or, place_at, text_under};
 use std::alloc::{AllocError, Global};
 
@@ -43,19 +41,12 @@ fn read_header(alloc: Global, tree: &Tree) -> Result<Header, ReadError>
     let mut first = FirstFailure::new();
     note_header(tree, &mut first);
     if let Some(failure) = first.get() {
-        return Err(refused(alloc, failure));
+        return Err(failure.refused(job::HEADER, Text::new(alloc)));
     }
     if let Some(failure) = whole_failure(tree) {
-        return Err(refused(alloc, failure));
+        return Err(failure.refused(job::HEADER, Text::new(alloc)));
     }
     Ok(record(alloc, tree)?)
-}
-
-/// The error of a failure that the header's job finds: the job is of stratum 0 and kind 1, and has no name.
-fn refused(alloc: Global, failure: Failure) -> ReadError
-    ensures { result ≡ read_errors.Refused (refusal_of 0 1 [] failure) }
-{
-    ReadError::Refused(failure.refusal(0, 1, Text::from_string(String::new(alloc))))
 }
 
 #[tactic(auto, unfolding(crate::specs::HeaderReading::header_record))]

@@ -5,8 +5,8 @@ ghost use Rattle.plist_reader.specs.Tree.{IsTree};
 ghost use Rattle.plist_reader.specs.Keys.{is_among};
 ghost use Rattle.std.specs.Map.{keys_of};
 ghost use Rattle.indexmap.specs.IndexMap.{values};
-ghost use Rattle.refusal_codes.specs.declared.errors.ReadError.TheVariants as read_errors;
 ghost use Rattle.refusal_codes.specs.First.{foremost, judged, refusal_of};
+ghost use Rattle.refusal_codes.specs.declared.job.TheConstants.{INDEX};
 ghost use Rattle.refusal_codes.specs.Gives.{Gives};
 ghost use Rattle.glyphs_source.specs.Repeats.{IsWithoutRepeats, TellsRepeatOf};
 ghost use Rattle.glyphs_source.specs.Same.{same_index, same_index_equiv};
@@ -18,7 +18,7 @@ use font_ir::Name;
 use indexmap::{IndexMap, IndexSet};
 use plain_lists::Text;
 use plist_reader::Tree;
-use refusal_codes::{Failure, FirstFailure, ReadError, Rule};
+use refusal_codes::{Failure, FirstFailure, ReadError, Rule, job};
 use source_values::{items_under, place_at};
 use std::alloc::{AllocError, Global};
 use std::marker::Model;
@@ -112,20 +112,13 @@ fn read_index(alloc: Global, tree: &Tree) -> Result<GlyphIndex, ReadError>
     let mut first = FirstFailure::new();
     note_index(tree, &mut first);
     if let Some(failure) = first.get() {
-        return Err(refused(alloc, failure));
+        return Err(failure.refused(job::INDEX, Text::new(alloc)));
     }
     let entries = collect(alloc, tree, glyph_numbers(tree))?;
     if let Some(failure) = repeated_code(alloc, tree, &entries)? {
-        return Err(refused(alloc, failure));
+        return Err(failure.refused(job::INDEX, Text::new(alloc)));
     }
     Ok(GlyphIndex { entries })
-}
-
-/// The error of a failure that the index's job finds: the job is of stratum 0 and kind 2, and has no name.
-fn refused(alloc: Global, failure: Failure) -> ReadError
-    ensures { result ≡ read_errors.Refused (refusal_of 0 2 [] failure) }
-{
-    ReadError::Refused(failure.refusal(0, 2, Text::from_string(String::new(alloc))))
 }
 
 /// The values of the list of glyphs.
@@ -146,7 +139,7 @@ fn collect(
 ) -> Result<IndexMap<Name, IndexEntry>, ReadError>
     requires { length glyphs.now < 2 ^ 32 }
     ensures { Gives (λ map. map.entries) result
-        (judged (refusal_of 0 2 []) None (foremost (repeated_names tree.now [] glyphs.now)) (entries_from tree.now 0 glyphs.now)) }
+        (judged (refusal_of INDEX []) None (foremost (repeated_names tree.now [] glyphs.now)) (entries_from tree.now 0 glyphs.now)) }
 {
     let mut entries = IndexMap::with_capacity(alloc, glyphs.len())?;
     for (number, glyph) in glyphs.iter().enumerate() {
@@ -155,7 +148,7 @@ fn collect(
                 rule: Rule::DuplicateGlyph,
                 place: place_at(tree, *glyph),
             };
-            return Err(refused(alloc, failure));
+            return Err(failure.refused(job::INDEX, Text::new(alloc)));
         }
     }
     Ok(entries)

@@ -2,7 +2,7 @@
 use Rattle.std.specs.Prelude.{◌≡◌, ℕ, ◌+◌, ◌*◌, ◌/◌, ◌<◌, ◌≤◌, ℤ, pos, ◌-ℤ◌, List, [], ◌∷◌, ◌++◌, length, map, slice_index_or, slice_get, Option, None, Some}
 use Rattle.std.specs.Int.{w16, saturate_signed}
 use Rattle.std.specs.Option.{option_map_or}
-use Rattle.font_ir.specs.DataTypes.{uint16, uint32, int16, long_date_time}
+use Rattle.table_bytes.specs.DataTypes.{uint16, uint32, int16, long_date_time}
 use Rattle.font_ir.specs.declared.header.Header.{Header}
 use Rattle.font_ir.specs.declared.header.Master.{Master}
 use Rattle.font_ir.specs.Extremes.{least, greatest}

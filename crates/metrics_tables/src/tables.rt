@@ -1,5 +1,5 @@
 ghost use Rattle.std.specs.Prelude.{◌≡◌, ◌++◌, IfOk, OnOk, ℤ};
-ghost use Rattle.font_ir.specs.DataTypes.{uint16, int16};
+ghost use Rattle.table_bytes.specs.DataTypes.{uint16, int16};
 ghost use Rattle.font_ir.specs.Extremes.{least as least_of, greatest as greatest_of};
 ghost use Rattle.metrics_tables.specs.Comparisons.{greatest_count};
 ghost use Rattle.metrics_tables.specs.Tables as tables;
@@ -7,9 +7,10 @@ ghost use Rattle.metrics_tables.specs.Tables as tables;
 use crate::bounds::{cut, greatest, least, least_right_bearing};
 use crate::fields::push_words;
 use crate::measures::Measures;
-use font_ir::{Header, push_uint32};
+use font_ir::Header;
 use refusal_codes::NoMemory;
 use std::alloc::{AllocError, Global};
+use table_bytes::push_uint32;
 
 /// Version 1.0 of a table, in 16.16.
 const VERSION_1: u32 = 0x0001_0000;

@@ -7,6 +7,8 @@ use Rattle.std.specs.Str.Lossy.{utf8_valid_len}
 use Rattle.refusal_codes.specs.declared.refusal.Refusal.{Refusal}
 use Rattle.refusal_codes.specs.declared.errors.ReadError.{ReadError}
 use Rattle.refusal_codes.specs.declared.errors.ReadError.TheVariants as read_errors
+use Rattle.refusal_codes.specs.declared.job.TheConstants.{TREE}
+use Rattle.refusal_codes.specs.First.{refusal_of}
 use Rattle.refusal_codes.specs.declared.rule.Rule.{Rule}
 use Rattle.refusal_codes.specs.declared.rule.Rule.TheVariants.{NotUtf8, UnexpectedByte, UnexpectedEnd, BadEscape, DuplicateKey, TooDeep, TrailingText}
 use Rattle.plist_reader.specs.declared.tree.Tree.{Tree}
@@ -19,7 +21,7 @@ use Rattle.plist_reader.specs.Tree.{node_at, is_key}
 
 -- the refusal of a property list; it is found by the first of all jobs
 abbrev pub refusal : Rule → ℕ → Refusal
-refusal rule place = record { stratum = 0; kind = 0; name = []; rule = rule; place = place }
+refusal rule place = refusal_of TREE [] (record { rule = rule; place = place })
 
 -- some text with a tree begins with these characters
 abbrev pub CanGoOn : List ℕ → Type 0

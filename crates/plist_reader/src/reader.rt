@@ -10,7 +10,7 @@ use crate::nodes::Nodes;
 use crate::stack::Stack;
 use crate::tree::{Tree, TreeValue};
 use plain_lists::{Sequence, Text};
-use refusal_codes::{ReadError, Refusal, Rule};
+use refusal_codes::{Failure, ReadError, Rule, job};
 use std::alloc::Global;
 use std::mem;
 
@@ -96,13 +96,11 @@ pub(crate) struct Reader {
 pub(crate) fn refusal(alloc: Global, rule: Rule, place: u32) -> ReadError
     ensures { result ≡ read_errors.Refused (refusal rule place) }
 {
-    ReadError::Refused(Refusal {
-        stratum: 0,
-        kind: 0,
-        name: Text::new(alloc),
+    let failure = Failure {
         rule,
         place: u64::from(place),
-    })
+    };
+    failure.refused(job::TREE, Text::new(alloc))
 }
 
 impl Reader {

@@ -6,7 +6,8 @@ use Rattle.std.specs.Cmp.{IsTotalOrder, nat_cmp_total, on_total, then_total}
 use Rattle.std.specs.Cmp.Lexicographic.{slice_cmp, nat_list_cmp_total}
 use Rattle.std.specs.declared.cmp.Ordering.TheVariants.{Equal}
 use Rattle.std.proofs.lemmas.Map.Lookups.{exact_unsigned, exact_bytes, exact_pairs}
-use Rattle.refusal_codes.specs.Order.{rule_number, refusal_cmp}
+use Rattle.refusal_codes.specs.Order.{refusal_cmp}
+use Rattle.refusal_codes.specs.Rules.{rule_number}
 use Rattle.refusal_codes.specs.declared.rule.Rule.{Rule}
 use Rattle.refusal_codes.specs.declared.rule.Rule.TheVariants.{NotUtf8, UnexpectedByte, UnexpectedEnd, BadEscape, DuplicateKey, TooDeep, TrailingText, WrongShape, MissingKey, WrongVersion, NotWhole, OutOfRange, TooManyAxes, TooManyMasters, NoMaster, AxisCount, SameLocation, AxisMapNotRising, DuplicateGlyph, OriginUnknown, BadTag, TooLarge, DuplicateMaster, MissingLayer, CubicNode, OpenContour, Incompatible, UnknownComponent, ComponentCycle, UnsupportedTransform, CoordinateTooLarge, DeltaTooLarge, TooManyPoints, TooManyComponents, DuplicateUnicode, LayerPlace, SameLayerPlace, TooManyLayers, AlternateName, TooManyRules, Syntax, Unsupported, UnknownGlyph, UnknownName, ConflictingRule, ClassSizes, MixedLookup, BadContextCall, TooManyGlyphs, CmapTooLarge, LayoutTooLarge, RowTooLarge, TableTooLarge, TooManyRegions, TooManyCells}
 use Rattle.refusal_codes.specs.declared.refusal.Refusal.{Refusal}

@@ -2,7 +2,8 @@
 -- rules. fontc's own.
 use Rattle.std.specs.Prelude.{◌≡◌, ℕ, Bool, false, Contains, ◌||◌, ◌&&◌, ◌==◌, nat_lt, List, [], ◌∷◌, Option, Some, None, Result, Ok, Err, if◌then◌else◌}
 use Rattle.std.specs.List.{AllByRecursion}
-use Rattle.refusal_codes.specs.Order.{rule_number}
+use Rattle.refusal_codes.specs.Rules.{rule_number}
+use Rattle.refusal_codes.specs.declared.job.Job.{Job}
 use Rattle.refusal_codes.specs.declared.first.Failure.{Failure}
 use Rattle.refusal_codes.specs.declared.refusal.Refusal.{Refusal}
 
@@ -24,9 +25,9 @@ noted least (f ∷ fs) = noted (Some (earlier least f)) fs
 abbrev pub first_of : List Failure → Option Failure
 first_of fs = noted None fs
 
--- the refusal of a failure that a job of this stratum and kind, with this name, finds
-abbrev pub refusal_of : ℕ → ℕ → List ℕ → Failure → Refusal
-refusal_of stratum kind name f = record { stratum = stratum; kind = kind; name = name; rule = f.rule; place = f.place }
+-- the refusal of a failure that a job of this kind, with this name, finds
+abbrev pub refusal_of : Job → List ℕ → Failure → Refusal
+refusal_of job name f = record { stratum = job.stratum; kind = job.kind; name = name; rule = f.rule; place = f.place }
 
 -- the first of a list of failures, which is in the order of the rules
 abbrev pub foremost : List Failure → Option Failure

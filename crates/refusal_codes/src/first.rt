@@ -1,6 +1,9 @@
 ghost use Rattle.std.specs.Prelude.{◌≡◌, List, [], Option, Some, None};
 ghost use Rattle.refusal_codes.specs.First.{first_of, IsLeast};
+ghost use Rattle.refusal_codes.specs.declared.errors.ReadError.TheVariants as read_errors;
 
+use crate::errors::ReadError;
+use crate::job::Job;
 use crate::refusal::Refusal;
 use crate::rule::Rule;
 use plain_lists::Text;
@@ -26,17 +29,24 @@ impl Failure {
             || (self.place == other.place && self.rule.number() < other.rule.number())
     }
 
-    /// The refusal of a job of this stratum and kind, with this name, that finds this failure.
-    pub fn refusal(self, stratum: u8, kind: u8, name: Text) -> Refusal
-        ensures { result ≡ refusal_of stratum kind name self }
+    /// The refusal of a job of this kind, with this name, that finds this failure.
+    pub fn refusal(self, job: Job, name: Text) -> Refusal
+        ensures { result ≡ refusal_of job name self }
     {
         Refusal {
-            stratum,
-            kind,
+            stratum: job.stratum,
+            kind: job.kind,
             name,
             rule: self.rule,
             place: self.place,
         }
+    }
+
+    /// The error of a reading job of this kind, with this name, that finds this failure.
+    pub fn refused(self, job: Job, name: Text) -> ReadError
+        ensures { result ≡ read_errors.Refused (refusal_of job name self) }
+    {
+        ReadError::Refused(self.refusal(job, name))
     }
 }
 

@@ -3,7 +3,9 @@
 
 mod errors;
 mod first;
+pub mod job;
 mod kind;
+pub mod limits;
 mod refusal;
 mod rule;
 

@@ -1,7 +1,7 @@
 use Rattle.std.proofs.Common.{◌++◌, ◌<◌, length, map, ap, subst, sym, arith}
 use Rattle.std.specs.List.{flat_map}
 use Rattle.glyf_writer.specs.Outlines.{end_points}
-use Rattle.font_ir.specs.DataTypes.{uint16}
+use Rattle.table_bytes.specs.DataTypes.{uint16}
 use Rattle.glyf_writer.proofs.Steps.{shift_zero, end_step, count_step}
 use Rattle.glyf_writer.proofs.bytes.push_end_points.Goals as goal
 

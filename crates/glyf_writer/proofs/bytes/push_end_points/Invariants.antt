@@ -2,7 +2,7 @@ use Rattle.std.proofs.Common.{◌≡◌, ◌+◌, ◌++◌, length, map, drop}
 use Rattle.std.specs.List.{flat_map}
 use Rattle.font_ir.specs.FlatGlyphs.{point_count}
 use Rattle.glyf_writer.specs.Outlines.{end_points}
-use Rattle.font_ir.specs.DataTypes.{uint16}
+use Rattle.table_bytes.specs.DataTypes.{uint16}
 use Rattle.glyf_writer.proofs.bytes.push_end_points.Given as goal
 
 abbrev pub invariant-loop-contour : goal.invariant-loop-contour

@@ -1,7 +1,7 @@
 use Rattle.std.proofs.Common.{◌++◌, map, length, pos, slice_index_or, ap, sym, ◌∙◌}
 use Rattle.std.specs.List.{flat_map}
 use Rattle.std.proofs.lemmas.List.{length-map}
-use Rattle.font_ir.specs.DataTypes.{uint16, int16}
+use Rattle.table_bytes.specs.DataTypes.{uint16, int16}
 use Rattle.font_ir.specs.Outlines.{stored_point}
 use Rattle.font_ir.proofs.OutlineLemmas.{sides_of, sides_are, stored_counts}
 use Rattle.glyf_writer.specs.Outlines.{end_points, steps_of}

@@ -1,7 +1,7 @@
 use Rattle.std.proofs.Common.{◌≡◌, ◌++◌, ◌∙◌, map, length, ap, arith}
 use Rattle.std.proofs.lemmas.Grind.{common_steps}
 use Rattle.std.specs.List.{flat_map}
-use Rattle.font_ir.specs.DataTypes.{uint32}
+use Rattle.table_bytes.specs.DataTypes.{uint32}
 use Rattle.glyf_writer.specs.Tables.{offsets}
 use Rattle.glyf_writer.proofs.Steps.{shift_zero, offset_step, total_step}
 use Rattle.glyf_writer.proofs.tables.loca_of.Goals as goal

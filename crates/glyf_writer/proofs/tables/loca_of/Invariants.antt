@@ -1,6 +1,6 @@
 use Rattle.std.proofs.Common.{◌≡◌, ◌+◌, ◌++◌, length, map, drop}
 use Rattle.std.specs.List.{concat, flat_map}
-use Rattle.font_ir.specs.DataTypes.{uint32}
+use Rattle.table_bytes.specs.DataTypes.{uint32}
 use Rattle.glyf_writer.specs.Tables.{offsets}
 use Rattle.glyf_writer.proofs.tables.loca_of.Given as goal
 

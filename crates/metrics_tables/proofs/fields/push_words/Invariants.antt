@@ -1,6 +1,6 @@
 use Rattle.std.proofs.Common.{◌≡◌, ◌++◌, take}
 use Rattle.std.specs.List.{flat_map}
-use Rattle.font_ir.specs.DataTypes.{uint16}
+use Rattle.table_bytes.specs.DataTypes.{uint16}
 use Rattle.metrics_tables.proofs.fields.push_words.Given as goal
 
 abbrev pub invariant-loop-word : goal.invariant-loop-word

@@ -1,8 +1,8 @@
--- When a length is over the limit, told by the number of 64 bits that it is cut to.
+-- When a length is over the limit, told by the number of 64 bits that it is cut to. For the proofs of other crates alone.
 use Rattle.std.proofs.Common.{◌≡◌, ℕ, ◌<◌, ◌≤◌, min, nat_lt, Bool, true, false, Some, None, ap, sym, ◌∙◌, arith}
 use Rattle.std.specs.Prelude.{if◌then◌else◌}
 use Rattle.std.proofs.lemmas.Bool.Decides.{nat_tests}
-use Rattle.font_ir.specs.Tables.{over_limit}
+use Rattle.table_bytes.specs.Tables.{over_limit}
 
 pub is_over : (n cut : ℕ) → cut ≡ min n 18446744073709551615 → 4294967295 < cut → over_limit n ≡ Some cut
 is_over n cut is over =

@@ -1,6 +1,6 @@
 ghost use Rattle.std.specs.Prelude.{◌≡◌, ◌+◌, ◌<◌, ◌++◌, replicate, OnOk};
 ghost use Rattle.std.specs.Vec.{vec_len};
-ghost use Rattle.font_ir.specs.DataTypes.{uint16, uint32, int16, padding};
+ghost use Rattle.table_bytes.specs.DataTypes.{uint16, uint32, int16, padding};
 
 use byteorder::{BigEndian, ByteOrder};
 use std::alloc::AllocError;

@@ -15,7 +15,7 @@ pub enum TableError {
 
 impl From<NoMemory> for TableError {
     ghost use Rattle.std.specs.Prelude.{◌≡◌};
-    ghost use Rattle.font_ir.specs.declared.errors.TableError.TheVariants as table_errors;
+    ghost use Rattle.table_bytes.specs.declared.errors.TableError.TheVariants as table_errors;
 
     ghost from_gives = { λ _ e. e ≡ table_errors.NoMemory };
 
@@ -26,7 +26,7 @@ impl From<NoMemory> for TableError {
 
 impl From<AllocError> for TableError {
     ghost use Rattle.std.specs.Prelude.{◌≡◌};
-    ghost use Rattle.font_ir.specs.declared.errors.TableError.TheVariants as table_errors;
+    ghost use Rattle.table_bytes.specs.declared.errors.TableError.TheVariants as table_errors;
 
     ghost from_gives = { λ _ e. e ≡ table_errors.NoMemory };
 
@@ -37,7 +37,7 @@ impl From<AllocError> for TableError {
 
 impl<T: Drop> From<AllocFailed<T>> for TableError {
     ghost use Rattle.std.specs.Prelude.{◌≡◌};
-    ghost use Rattle.font_ir.specs.declared.errors.TableError.TheVariants as table_errors;
+    ghost use Rattle.table_bytes.specs.declared.errors.TableError.TheVariants as table_errors;
 
     ghost from_gives = { λ _ e. e ≡ table_errors.NoMemory };
 

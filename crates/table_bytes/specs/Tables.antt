@@ -1,7 +1,7 @@
 -- What a call that builds a table or a font answered.
 use Rattle.std.specs.Prelude.{◌≡◌, ℕ, min, nat_lt, if◌then◌else◌, Option, Some, None, Result, Ok, Err}
-use Rattle.font_ir.specs.declared.errors.TableError.{TableError}
-use Rattle.font_ir.specs.declared.errors.TableError.TheVariants as table_errors
+use Rattle.table_bytes.specs.declared.errors.TableError.{TableError}
+use Rattle.table_bytes.specs.declared.errors.TableError.TheVariants as table_errors
 
 -- a length that is more than four bytes can say. A number that is above the greatest of 64 bits is told as that one.
 abbrev pub over_limit : ℕ → Option ℕ
