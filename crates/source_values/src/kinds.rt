@@ -1,4 +1,5 @@
 ghost use Rattle.std.specs.Prelude.{◌≡◌, ◌≤◌, option_copied, option_map};
+ghost use Rattle.refusal_codes.specs.First.{noted};
 ghost use Rattle.source_values.specs.Decimals.{is_natural_in};
 ghost use Rattle.source_values.specs.Values.{items_at, pairs_at, is_code, in_range};
 ghost use Rattle.source_values.specs.Asking.{range_rule, is_empty_list, is_empty_dictionary, whole_failures, text_failures, name_failures, dictionary_failures, empty_list_failures, empty_dictionary_failures};
@@ -67,16 +68,22 @@ pub struct Whole(pub Range);
 impl Asked for Whole {
     ghost failures = { λ asked. whole_failures asked.0 };
 
-    #[tactic(auto, unfolding(crate::specs::Asking::whole_failures))]
     fn note(&self, tree: &Tree, number: u32, first: &mut FirstFailure) {
-        match decimal_at(tree, number) {
-            None => note_at(tree, number, Rule::WrongShape, first),
-            Some(decimal) => {
-                if decimal.billionths != 0 {
-                    note_at(tree, number, Rule::NotWhole, first);
-                } else if !self.0.holds(&decimal) {
-                    note_at(tree, number, self.0.rule(), first);
-                }
+        note_whole(tree, number, self.0, first);
+    }
+}
+
+#[tactic(auto, unfolding(crate::specs::Asking::whole_failures))]
+fn note_whole(tree: &Tree, number: u32, range: Range, first: &mut FirstFailure)
+    ensures { first.new ≡ noted first.old (whole_failures range tree.now number) }
+{
+    match decimal_at(tree, number) {
+        None => note_at(tree, number, Rule::WrongShape, first),
+        Some(decimal) => {
+            if decimal.billionths != 0 {
+                note_at(tree, number, Rule::NotWhole, first);
+            } else if !range.holds(&decimal) {
+                note_at(tree, number, range.rule(), first);
             }
         }
     }
