@@ -8,6 +8,3 @@ mod settled;
 pub use access::{Access, Spec};
 pub use reads::Reads;
 pub use settled::{Outcome, Settled};
-
-#[cfg(test)]
-mod tests;

@@ -9,7 +9,8 @@ use Rattle.std.specs.List.{AllByRecursion}
 use Rattle.std.specs.List.Sorted.{IsStrictlySortedBy}
 use Rattle.std.specs.declared.cmp.Ordering.TheVariants.{Less}
 use Rattle.fixed_math.specs.declared.F2Dot14.{F2Dot14}
-use Rattle.axis_space.specs.AxisPairs.{Pair, Rises, IsRisingList, Falls, IsFirstFall, pair_cmp, in_order, rises, fall_after, first_fall, Orders, avar_pairs, pairs_of, judged_by}
+use Rattle.font_ir.specs.AxisMaps.{Pair, Rises, IsRisingList, pairs_of}
+use Rattle.axis_space.specs.AxisPairs.{Falls, IsFirstFall, pair_cmp, in_order, rises, fall_after, first_fall, Orders, avar_pairs, judged_by}
 use Rattle.font_ir.specs.declared.header.Master.{Master}
 use Rattle.axis_space.proofs.PairLemmas.{before, not_before_itself, before_from_rises, contains_head, contains_tail, contains_none, contains_cases, each_of, of_each, same_list, in_order_sorted, in_order_keeps, in_order_from}
 

@@ -4,7 +4,7 @@ use Rattle.std.proofs.Math.Nat.{mul-le-mul_left}
 use Rattle.std.proofs.lemmas.Int.{ints, by_lt_z, to_z-of_z}
 use Rattle.std.specs.Int.{w32, w64, w128}
 use Rattle.std.specs.Prelude.{int_lt}
-use Rattle.axis_space.specs.Normal.{nearest}
+use Rattle.font_ir.specs.Normal.{nearest}
 use Rattle.axis_space.specs.Points.{between}
 use Rattle.axis_space.specs.declared.points.Point.{Point}
 use Rattle.axis_space.proofs.NearestLemmas.{nearest_monotone, nearest_exact}

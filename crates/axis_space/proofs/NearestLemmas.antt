@@ -4,7 +4,7 @@ use Rattle.std.proofs.Common.{◌≡◌, ℕ, ◌*◌, ◌<◌, arith, ap, ◌�
 use Rattle.std.proofs.lemmas.Int.{ints, by_lt_z}
 use Rattle.std.specs.Int.{w16, w64, w128}
 use Rattle.fixed_math.proofs.FloorLemmas.{floor_monotone, floor_unique}
-use Rattle.axis_space.specs.Normal.{nearest, normalised}
+use Rattle.font_ir.specs.Normal.{nearest, normalised}
 
 nearest_monotone_nat : (m n : ℤ) (d : ℕ) → 0 < d → m ≤ℤ n → nearest m (pos d) ≤ℤ nearest n (pos d)
 nearest_monotone_nat m n d h le =

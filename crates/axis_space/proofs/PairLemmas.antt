@@ -12,7 +12,8 @@ use Rattle.std.specs.List.Sorted.{IsStrictlySortedBy, IsSorted, IsPermutation}
 use Rattle.std.specs.Ordering.{int_cmp, int_eq, is_eq, ordering_then, ordering_reverse, eq_by_cmp}
 use Rattle.std.specs.declared.cmp.Ordering.{Ordering}
 use Rattle.std.specs.declared.cmp.Ordering.TheVariants.{Less, Equal, Greater}
-use Rattle.axis_space.specs.AxisPairs.{Pair, pair, Rises, pair_cmp, placed_by, with_pair, in_order}
+use Rattle.font_ir.specs.AxisMaps.{Pair, pair, Rises}
+use Rattle.axis_space.specs.AxisPairs.{pair_cmp, placed_by, with_pair, in_order}
 
 -- the order
 

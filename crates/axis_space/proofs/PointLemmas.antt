@@ -5,7 +5,7 @@ use Rattle.std.proofs.lemmas.List.Elements.{All-head, All-tail}
 use Rattle.std.specs.Prelude.{IfSome, int_lt, int_le}
 use Rattle.std.specs.List.{All, find}
 use Rattle.std.specs.Ordering.{int_eq}
-use Rattle.axis_space.specs.Normal.{nearest}
+use Rattle.font_ir.specs.Normal.{nearest}
 use Rattle.axis_space.specs.Points.{IsFirst, IsBelow, IsAbove, not_above, higher, below, not_below, lower, above, between, reading, user_at, points_of}
 use Rattle.font_ir.specs.declared.header.Master.{Master}
 use Rattle.axis_space.specs.declared.points.Point.{Point}

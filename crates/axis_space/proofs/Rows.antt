@@ -3,11 +3,12 @@ use Rattle.std.specs.Prelude.{◌≡◌, List, [], ◌∷◌, map, ℤ, pos, neg
 use Rattle.std.proofs.Common.{refl}
 use Rattle.fixed_math.specs.declared.F2Dot14.{F2Dot14}
 use Rattle.font_ir.specs.declared.header.Master.{Master}
-use Rattle.axis_space.specs.Normal.{normalised}
-use Rattle.axis_space.specs.Coordinates.{normal_on}
-use Rattle.axis_space.specs.AxisPairs.{pair, pairs_of, avar_pairs}
+use Rattle.font_ir.specs.Normal.{normalised}
+use Rattle.font_ir.specs.Coordinates.{normal_on}
+use Rattle.font_ir.specs.AxisMaps.{pair, pairs_of}
+use Rattle.axis_space.specs.AxisPairs.{avar_pairs}
 use Rattle.axis_space.specs.Points.{points_of, user_at}
-use Rattle.axis_space.specs.declared.coordinates.Kind.TheVariants.{Design}
+use Rattle.font_ir.specs.declared.header.CoordinateScale.TheVariants.{Design}
 
 -- half a raw unit goes up, above the default and below it
 half_above : normalised (pos 1) (pos 0) (pos 0) (pos 32768) ≡ pos 1

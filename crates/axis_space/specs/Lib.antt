@@ -1,4 +1,2 @@
-pub mod Normal
-pub mod Coordinates
 pub mod AxisPairs
 pub mod Points

@@ -5,9 +5,9 @@ use Rattle.std.specs.Prelude.{◌≡◌, ℕ, List, [], ◌∷◌, map, ℤ, pos
 use Rattle.std.specs.List.{find}
 use Rattle.std.specs.Ordering.{int_eq}
 use Rattle.font_ir.specs.declared.header.Master.{Master}
-use Rattle.axis_space.specs.Coordinates.{coordinate_on}
-use Rattle.axis_space.specs.declared.coordinates.Kind.TheVariants.{Design, User}
-use Rattle.axis_space.specs.Normal.{nearest}
+use Rattle.font_ir.specs.Coordinates.{coordinate_on}
+use Rattle.font_ir.specs.declared.header.CoordinateScale.TheVariants.{Design, User}
+use Rattle.font_ir.specs.Normal.{nearest}
 use Rattle.axis_space.specs.declared.points.Point.{Point}
 
 -- the points of an axis

@@ -1,19 +1,13 @@
 ghost use Rattle.std.specs.Prelude.{◌≡◌, ◌<◌, ◌≤ℤ◌, length, All};
 ghost use Rattle.std.specs.List.{fold};
 ghost use Rattle.std.specs.Int.{int_max, int_min};
-ghost use Rattle.axis_space.specs.Coordinates.{HasAxis, coordinate_on, coordinates_on, default_on, least as least_number, greatest as greatest_number};
-ghost use Rattle.axis_space.specs.Normal.{normalised};
+ghost use Rattle.font_ir.specs.Extremes.{least as least_number, greatest as greatest_number};
+ghost use Rattle.font_ir.specs.Coordinates.{HasAxis, coordinate_on, coordinates_on, default_on};
+ghost use Rattle.font_ir.specs.Normal.{normalised};
 
 use crate::normal::normalise;
 use fixed_math::{F2Dot14, Fixed};
-use font_ir::Master;
-
-/// The two kinds of coordinates that a master has.
-#[derive(Clone, Copy)]
-pub enum Kind {
-    Design,
-    User,
-}
+use font_ir::{CoordinateScale, Master};
 
 /// The least, the default and the greatest coordinate of the masters on an axis.
 #[derive(Clone, Copy)]
@@ -24,18 +18,18 @@ pub struct Scale {
 }
 
 /// A master's coordinate on an axis.
-pub fn coordinate(master: &Master, kind: Kind, axis: usize) -> Fixed
+pub fn coordinate(master: &Master, kind: CoordinateScale, axis: usize) -> Fixed
     requires { HasAxis axis master.now }
     ensures { result ≡ coordinate_on kind axis master.now }
 {
     match kind {
-        Kind::Design => master.design.as_slice()[axis],
-        Kind::User => master.user.as_slice()[axis],
+        CoordinateScale::Design => master.design.as_slice()[axis],
+        CoordinateScale::User => master.user.as_slice()[axis],
     }
 }
 
 /// The scale of an axis.
-pub fn scale_of(masters: &[Master], kind: Kind, origin: usize, axis: usize) -> Scale
+pub fn scale_of(masters: &[Master], kind: CoordinateScale, origin: usize, axis: usize) -> Scale
     requires origin { origin < length masters.now }
     requires axes { All (HasAxis axis) masters.now }
     ensures default { result.default.0 ≡ default_on kind origin axis masters.now }
@@ -55,7 +49,7 @@ pub fn scale_of(masters: &[Master], kind: Kind, origin: usize, axis: usize) -> S
 }
 
 /// The least of a number and the masters' coordinates.
-fn least(masters: &[Master], kind: Kind, axis: usize, from: Fixed) -> Fixed
+fn least(masters: &[Master], kind: CoordinateScale, axis: usize, from: Fixed) -> Fixed
     requires { All (HasAxis axis) masters.now }
     ensures { result.0 ≡ fold (λ low m. int_min low (coordinate_on kind axis m).0) from.0 masters.now }
 {
@@ -67,7 +61,7 @@ fn least(masters: &[Master], kind: Kind, axis: usize, from: Fixed) -> Fixed
 }
 
 /// The greatest of a number and the masters' coordinates.
-fn greatest(masters: &[Master], kind: Kind, axis: usize, from: Fixed) -> Fixed
+fn greatest(masters: &[Master], kind: CoordinateScale, axis: usize, from: Fixed) -> Fixed
     requires { All (HasAxis axis) masters.now }
     ensures { result.0 ≡ fold (λ high m. int_max high (coordinate_on kind axis m).0) from.0 masters.now }
 {
@@ -79,7 +73,7 @@ fn greatest(masters: &[Master], kind: Kind, axis: usize, from: Fixed) -> Fixed
 }
 
 /// A master's normalised coordinate on an axis of this scale.
-pub fn normal(master: &Master, kind: Kind, axis: usize, scale: Scale) -> F2Dot14
+pub fn normal(master: &Master, kind: CoordinateScale, axis: usize, scale: Scale) -> F2Dot14
     requires axis { HasAxis axis master.now }
     requires least { scale.least.0 ≤ℤ (coordinate_on kind axis master.now).0 }
     requires greatest { (coordinate_on kind axis master.now).0 ≤ℤ scale.greatest.0 }

@@ -1,5 +1,5 @@
 ghost use Rattle.std.specs.Prelude.{◌≡◌, ◌+ℤ◌, ◌-ℤ◌, ◌*ℤ◌, ◌≤ℤ◌, ◌<ℤ◌, ℤ, pos, negsuc};
-ghost use Rattle.axis_space.specs.Normal.{nearest, normalised};
+ghost use Rattle.font_ir.specs.Normal.{nearest, normalised};
 
 use fixed_math::{F2Dot14, Fixed};
 

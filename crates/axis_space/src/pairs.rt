@@ -1,11 +1,12 @@
 ghost use Rattle.std.specs.Prelude.{◌≡◌, ◌<◌, length, All, IfOk};
-ghost use Rattle.axis_space.specs.Coordinates.{HasAxis};
-ghost use Rattle.axis_space.specs.AxisPairs.{GivesPairs, OrdersPairs, avar_pairs, fixed_pairs, in_order, pairs_of, first_fall as fall_of, fall_after as fall_from, rises};
+ghost use Rattle.font_ir.specs.Coordinates.{HasAxis};
+ghost use Rattle.font_ir.specs.AxisMaps.{fixed_pairs, pairs_of};
+ghost use Rattle.axis_space.specs.AxisPairs.{GivesPairs, OrdersPairs, avar_pairs, in_order, first_fall as fall_of, fall_after as fall_from, rises};
 
-use crate::coordinates::{Kind, normal, scale_of};
+use crate::coordinates::{normal, scale_of};
 use crate::errors::MapError;
 use fixed_math::F2Dot14;
-use font_ir::Master;
+use font_ir::{CoordinateScale, Master};
 use std::alloc::{AllocError, Global};
 
 /// A normalised user coordinate and the design coordinate there.
@@ -61,12 +62,12 @@ fn all_pairs(
     requires axes { All (HasAxis axis) masters.now }
     ensures { IfOk result (λ v. v.items ≡ pairs_of masters.now origin axis) }
 {
-    let users = scale_of(masters, Kind::User, origin, axis);
-    let designs = scale_of(masters, Kind::Design, origin, axis);
+    let users = scale_of(masters, CoordinateScale::User, origin, axis);
+    let designs = scale_of(masters, CoordinateScale::Design, origin, axis);
     let mut pairs = ends_and_default(alloc)?;
     for master in masters {
-        let user = normal(master, Kind::User, axis, users);
-        let design = normal(master, Kind::Design, axis, designs);
+        let user = normal(master, CoordinateScale::User, axis, users);
+        let design = normal(master, CoordinateScale::Design, axis, designs);
         pairs.push((user, design))?;
     }
     Ok(pairs)

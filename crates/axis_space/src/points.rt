@@ -1,12 +1,12 @@
 ghost use Rattle.std.specs.Prelude.{◌≡◌, ◌*ℤ◌, ◌≤ℤ◌, ◌<ℤ◌, ◌<◌, pos, negsuc, length, All, Some, IfSome};
-ghost use Rattle.axis_space.specs.Normal.{nearest};
-ghost use Rattle.axis_space.specs.Coordinates.{HasAxis};
+ghost use Rattle.font_ir.specs.Normal.{nearest};
+ghost use Rattle.font_ir.specs.Coordinates.{HasAxis};
 ghost use Rattle.axis_space.specs.Points as spec;
 
-use crate::coordinates::{Kind, coordinate};
+use crate::coordinates::coordinate;
 use crate::normal::{distance, nearest};
 use fixed_math::Fixed;
-use font_ir::Master;
+use font_ir::{CoordinateScale, Master};
 
 /// A master on an axis.
 #[derive(Clone, Copy)]
@@ -134,7 +134,7 @@ fn point_on(master: &Master, axis: usize) -> Point
     ensures { result ≡ spec.point_on axis master.now }
 {
     Point {
-        design: coordinate(master, Kind::Design, axis),
-        user: coordinate(master, Kind::User, axis),
+        design: coordinate(master, CoordinateScale::Design, axis),
+        user: coordinate(master, CoordinateScale::User, axis),
     }
 }

@@ -18,6 +18,7 @@ use Rattle.refusal_codes.specs.declared.rule.Rule.TheVariants.{CoordinateTooLarg
 use Rattle.refusal_codes.specs.declared.first.Failure.{Failure}
 use Rattle.refusal_codes.specs.First.{foremost, refusal_of, judged}
 use Rattle.refusal_codes.specs.declared.job.TheConstants.{FLAT}
+use Rattle.refusal_codes.specs.declared.limits.TheConstants.{POINTS}
 
 -- ---- what is drawn
 
@@ -44,7 +45,7 @@ flat_record glyph = record {
 -- in 16.16
 
 abbrev pub has_many_points : List Contour → Bool
-has_many_points contours = nat_lt 8000 (point_count contours)
+has_many_points contours = nat_lt POINTS (point_count contours)
 
 abbrev pub is_small : Fixed → Bool
 is_small f = nat_le (unsigned_abs f.0) 1073676288

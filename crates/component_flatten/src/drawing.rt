@@ -1,27 +1,9 @@
 ghost use Rattle.std.specs.Prelude.{◌≡◌, ◌++◌, ◌∷◌, [], map, flat_map, IfOk, OnOk};
 ghost use Rattle.component_flatten.specs.Flattening.{contours_of, drawn_contours};
 
-use font_ir::{Contour, LayerIr, Location, Shape};
+use font_ir::{Contour, LayerIr, Shape};
 use plain_lists::Sequence;
 use std::alloc::{AllocError, Global};
-
-/// The same places.
-pub fn copied_places(alloc: Global, places: &[Location]) -> Result<Sequence<Location>, AllocError>
-    ensures { IfOk result (λ copies. copies ≡ places.now) }
-{
-    let mut copies = Vec::with_capacity(alloc, places.len())?;
-    for place in places {
-        push_copy(alloc, place, &mut copies)?;
-    }
-    Ok(Sequence::from_vec(copies))
-}
-
-fn push_copy(alloc: Global, place: &Location, copies: &mut Vec<Location>) -> Result<(), AllocError>
-    ensures { OnOk result (copies.new.items ≡ copies.old.items ++ place.now ∷ []) }
-{
-    copies.push(place.copy(alloc)?)?;
-    Ok(())
-}
 
 /// The layers' widths.
 pub fn widths(alloc: Global, layers: &[LayerIr]) -> Result<Sequence<i32>, AllocError>

@@ -5,13 +5,13 @@ ghost use Rattle.refusal_codes.specs.First.{foremost};
 ghost use Rattle.refusal_codes.specs.Gives.{Gives};
 ghost use Rattle.component_flatten.specs.Flattening.{flat_record, limit_failures, flat_of};
 
-use crate::drawing::{copied_places, drawn, widths};
+use crate::drawing::{drawn, widths};
 use crate::limits::{all_small, too_many_points};
-use font_ir::{FlatGlyph, GlyphIr, Name};
+use font_ir::{FlatGlyph, GlyphIr, Name, copied_locations};
 use glyphs_source::GlyphIndex;
 use plain_lists::Sequence;
-use refusal_codes::{Failure, ReadError, Rule, job};
-use std::alloc::{AllocError, Global};
+use refusal_codes::{Failure, NoMemory, ReadError, Rule, job};
+use std::alloc::Global;
 use std::sync::Arc;
 
 /// The glyph with its contours drawn.
@@ -77,7 +77,7 @@ fn failure_in(flat: &FlatGlyph) -> Option<Failure>
 }
 
 #[tactic(auto, unfolding(crate::specs::Flattening::flat_record))]
-fn record(alloc: Global, glyph: &GlyphIr) -> Result<FlatGlyph, AllocError>
+fn record(alloc: Global, glyph: &GlyphIr) -> Result<FlatGlyph, NoMemory>
     ensures record { IfOk result (λ flat. flat ≡ flat_record glyph.now) }
     ensures places { IfOk result (λ flat. flat.places ≡ glyph.now.places) }
     ensures kept { IfOk result (λ flat. flat.kept ≡ []) }
@@ -85,7 +85,7 @@ fn record(alloc: Global, glyph: &GlyphIr) -> Result<FlatGlyph, AllocError>
     Ok(FlatGlyph {
         number: glyph.number,
         place: glyph.place,
-        places: copied_places(alloc, glyph.places.as_slice())?,
+        places: copied_locations(alloc, glyph.places.as_slice())?,
         widths: widths(alloc, glyph.layers.as_slice())?,
         drawn: drawn(alloc, glyph.layers.as_slice())?,
         kept: Sequence::new(alloc),

@@ -7,12 +7,10 @@ ghost use Rattle.component_flatten.specs.Flattening.{has_many_points, is_small, 
 use fixed_math::Fixed;
 use font_ir::{Contour, DrawnPoint};
 use plain_lists::Sequence;
+use refusal_codes::limits::{COORDINATE, POINTS};
 
-/// The most drawn points that a glyph may have at a place.
-const POINT_LIMIT: usize = 8000;
-
-/// The greatest size of a coordinate, 16383 in 16.16.
-const SIZE_LIMIT: u32 = 16383 * 65536;
+/// The greatest size of a coordinate in 16.16.
+const SIZE_LIMIT: u32 = COORDINATE * 65536;
 
 /// Whether there are too many points at a place.
 pub fn too_many_points(drawn: &[Sequence<Contour>]) -> bool
@@ -34,7 +32,7 @@ fn has_many_points(contours: &[Contour]) -> bool
     for contour in contours {
         count = count.saturating_add(contour.points.len());
     }
-    count > POINT_LIMIT
+    count > POINTS
 }
 
 /// Whether all points at all places are small.

@@ -4,7 +4,7 @@ use Rattle.std.specs.declared.alloc.Global.{Global}
 use Rattle.std.specs.Global.{Vec}
 use Rattle.std.specs.Arc.{arc_value}
 use Rattle.std.specs.declared.sync.Arc.{Arc}
-use Rattle.font_ir.specs.declared.variation.Tag.{Tag}
+use Rattle.font_ir.specs.declared.tag.Tag.{Tag}
 use Rattle.font_assembly.specs.File.{Table}
 
 -- a table without where its bytes lie in memory

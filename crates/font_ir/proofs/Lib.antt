@@ -1,3 +1,3 @@
 mod Names
-pub mod ExtremesLaws
+pub mod NotdefLaws
 pub mod OutlineLemmas

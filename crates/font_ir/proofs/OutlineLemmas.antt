@@ -12,7 +12,7 @@ use Rattle.font_ir.specs.declared.outline.StoredPoint.{StoredPoint}
 use Rattle.font_ir.specs.FlatGlyphs.{point_count}
 use Rattle.font_ir.specs.Extremes.{least, greatest}
 use Rattle.font_ir.specs.Outlines.{stored_point, stored_contours, stored_points, AreBounds, bounds_of, widened_by, widened_by_all}
-use Rattle.font_ir.proofs.ExtremesLaws.{least_is, greatest_is}
+use Rattle.font_ir.specs.ExtremesLaws.{least_is, greatest_is}
 
 -- ---- points
 

@@ -1,19 +1,15 @@
 -- The flat glyphs that the compiler makes: what a glyph fulfils once its contours are drawn. The limits are fontc's own.
-use Rattle.std.specs.Prelude.{◌≡◌, ◌≢◌, ℕ, ◌<◌, ◌≤◌, ℤ, pos, neg_ℤ, ◌≤ℤ◌, Bool, List, length, map}
-use Rattle.std.specs.List.{All, AllPairs, Any, sum_by}
+use Rattle.std.specs.Prelude.{◌≡◌, ℕ, ◌<◌, ◌≤◌, ℤ, pos, neg_ℤ, ◌≤ℤ◌, Bool, List, length, map}
+use Rattle.std.specs.List.{All, AllPairs, sum_by}
+use Rattle.std.specs.Arc.{arc_value}
+use Rattle.std.specs.declared.alloc.Global.{Global}
+use Rattle.std.specs.declared.sync.Arc.{Arc}
 use Rattle.fixed_math.specs.declared.Fixed.{Fixed}
-use Rattle.fixed_math.specs.declared.F2Dot14.{F2Dot14}
+use Rattle.refusal_codes.specs.declared.limits.TheConstants.{COMPONENTS, POINTS}
+use Rattle.font_ir.specs.Places.{AreGlyphPlaces}
 use Rattle.font_ir.specs.declared.glyph.DrawnPoint.{DrawnPoint}
 use Rattle.font_ir.specs.declared.glyph.Contour.{Contour}
 use Rattle.font_ir.specs.declared.glyph.FlatGlyph.{FlatGlyph}
-
--- a list of places of the design space is one of places that a glyph may have: at most 64, of one number of coordinates each,
--- all different, and one of them the origin
-pub record AreGlyphPlaces (places : List (List F2Dot14)) : Type 0 where
-  pub few : length places ≤ 64
-  pub one_length : AllPairs (λ a b. length a ≡ length b) places
-  pub different : AllPairs (λ a b. a ≢ b) places
-  pub origin : Any (λ place. All (λ coordinate. coordinate.0 ≡ pos 0) place) places
 
 -- a number of font units is at most 16383 in size
 abbrev pub IsSmall : ℤ → Type 0
@@ -44,12 +40,16 @@ pub record IsFlatGlyph (glyph : FlatGlyph) : Type 0 where
   pub drawn : length glyph.drawn ≡ length glyph.places
   pub offsets : All (λ kept. length kept.at ≡ length glyph.places) glyph.kept
   pub one_shape : AllPairs (λ a b. shape_of a ≡ shape_of b) glyph.drawn
-  pub few_points : All (λ contours. point_count contours ≤ 8000) glyph.drawn
+  pub few_points : All (λ contours. point_count contours ≤ POINTS) glyph.drawn
   pub no_empty_contour : All (λ contours. All (λ contour. 0 < length contour.points) contours) glyph.drawn
-  pub few_kept : length glyph.kept ≤ 256
+  pub few_kept : length glyph.kept ≤ COMPONENTS
   pub small_points : All (λ contours. All (λ contour. All IsSmallPoint contour.points) contours) glyph.drawn
   pub small_offsets : All (λ kept. All (λ offset. IsSmall offset.0 × IsSmall offset.1) kept.at) glyph.kept
   pub small_anchors : All (λ anchor. All (λ position. IsSmall position.0 × IsSmall position.1) anchor.1) glyph.anchors
   pub width_range : All (λ width. (pos 0 ≤ℤ width) × (width ≤ℤ pos 32767)) glyph.widths
   -- the masters are the first places
   pub anchors : (masters : ℕ) × (masters ≤ length glyph.places) × HasAnchorsAt masters glyph
+
+-- glyphs that are shared, as the glyphs themselves
+abbrev pub glyphs_of : List (Arc FlatGlyph Global) → List FlatGlyph
+glyphs_of glyphs = map arc_value glyphs

@@ -3,6 +3,7 @@ use Rattle.std.specs.Prelude.{◌≡◌, ◌≢◌, ℕ, ◌≤◌, Bool, ◌&&�
 use Rattle.std.specs.List.{AllPairs, position}
 use Rattle.std.specs.Option.{option_eq}
 use Rattle.std.specs.Cmp.{IsEquivalence, nat_eq_equiv, on_equiv, and_equiv}
+use Rattle.refusal_codes.specs.declared.limits.TheConstants.{GLYPHS}
 use Rattle.std.specs.Cmp.Lexicographic.{pointwise, lists_equiv, options_equiv, nat_list_eq_equiv}
 
 -- each glyph's number in the source, None for a `.notdef` that the compiler made, and each glyph's name
@@ -16,7 +17,7 @@ gid_of names name = position (pointwise nat_eq name) names
 
 -- at most 65,535 names, all different, and a number for each
 pub record IsGlyphOrder (order : Glyphs) : Type 0 where
-  pub few : length order.names ≤ 65535
+  pub few : length order.names ≤ GLYPHS
   pub different : AllPairs (λ a b. a ≢ b) order.names
   pub one_number : length order.numbers ≡ length order.names
 

@@ -6,7 +6,9 @@ use Rattle.font_ir.specs.declared.glyph.Shape.{Shape}
 use Rattle.font_ir.specs.declared.glyph.Shape.TheVariants.{Path, Component}
 use Rattle.font_ir.specs.declared.glyph.LayerIr.{LayerIr}
 use Rattle.font_ir.specs.declared.glyph.GlyphIr.{GlyphIr}
-use Rattle.font_ir.specs.FlatGlyphs.{IsSmall, IsSmallFixed, IsSmallPoint, AreGlyphPlaces}
+use Rattle.refusal_codes.specs.declared.limits.TheConstants.{COMPONENTS}
+use Rattle.font_ir.specs.Places.{AreGlyphPlaces}
+use Rattle.font_ir.specs.FlatGlyphs.{IsSmall, IsSmallFixed, IsSmallPoint}
 
 -- what of a shape is the same at each place: which points of a path are on the curve, and the glyph of a component
 pub data ShapeForm : Type 0 where
@@ -49,7 +51,7 @@ pub record IsReadGlyph (glyph : GlyphIr) : Type 0 where
   pub widths : All (λ layer. (pos 0 ≤ℤ layer.width) × (layer.width ≤ℤ pos 32767)) glyph.layers
   pub points : All (λ layer. All HasPoints layer.shapes) glyph.layers
   pub ranges : All (λ layer. All IsInRange layer.shapes) glyph.layers
-  pub few_components : All (λ layer. count_by is_component layer.shapes ≤ 256) glyph.layers
+  pub few_components : All (λ layer. count_by is_component layer.shapes ≤ COMPONENTS) glyph.layers
   pub small_anchors : All (λ layer. All (λ anchor. IsSmall anchor.x × IsSmall anchor.y) layer.anchors) glyph.layers
 
 -- components aren't built: each shape is a path

@@ -1,4 +1,5 @@
-use crate::variation::{Location, Tag};
+use crate::tag::Tag;
+use crate::variation::Location;
 use fixed_math::Fixed;
 use plain_lists::{Sequence, Text as Name};
 
@@ -14,6 +15,13 @@ pub struct Axis {
 pub struct Instance {
     pub name: Name,
     pub design: Sequence<Fixed>,
+}
+
+/// The two scales on which a master has a coordinate for each axis.
+#[derive(Clone, Copy, Debug, PartialEq, Eq)]
+pub enum CoordinateScale {
+    Design,
+    User,
 }
 
 /// A master: its place on each axis, and its vertical metrics in font units.

@@ -4,15 +4,19 @@
 
 mod glyph;
 mod header;
+mod locations;
 mod notdef;
 mod order;
 mod outline;
+mod tag;
 mod variation;
 
 pub use glyph::{Anchor, Contour, DrawnPoint, FlatGlyph, GlyphIr, Kept, LayerIr, Shape};
-pub use header::{Axis, Header, Instance, KernEntry, Master};
-pub use notdef::made_notdef;
+pub use header::{Axis, CoordinateScale, Header, Instance, KernEntry, Master};
+pub use locations::{copied_locations, locations_of};
+pub use notdef::{made_notdef, made_notdef_is_flat};
 pub use order::GlyphOrder;
 pub use outline::{StoredPoint, bounds_of, stored_point};
 pub use plain_lists::Text as Name;
-pub use variation::{LayoutTable, Location, Region, Tag};
+pub use tag::Tag;
+pub use variation::{LayoutTable, Location, Region};

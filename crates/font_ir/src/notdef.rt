@@ -1,10 +1,12 @@
 ghost use Rattle.std.specs.Prelude.{◌≡◌, ℤ, List, [], IfOk, map};
+ghost use Rattle.font_ir.specs.declared.header.Header.{Header};
+ghost use Rattle.font_ir.specs.FlatGlyphs.{IsFlatGlyph};
+ghost use Rattle.font_ir.specs.Headers.{IsHeader};
 ghost use Rattle.font_ir.specs.Notdef.{made_notdef_of};
 
 use crate::glyph::{Contour, FlatGlyph};
 use crate::header::{Header, Master};
-use crate::variation::Location;
-use fixed_math::F2Dot14;
+use crate::locations::locations_of;
 use plain_lists::Sequence;
 use refusal_codes::NoMemory;
 use std::alloc::Global;
@@ -28,23 +30,10 @@ pub fn made_notdef(alloc: Global, header: &Header) -> Result<FlatGlyph, NoMemory
     })
 }
 
-/// Each master's location.
-fn locations_of(alloc: Global, masters: &[Master]) -> Result<Sequence<Location>, NoMemory>
-    ensures { IfOk result (λ places. places ≡ map (λ master. master.location) masters.now) }
-{
-    let mut places = Vec::with_capacity(alloc, masters.len())?;
-    for master in masters {
-        places.push(copy_of(alloc, master.location.as_slice())?)?;
-    }
-    Ok(Sequence::from_vec(places))
-}
-
-/// A location with these coordinates.
-fn copy_of(alloc: Global, coordinates: &[F2Dot14]) -> Result<Location, NoMemory>
-    ensures { IfOk result (λ location. location ≡ coordinates.now) }
-{
-    Ok(Sequence::from_vec(Vec::from_slice(alloc, coordinates)?))
-}
+/// The `.notdef` that is made for a header is a flat glyph. A law: the function does nothing.
+pub fn made_notdef_is_flat()
+    ensures { (header : Header) → IsHeader header → IsFlatGlyph (made_notdef_of header) }
+{}
 
 /// The width, once for each master.
 fn widths_of(alloc: Global, masters: &[Master], width: i32) -> Result<Sequence<i32>, NoMemory>

@@ -7,7 +7,7 @@ use Rattle.std.specs.declared.alloc.Global.{Global}
 use Rattle.std.specs.declared.sync.Arc.{Arc}
 use Rattle.std.specs.Arc.{arc_value}
 use Rattle.std.proofs.lemmas.List.Elements.{All-from_recursion, All-push}
-use Rattle.metrics_tables.specs.Measuring.{glyphs_of}
+use Rattle.font_ir.specs.FlatGlyphs.{glyphs_of}
 use Rattle.std.proofs.lemmas.Int.{ints}
 use Rattle.refusal_codes.specs.declared.refusal.Refusal.{Refusal}
 use Rattle.refusal_codes.specs.Gives.{◌>>=◌}
@@ -17,7 +17,8 @@ use Rattle.font_ir.specs.declared.header.Header.{Header}
 use Rattle.font_ir.specs.declared.header.Master.{Master}
 use Rattle.font_ir.specs.declared.glyph.Contour.{Contour}
 use Rattle.font_ir.specs.declared.glyph.FlatGlyph.{FlatGlyph}
-use Rattle.font_ir.specs.FlatGlyphs.{AreGlyphPlaces, IsFlatGlyph, IsSmallPoint, point_count}
+use Rattle.font_ir.specs.PlaceLaws.{origin_alone}
+use Rattle.font_ir.specs.FlatGlyphs.{IsFlatGlyph, IsSmallPoint, point_count}
 use Rattle.font_ir.specs.Notdef.{made_notdef_of}
 use Rattle.glyphs_source.specs.HeaderReading.{IsReadHeader}
 use Rattle.font_plan.specs.Drawn.{IsDrawn}
@@ -54,14 +55,6 @@ pub drawn_push : (h : Header) (glyphs : List (Arc FlatGlyph Global)) (one : Arc 
 drawn_push h glyphs one all here = subst (λ (flats : List FlatGlyph). All (IsDrawn h) flats) (sym (map-append arc_value glyphs (one ∷ []))) (All-push (IsDrawn h) (glyphs_of glyphs) (arc_value one) all here)
 
 -- ---- the made `.notdef`, where there is one master, at no axis
-
-origin_alone : AreGlyphPlaces ([] ∷ [])
-origin_alone = record {
-  few = omega arith;
-  one_length = λ i j d below within. absurd (omega arith);
-  different = λ i j d below within. absurd (omega arith);
-  origin = (0, [], omega arith, refl, λ k d within. absurd (omega arith));
-}
 
 -- without contours, of some width, at the origin alone
 abbrev bare : ℕ → List (List F2Dot14) → FlatGlyph

@@ -12,7 +12,7 @@ use Rattle.font_ir.specs.declared.glyph.FlatGlyph.{FlatGlyph}
 use Rattle.glyf_writer.specs.GlyphData.{simple_data}
 use Rattle.font_ir.specs.Outlines.{outline_at}
 use Rattle.metrics_tables.specs.declared.measures.Measures.{Measures}
-use Rattle.metrics_tables.specs.Measuring.{glyphs_of}
+use Rattle.font_ir.specs.FlatGlyphs.{glyphs_of}
 use Rattle.metrics_tables.specs.Tables.{head_table}
 use Rattle.font_assembly.specs.File.{HasHead}
 use Rattle.font_plan.specs.Drawn.{IsDrawn}

@@ -1,6 +1,7 @@
 -- What it means that a source has a font: the grammar of property lists gives it a tree, each of its parts is read, the limits are
 -- kept, and the font is the file of their tables. fontc's own.
 use Rattle.std.specs.Prelude.{◌≡◌, ◌≤◌, ℕ, List, length, None, Ok}
+use Rattle.refusal_codes.specs.declared.limits.TheConstants.{SOURCE_BYTES, GLYPHS, TABLE_BYTES}
 use Rattle.plist_reader.specs.declared.tree.Tree.{Tree}
 use Rattle.plist_reader.specs.Grammar.{HasTree}
 use Rattle.font_ir.specs.declared.header.Header.{Header}
@@ -16,12 +17,12 @@ pub record IsFontOf (source font : List ℕ) : Type 0 where
   pub header : Header
   pub index : List Entry
   pub glyphs : List FlatGlyph
-  pub few_bytes : length source ≤ 67108864
+  pub few_bytes : length source ≤ SOURCE_BYTES
   pub read : HasTree source tree
   pub header_read : header_of tree ≡ Ok header
   pub index_read : index_of tree ≡ Ok index
   pub drawn : glyphs_in tree header index ≡ Ok glyphs
-  pub few_glyphs : length glyphs ≤ 65535
+  pub few_glyphs : length glyphs ≤ GLYPHS
   pub tables_fit : outlines.too_large (parts_of header glyphs) ≡ None
-  pub file_fits : file_len (tables_of header glyphs) ≤ 4294967295
+  pub file_fits : file_len (tables_of header glyphs) ≤ TABLE_BYTES
   pub is_file : font ≡ file (tables_of header glyphs)

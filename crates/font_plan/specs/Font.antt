@@ -10,7 +10,7 @@ use Rattle.refusal_codes.specs.declared.rule.Rule.TheVariants.{TooLarge, TooMany
 use Rattle.refusal_codes.specs.First.{refusal_of}
 use Rattle.refusal_codes.specs.Gives.{◌>>=◌}
 use Rattle.refusal_codes.specs.declared.job.TheConstants.{TREE, ORDER, TABLE, FONT}
-use Rattle.refusal_codes.specs.declared.limits.TheConstants.{SOURCE_BYTES}
+use Rattle.refusal_codes.specs.declared.limits.TheConstants.{GLYPHS, SOURCE_BYTES}
 use Rattle.plist_reader.specs.declared.tree.Tree.{Tree}
 use Rattle.plist_reader.specs.Reading.{read_of}
 use Rattle.font_ir.specs.declared.header.Header.{Header}
@@ -135,7 +135,7 @@ written header glyphs = unless_too_large (table_too_large (codes "glyf")) (outli
 
 -- a font has at most 65,535 glyphs
 abbrev pub glyphs_font : Header → List FlatGlyph → Result (List ℕ) Refusal
-glyphs_font header glyphs = if nat_lt 65535 (length glyphs) then Err (too_many_glyphs (length glyphs)) else written header glyphs
+glyphs_font header glyphs = if nat_lt GLYPHS (length glyphs) then Err (too_many_glyphs (length glyphs)) else written header glyphs
 
 -- ---- the whole
 
@@ -144,4 +144,4 @@ tree_font tree = header_of tree >>= λ header. (index_of tree >>= λ index. (gly
 
 -- the font of a source, where the source is accepted
 unfoldable pub font_of : List ℕ → Result (List ℕ) Refusal
-font_of source = if nat_lt 67108864 (length source) then Err source_too_large else (read_of source >>= tree_font)
+font_of source = if nat_lt SOURCE_BYTES (length source) then Err source_too_large else (read_of source >>= tree_font)

@@ -2,8 +2,9 @@ ghost use Rattle.std.specs.Prelude.{◌≡◌, ◌≤◌, ◌<◌, ◌^◌, ℕ,
 ghost use Rattle.std.specs.List.{All};
 ghost use Rattle.plist_reader.specs.Tree.{IsTree};
 ghost use Rattle.refusal_codes.specs.Gives.{Compiles};
+ghost use Rattle.refusal_codes.specs.declared.limits.TheConstants.{SOURCE_BYTES};
 ghost use Rattle.glyphs_source.specs.HeaderReading.{IsReadHeader};
-ghost use Rattle.metrics_tables.specs.Measuring.{glyphs_of};
+ghost use Rattle.font_ir.specs.FlatGlyphs.{glyphs_of};
 ghost use Rattle.font_plan.specs.Drawn.{IsDrawn};
 ghost use Rattle.font_plan.specs.Font.{font_of, tree_font, too_many_glyphs, glyphs_font, written, order_in};
 
@@ -14,13 +15,10 @@ use font_ir::{FlatGlyph, Header};
 use glyphs_source::{GlyphIndex, glyph_index, header};
 use plain_lists::Text;
 use plist_reader::{Tree, read};
-use refusal_codes::limits::SOURCE_BYTES;
+use refusal_codes::limits::{GLYPHS, SOURCE_BYTES};
 use refusal_codes::{CompileError, Failure, Refusal, Rule, job};
 use std::alloc::Global;
 use std::sync::Arc;
-
-/// The most glyphs that a font may have.
-const GLYPH_LIMIT: usize = 65535;
 
 /// A font that was compiled.
 #[derive(Debug, Drop)]
@@ -36,7 +34,7 @@ pub struct Built {
 /// `NoMemory` comes only where an allocation fails; it may come for any source, and says nothing of it.
 #[tactic(auto, unfolding(crate::specs::Font::font_of))]
 pub fn compile_one(alloc: Global, source: &[u8]) -> Result<Built, CompileError>
-    requires { length source.now ≤ 67108864 }
+    requires { length source.now ≤ SOURCE_BYTES }
     ensures { Compiles (λ built. built.font.items) result (font_of source.now) }
 {
     let tree = read(alloc, source)?;
@@ -69,7 +67,7 @@ fn compile_glyphs(
     requires order { length glyphs.now ≡ length (order_in index.now).names }
     ensures { Compiles (λ font. font.items) result (glyphs_font header.now (glyphs_of glyphs.now)) }
 {
-    if glyphs.len() > GLYPH_LIMIT {
+    if glyphs.len() > GLYPHS {
         return Err(CompileError::Refused(too_many_glyphs(alloc, glyphs.len() as u64)));
     }
     let order = order_in(alloc, index)?;
@@ -90,7 +88,7 @@ fn too_many_glyphs(alloc: Global, count: u64) -> Refusal
 /// The refusal of a source that has more than 67,108,864 bytes. It takes no memory.
 #[tactic(auto, using(crate::proofs::TooLarge::too_large_refused))]
 pub fn source_too_large(alloc: Global) -> Refusal
-    ensures { (source : List ℕ) → 67108864 < length source → font_of source ≡ Err result }
+    ensures { (source : List ℕ) → SOURCE_BYTES < length source → font_of source ≡ Err result }
 {
     let failure = Failure {
         rule: Rule::TooLarge,

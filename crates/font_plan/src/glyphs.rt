@@ -5,7 +5,7 @@ ghost use Rattle.std.specs.List.{All};
 ghost use Rattle.std.specs.Option.{option_map_or};
 ghost use Rattle.refusal_codes.specs.Gives.{Gives};
 ghost use Rattle.glyphs_source.specs.HeaderReading.{header_of, IsReadHeader};
-ghost use Rattle.metrics_tables.specs.Measuring.{glyphs_of};
+ghost use Rattle.font_ir.specs.FlatGlyphs.{glyphs_of};
 ghost use Rattle.font_plan.specs.Drawn.{IsDrawn};
 ghost use Rattle.font_plan.specs.Font.{drawn_of, all_drawn, followed_by, others_from, notdef_from, notdef_of, glyphs_in};
 

@@ -1,6 +1,7 @@
 ghost use Rattle.std.specs.Prelude.{◌≡◌, ◌≤◌, map, length, IfSome};
 ghost use Rattle.std.specs.String.{string_bytes};
 ghost use Rattle.outside_io.specs.Files.{told_bytes};
+ghost use Rattle.refusal_codes.specs.declared.limits.TheConstants.{SOURCE_BYTES};
 ghost use Rattle.fontc_cli.specs.Commands.{command_of};
 ghost use Rattle.fontc_cli.specs.Runs.{BuildEnds, RunEnds, IsComplete, Between};
 ghost use Rattle.fontc_cli.specs.Words.{shown};
@@ -10,11 +11,9 @@ use crate::status::{Report, Status};
 use font_plan::{compile_one, source_too_large};
 use outside_io::{Console, Files, Gate};
 use refusal_codes::CompileError;
+use refusal_codes::limits::SOURCE_BYTES;
 use std::alloc::Global;
 use whole_files::{ReadWholeError, read_whole, write_whole};
-
-/// The most bytes that a source may have.
-const SOURCE_LIMIT: usize = 67_108_864;
 
 /// Runs the command that the words are, over these files and this console.
 ///
@@ -57,7 +56,7 @@ pub fn run_alone<F: Files, C: Console>(
 fn build<F: Files>(alloc: Global, command: BuildCommand<'_>, files: &mut F) -> Status
     ensures { Between (BuildEnds (shown command.entry) result) F.holds F.failed_reads F.failed_writes files.old files.new }
 {
-    match read_whole(alloc, files, command.source, SOURCE_LIMIT) {
+    match read_whole(alloc, files, command.source, SOURCE_BYTES) {
         Ok(source) => build_source(alloc, command, files, source.as_slice()),
         Err(ReadWholeError::TooLong) => Status::Refused(source_too_large(alloc)),
         Err(ReadWholeError::Failed) => Status::ReadFault,
@@ -72,7 +71,7 @@ fn build_source<F: Files>(
     files: &mut F,
     source: &[u8],
 ) -> Status
-    requires fits { length source.now ≤ 67108864 }
+    requires fits { length source.now ≤ SOURCE_BYTES }
     requires read { IfSome (told_bytes (F.holds files.old command.source.now)) (λ bytes. source.now ≡ bytes) }
     ensures { Between (BuildEnds (shown command.entry) result) F.holds F.failed_reads F.failed_writes files.old files.new }
 {

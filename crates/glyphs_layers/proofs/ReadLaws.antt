@@ -1,15 +1,14 @@
 -- What holds of each glyph whose layers are read: the limits that the readers above rely on.
-use Rattle.std.proofs.Common.{◌≡◌, ℕ, ◌<◌, ◌≤◌, Bool, true, false, ◌&&◌, List, [], ◌∷◌, ◌++◌, length, get_or, map, Option, Some, None, Result, Ok, Err, refl, sym, ◌∙◌, subst, arith, take, drop, ◌-◌}
+use Rattle.std.proofs.Common.{◌≡◌, ℕ, ◌<◌, ◌≤◌, Bool, true, false, ◌&&◌, List, [], ◌∷◌, ◌++◌, length, map, Option, Some, None, Result, Ok, Err, suc, not, ltb, refl, sym, ◌∙◌, ◌^◌, subst, arith, lit<}
 use Rattle.std.specs.Prelude.{◌*◌, codes, is_some, flat_map, pos, neg_ℤ, ◌≤ℤ◌, if◌then◌else◌, ◌==◌, slice_index, IfOk}
-use Rattle.std.specs.List.{All, AllByRecursion, count_by}
+use Rattle.std.specs.List.{All, AllByRecursion, count_by, list_all}
 use Rattle.std.specs.Option.{option_map_or}
-use Rattle.std.proofs.lemmas.List.Elements.{All-from_recursion, All-nil, All-map}
-use Rattle.std.proofs.lemmas.Bool.{eqb-false}
+use Rattle.std.proofs.lemmas.List.Elements.{All-from_recursion, All-nil}
 use Rattle.std.proofs.lemmas.Bool.Decides.{nat_tests}
-use Rattle.std.proofs.lemmas.List.{length-map, length-append, length-drop, length-take}
 use Rattle.std.proofs.lemmas.Int.{ints}
 use Rattle.plist_reader.specs.declared.tree.Tree.{Tree}
 use Rattle.fixed_math.specs.declared.F2Dot14.{F2Dot14}
+use Rattle.fixed_math.specs.declared.Fixed.{Fixed}
 use Rattle.font_ir.specs.declared.header.Header.{Header}
 use Rattle.font_ir.specs.declared.header.Master.{Master}
 use Rattle.font_ir.specs.declared.glyph.Anchor.{Anchor}
@@ -25,15 +24,14 @@ use Rattle.refusal_codes.specs.First.{first_of, foremost, refusal_of}
 use Rattle.refusal_codes.specs.declared.job.TheConstants.{RAW}
 use Rattle.refusal_codes.specs.Gives.{Gives}
 use Rattle.refusal_codes.proofs.JudgedLaws.{judged_ok}
-use Rattle.glyphs_source.specs.declared.decimals.Decimal.{Decimal}
-use Rattle.glyphs_source.specs.declared.values.Range.TheVariants.{Coordinate}
-use Rattle.glyphs_source.specs.Decimals.{is_whole, is_natural_in}
+use Rattle.source_values.specs.declared.decimals.Decimal.{Decimal}
+use Rattle.source_values.specs.declared.kinds.Range.TheVariants.{Coordinate}
+use Rattle.source_values.specs.Decimals.{is_whole, is_natural_in}
+use Rattle.source_values.specs.Values.{place_at, items_at, decimal_at, in_range, natural_by, natural_in, natural_or, items_under}
 use Rattle.plist_reader.specs.Tree.{find_in}
-use Rattle.glyphs_source.specs.Values.{place_at, items_at, decimal_at, in_range, natural_by, natural_in, natural_or, items_under}
-use Rattle.glyphs_source.specs.HeaderReading.{header_of, master_record}
-use Rattle.glyphs_layers.specs.LayerRules.{layer_numbers, layer_of, glyph_failures, glyph_whole_failures}
-use Rattle.glyphs_layers.specs.LayerReading.{coordinate_by, coordinate_of, point_by, contour_of, path_of, shapes_of, layer_record, glyph_record, glyph_of, point_of, last_first}
-use Rattle.glyphs_source.proofs.HeaderLaws.{header-masters, master_record-location}
+use Rattle.glyphs_source.specs.HeaderReading.{IsReadHeader}
+use Rattle.glyphs_layers.specs.LayerRules.{is_node, layer_numbers, layer_of, glyph_failures, glyph_whole_failures}
+use Rattle.glyphs_layers.specs.LayerReading.{coordinate_by, coordinate_of, point_by, origin, node_point, point_of, behind_first, last_first, contour_of, path_by, paths_of, shapes_of, all_shapes, layer_record, master_layers, glyph_record, glyph_of}
 
 -- ---- single layers
 
@@ -55,74 +53,89 @@ signed_range : (negative : Bool) (n : ℕ) → n ≤ 16383 → IsSmallFixed (rec
 signed_range true n le = (omega (arith, ints), omega (arith, ints))
 signed_range false n le = (omega (arith, ints), omega (arith, ints))
 
+abbrev fixed_of : Bool → ℕ → Fixed
+fixed_of negative n = record { 0 = if negative then neg_ℤ (pos (65536 * n)) else pos (65536 * n) }
+
 coordinate_range : (o : Option Decimal) → IsSmallFixed (record { 0 = coordinate_by o })
 coordinate_range None = (omega (arith, ints), omega (arith, ints))
 coordinate_range (Some d) = chosen (is_whole d && in_range Coordinate d) refl
   where
-    chosen : (b : Bool) → (is_whole d && in_range Coordinate d) ≡ b → IsSmallFixed (record { 0 = if b then (if d.negative then neg_ℤ (pos (65536 * d.whole)) else pos (65536 * d.whole)) else pos 0 })
+    chosen : (b : Bool) → (is_whole d && in_range Coordinate d) ≡ b
+        → IsSmallFixed (record { 0 = if b then (fixed_of d.negative d.whole).0 else pos 0 })
     chosen true e = signed_range d.negative d.whole (grind (arith, nat_tests))
     chosen false e = (omega (arith, ints), omega (arith, ints))
 
-parts_range : (t : Tree) (parts : List ℕ) → IsSmallPoint (point_by t parts)
+parts_range : (t : Tree) (x y : ℕ) → IsSmallPoint (point_by t x y)
 unfolding coordinate_of
-parts_range t parts = (coordinate_range (decimal_at t (slice_index parts 0)), coordinate_range (decimal_at t (slice_index parts 1)))
+parts_range t x y = (coordinate_range (decimal_at t x), coordinate_range (decimal_at t y))
 
-point_range : (t : Tree) (o : Option (List ℕ)) → IsSmallPoint (option_map_or (point_by t) o (point_by t []))
-point_range t None = parts_range t []
-point_range t (Some parts) = parts_range t parts
+origin_range : IsSmallPoint origin
+origin_range = ((omega (arith, ints), omega (arith, ints)), (omega (arith, ints), omega (arith, ints)))
 
-points_range : (t : Tree) (nodes : List ℕ) → All IsSmallPoint (map (point_of t) nodes)
-unfolding point_of
-points_range t nodes = All-map IsSmallPoint (point_of t) nodes (λ k d within. point_range t (items_at t (get_or nodes k d)))
-
-path_range : (t : Tree) (nodes : List ℕ) → AllByRecursion IsInRange (path_of t nodes)
-unfolding contour_of
-path_range t nodes = chosen (length nodes == 0)
+node_range : (t : Tree) (o : Option (List ℕ)) → IsSmallPoint (node_point t o)
+node_range t None = origin_range
+node_range t (Some parts) = chosen (is_node parts)
   where
-    chosen : (b : Bool) → AllByRecursion IsInRange (if b then [] else Path (contour_of t nodes) ∷ [])
-    chosen true = tt
-    chosen false = (points_range t (last_first nodes), tt)
+    chosen : (b : Bool)
+        → IsSmallPoint (if b then point_by t (slice_index parts 0) (slice_index parts 1) else origin)
+    chosen true = parts_range t (slice_index parts 0) (slice_index parts 1)
+    chosen false = origin_range
+
+points_range : (t : Tree) (nodes : List ℕ) → AllByRecursion IsSmallPoint (map (point_of t) nodes)
+unfolding point_of
+points_range t [] = tt
+points_range t (n ∷ ns) = (node_range t (items_at t n), points_range t ns)
+
+-- what holds of each item holds of each after the last one has gone first
+all_behind : {X : Type 0} (P : X → Type 0) (x : X) (ys : List X) → P x → AllByRecursion P ys
+    → AllByRecursion P (behind_first x ys)
+all_behind P x [] p h = (p, tt)
+all_behind P x (y ∷ ys) p h = (h.0, (p, h.1))
+
+all_last_first : {X : Type 0} (P : X → Type 0) (xs : List X) → AllByRecursion P xs
+    → AllByRecursion P (last_first xs)
+all_last_first P [] h = tt
+all_last_first P (x ∷ xs) h = all_behind P x (last_first xs) h.0 (all_last_first P xs h.1)
+
+path_range : (t : Tree) (o : Option (List ℕ)) → AllByRecursion IsInRange (path_by t o)
+unfolding contour_of
+path_range t None = tt
+path_range t (Some []) = tt
+path_range t (Some (n ∷ ns)) =
+    (All-from_recursion IsSmallPoint _ (all_last_first IsSmallPoint (map (point_of t) (n ∷ ns)) (points_range t (n ∷ ns))), tt)
 
 -- a path that stands has points
-points_there : (t : Tree) (nodes : List ℕ) → (length nodes == 0) ≡ false → 0 < length (map (point_of t) (last_first nodes))
-points_there t nodes e =
-    let n = length nodes - 1 in
-    let some : length nodes ≡ 0 → ⊥ = eqb-false (length nodes) 0 e in
-    omega (arith, length-map (last_first nodes) (point_of t), length-append (drop n nodes) (take n nodes), length-drop n nodes, length-take n nodes)
+some_behind : {X : Type 0} (x : X) (ys : List X) → 0 < length (behind_first x ys)
+some_behind x [] = omega arith
+some_behind x (y ∷ ys) = omega arith
 
-path_stands : (t : Tree) (nodes : List ℕ) → AllByRecursion HasPoints (path_of t nodes)
+path_stands : (t : Tree) (o : Option (List ℕ)) → AllByRecursion HasPoints (path_by t o)
 unfolding contour_of
-path_stands t nodes = chosen (length nodes == 0) (points_there t nodes)
-  where
-    chosen : (b : Bool) → (b ≡ false → 0 < length (map (point_of t) (last_first nodes))) → AllByRecursion HasPoints (if b then [] else Path (contour_of t nodes) ∷ [])
-    chosen true some = tt
-    chosen false some = (some refl, tt)
+path_stands t None = tt
+path_stands t (Some []) = tt
+path_stands t (Some (n ∷ ns)) = (some_behind (point_of t n) (last_first (map (point_of t) ns)), tt)
 
-path_plain : (t : Tree) (nodes : List ℕ) → AllByRecursion IsPath (path_of t nodes)
-path_plain t nodes = chosen (length nodes == 0)
-  where
-    chosen : (b : Bool) → AllByRecursion IsPath (if b then [] else Path (contour_of t nodes) ∷ [])
-    chosen true = tt
-    chosen false = (tt, tt)
+path_plain : (t : Tree) (o : Option (List ℕ)) → AllByRecursion IsPath (path_by t o)
+path_plain t None = tt
+path_plain t (Some []) = tt
+path_plain t (Some (n ∷ ns)) = (tt, tt)
+
+-- what holds of each path holds of each shape
+module _ (P : Shape → Type 0) (t : Tree) (path : (o : Option (List ℕ)) → AllByRecursion P (path_by t o)) where
+  shape_under : (o : Option ℕ) → AllByRecursion P (option_map_or (paths_of t) o [])
+  shape_under None = tt
+  shape_under (Some n) = path (items_at t n)
 
 all_append : {X : Type 0} (P : X → Type 0) (xs ys : List X) → AllByRecursion P xs → AllByRecursion P ys → AllByRecursion P (xs ++ ys)
 all_append P [] ys a b = b
 all_append P (x ∷ xs) ys a b = (a.0, all_append P xs ys a.1 b)
 
-shapes_stand : (t : Tree) (ns : List ℕ) → AllByRecursion HasPoints (flat_map (shapes_of t) ns)
+of_shapes : (P : Shape → Type 0) (t : Tree) → ((o : Option (List ℕ)) → AllByRecursion P (path_by t o))
+    → (ns : List ℕ) → AllByRecursion P (flat_map (shapes_of t) ns)
 unfolding shapes_of
-shapes_stand t [] = tt
-shapes_stand t (n ∷ ns) = all_append HasPoints _ _ (path_stands t (items_under t n (codes "nodes"))) (shapes_stand t ns)
-
-shapes_plain : (t : Tree) (ns : List ℕ) → AllByRecursion IsPath (flat_map (shapes_of t) ns)
-unfolding shapes_of
-shapes_plain t [] = tt
-shapes_plain t (n ∷ ns) = all_append IsPath _ _ (path_plain t (items_under t n (codes "nodes"))) (shapes_plain t ns)
-
-shapes_range : (t : Tree) (ns : List ℕ) → AllByRecursion IsInRange (flat_map (shapes_of t) ns)
-unfolding shapes_of
-shapes_range t [] = tt
-shapes_range t (n ∷ ns) = all_append IsInRange _ _ (path_range t (items_under t n (codes "nodes"))) (shapes_range t ns)
+of_shapes P t path [] = tt
+of_shapes P t path (n ∷ ns) =
+    all_append P _ _ (shape_under P t path (find_in t n (codes "nodes"))) (of_shapes P t path ns)
 
 -- paths are no components
 no_components : (shapes : List Shape) → AllByRecursion IsPath shapes → count_by is_component shapes ≡ 0
@@ -158,21 +171,21 @@ width_range t n =
 
 layer_points : (t : Tree) (n : ℕ) → All HasPoints (layer_record t n).shapes
 unfolding layer_record
-layer_points t n = All-from_recursion HasPoints _ (shapes_stand t (items_under t n (codes "shapes")))
+layer_points t n = All-from_recursion HasPoints _ (of_shapes HasPoints t (path_stands t) (items_under t n (codes "shapes")))
 
 layer_paths : (t : Tree) (n : ℕ) → All IsPath (layer_record t n).shapes
 unfolding layer_record
-layer_paths t n = All-from_recursion IsPath _ (shapes_plain t (items_under t n (codes "shapes")))
+layer_paths t n = All-from_recursion IsPath _ (of_shapes IsPath t (path_plain t) (items_under t n (codes "shapes")))
 
 layer_range : (t : Tree) (n : ℕ) → All IsInRange (layer_record t n).shapes
 unfolding layer_record
-layer_range t n = All-from_recursion IsInRange _ (shapes_range t (items_under t n (codes "shapes")))
+layer_range t n = All-from_recursion IsInRange _ (of_shapes IsInRange t (path_range t) (items_under t n (codes "shapes")))
 
 layer_components : (t : Tree) (n : ℕ) → count_by is_component (layer_record t n).shapes ≤ 256
 unfolding layer_record
 layer_components t n =
     let ns = items_under t n (codes "shapes") in
-    omega (arith, no_components (flat_map (shapes_of t) ns) (shapes_plain t ns))
+    omega (arith, no_components (all_shapes t n) (of_shapes IsPath t (path_plain t) ns))
 
 layer_anchors : (t : Tree) (n : ℕ) → All (λ (anchor : Anchor). IsSmall anchor.x × IsSmall anchor.y) (layer_record t n).anchors
 unfolding layer_record
@@ -228,12 +241,26 @@ one_master_facts t m name number g x at e =
     let parts = judged_ok (refusal_of RAW name) (first_of (glyph_failures t (m ∷ []) g)) (foremost (glyph_whole_failures t (m ∷ []) g)) (glyph_record t (m ∷ []) number g) x e in
     subst (λ (y : GlyphIr). Facts number y) parts.2 (record_facts t m number g at (layer_there t m g parts.1))
 
+-- one location, which has no coordinates, is that of one master
+one_alone : (ms : List Master) → map (λ (master : Master). master.location) ms ≡ [] ∷ []
+    → (m : Master) × (ms ≡ m ∷ []) × (m.location ≡ [])
+one_alone [] e = absurd cc
+one_alone (m ∷ []) e = (m, refl, cc)
+one_alone (m ∷ n ∷ ms) e = absurd cc
+
+pub few_masters : (h : Header) → IsReadHeader h → length h.masters < 2 ^ 32
+few_masters h is =
+    let found = one_alone h.masters is.one_master in
+    subst (λ (ms : List Master). length ms < 2 ^ 32) (sym found.1) (lit< tt)
+
 -- of each glyph that is read with the header's masters
-pub read_facts : (t : Tree) (h : Header) → header_of t ≡ Ok h → (masters : List Master) → masters ≡ h.masters → (name : List ℕ) (number g : ℕ) (r : Result GlyphIr ReadError) → Gives (λ (x : GlyphIr). x) r (glyph_of t masters name number g) → IfOk r (Facts number)
-read_facts t h e masters same name number g (Err error) given = tt
-read_facts t h e masters same name number g (Ok x) given =
-    let found = header-masters t h e in
-    one_master_facts t (master_record t found.0) name number g x (master_record-location t found.0)
+pub read_facts : (t : Tree) (h : Header) → IsReadHeader h → (masters : List Master) → masters ≡ h.masters
+    → (name : List ℕ) (number g : ℕ) (r : Result GlyphIr ReadError)
+    → Gives (λ (x : GlyphIr). x) r (glyph_of t masters name number g) → IfOk r (Facts number)
+read_facts t h is masters same name number g (Err error) given = tt
+read_facts t h is masters same name number g (Ok x) given =
+    let found = one_alone h.masters is.one_master in
+    one_master_facts t found.0 name number g x found.2
     (subst (λ (ms : List Master). glyph_of t ms name number g ≡ Ok x) (same ∙ found.1) given)
 
 pub read_number : (number : ℕ) (r : Result GlyphIr ReadError) → IfOk r (Facts number) → IfOk r (λ x. x.number ≡ number)
@@ -251,3 +278,27 @@ read_components number (Ok x) facts = facts.components
 pub read_anchors : (number : ℕ) (r : Result GlyphIr ReadError) → IfOk r (Facts number) → IfOk r HasNoAnchors
 read_anchors number (Err error) facts = tt
 read_anchors number (Ok x) facts = facts.anchors
+
+-- ---- the masters' layers
+
+-- there are as many layers as masters exactly where each has one
+layers_at_most : (t : Tree) (ns : List ℕ) (ms : List Master) → length (flat_map (master_layers t ns) ms) ≤ length ms
+layers_at_most t ns [] = omega arith
+layers_at_most t ns (m ∷ ms) = chosen (layer_of t ns m)
+  where
+    chosen : (o : Option ℕ)
+        → length (option_map_or (λ n. layer_record t n ∷ []) o [] ++ flat_map (master_layers t ns) ms) ≤ suc (length ms)
+    chosen None = omega (arith, layers_at_most t ns ms)
+    chosen (Some n) = omega (arith, layers_at_most t ns ms)
+
+pub layers_there : (t : Tree) (ns : List ℕ) (ms : List Master)
+    → ltb (length (flat_map (master_layers t ns) ms)) (length ms)
+    ≡ not (list_all (λ (m : Master). is_some (layer_of t ns m)) ms)
+layers_there t ns [] = refl
+layers_there t ns (m ∷ ms) = chosen (layer_of t ns m)
+  where
+    chosen : (o : Option ℕ)
+        → ltb (length (option_map_or (λ n. layer_record t n ∷ []) o [] ++ flat_map (master_layers t ns) ms)) (suc (length ms))
+        ≡ not (is_some o && list_all (λ (m : Master). is_some (layer_of t ns m)) ms)
+    chosen None = let few = layers_at_most t ns ms in grind (arith, nat_tests)
+    chosen (Some n) = layers_there t ns ms

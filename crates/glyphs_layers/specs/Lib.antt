@@ -1,2 +1,3 @@
 pub mod LayerReading
 pub mod LayerRules
+pub mod OnLiterals

@@ -1,16 +1,18 @@
-ghost use Rattle.std.specs.Prelude.{◌≡◌, ◌<◌, ◌^◌, length, map, slice_get, Ok, Err, IfOk, OnOk, IfSome, [], ◌∷◌, ◌++◌};
+ghost use Rattle.std.specs.Prelude.{◌≡◌, ◌<◌, ◌^◌, length, map, flat_map, slice_get, Ok, Err, IfOk, OnOk, IfSome, [], ◌∷◌, ◌++◌};
 ghost use Rattle.glyphs_source.specs.HeaderReading.{header_of};
 ghost use Rattle.font_ir.specs.ReadGlyphs.{IsReadGlyph, HasNoComponents, HasNoAnchors};
+ghost use Rattle.refusal_codes.specs.First.{noted};
 ghost use Rattle.refusal_codes.specs.Gives.{Gives};
-ghost use Rattle.glyphs_layers.specs.LayerReading.{glyph_record, glyph_of};
+ghost use Rattle.glyphs_layers.specs.LayerRules.{layer_numbers, glyph_failures};
+ghost use Rattle.glyphs_layers.specs.LayerReading.{master_layers, glyph_of};
 
-use crate::layer_rules::{layer_numbers, note_glyph, whole_failure};
-use crate::layers::layers;
-use font_ir::{GlyphIr, Header, Location, Master, Name};
-use glyphs_source::{GlyphIndex, place_at};
+use crate::layers::{Entry, read_layers};
+use font_ir::{GlyphIr, Header, LayerIr, Location, Master, Name};
+use glyphs_source::{GlyphIndex, headers_have_one_master};
 use plain_lists::Sequence;
 use plist_reader::Tree;
-use refusal_codes::{FirstFailure, ReadError, job};
+use refusal_codes::{Failure, FirstFailure, ReadError, Rule, job};
+use source_values::{Dictionary, Each, items_under, optional, place_at};
 use std::alloc::{AllocError, Global};
 
 /// The layers of the glyph with this number in the index: one per master.
@@ -37,6 +39,7 @@ pub fn raw_glyph(
     ensures components { IfOk result HasNoComponents }
     ensures anchors { IfOk result HasNoAnchors }
 {
+    headers_have_one_master();
     let (name, entry) = index.at(number).unwrap();
     read_glyph(
         alloc,
@@ -49,7 +52,7 @@ pub fn raw_glyph(
 }
 
 /// The layers of the glyph with this name, number and dictionary.
-#[tactic(auto, unfolding(crate::specs::LayerReading::glyph_of))]
+#[tactic(auto, unfolding(crate::specs::LayerReading::glyph_of, crate::specs::LayerReading::glyph_record, crate::specs::LayerRules::glyph_whole_failures))]
 fn read_glyph(
     alloc: Global,
     tree: &Tree,
@@ -63,35 +66,40 @@ fn read_glyph(
     ensures places { IfOk result (λ read. read.places ≡ map (λ master. master.location) masters.now) }
 {
     let mut first = FirstFailure::new();
-    note_glyph(tree, masters, glyph, &mut first);
+    let layers = glyph_layers(alloc, tree, masters, glyph, &mut first)?;
     if let Some(failure) = first.get() {
         return Err(failure.refused(job::RAW, name.copy(alloc)?));
     }
-    if let Some(failure) = whole_failure(tree, masters, glyph) {
+    if layers.len() < masters.len() {
+        let failure = Failure {
+            rule: Rule::MissingLayer,
+            place: place_at(tree, glyph),
+        };
         return Err(failure.refused(job::RAW, name.copy(alloc)?));
     }
-    Ok(record(alloc, tree, masters, number, glyph)?)
-}
-
-#[tactic(auto, unfolding(crate::specs::LayerReading::glyph_record))]
-fn record(
-    alloc: Global,
-    tree: &Tree,
-    masters: &[Master],
-    number: u32,
-    glyph: u32,
-) -> Result<GlyphIr, AllocError>
-    requires { length masters.now < 2 ^ 32 }
-    ensures record { IfOk result (λ read. read ≡ glyph_record tree.now masters.now number glyph) }
-    ensures places { IfOk result (λ read. read.places ≡ map (λ master. master.location) masters.now) }
-{
     Ok(GlyphIr {
         number,
         place: place_at(tree, glyph),
         masters: masters.len() as u32,
         places: places(alloc, masters)?,
-        layers: layers(alloc, tree, layer_numbers(tree, glyph), masters)?,
+        layers: Sequence::from_vec(layers),
     })
+}
+
+/// The layers of the masters that have one, and what fails of the glyph's layers.
+#[tactic(auto, using(refusal_codes::proofs::FirstLaws::noting), unfolding(crate::specs::LayerRules::glyph_failures, crate::specs::LayerRules::entries_failures, crate::specs::LayerRules::layer_numbers))]
+fn glyph_layers(
+    alloc: Global,
+    tree: &Tree,
+    masters: &[Master],
+    glyph: u32,
+    first: &mut FirstFailure,
+) -> Result<Vec<LayerIr>, AllocError>
+    ensures layers { IfOk result (λ layers. layers.items ≡ flat_map (master_layers tree.now (layer_numbers tree.now glyph)) masters.now) }
+    ensures failures { OnOk result (first.new ≡ noted first.old (glyph_failures tree.now masters.now glyph)) }
+{
+    optional(tree, glyph, b"layers", &Each(Dictionary(Entry)), first);
+    read_layers(alloc, tree, items_under(tree, glyph, b"layers"), masters, first)
 }
 
 /// The masters' locations.

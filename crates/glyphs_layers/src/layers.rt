@@ -1,30 +1,50 @@
-ghost use Rattle.std.specs.Prelude.{◌≡◌, ◌++◌, ◌-◌, map, drop, take, length, slice_index, flat_map, IfOk, OnOk, ◌∷◌, []};
-ghost use Rattle.std.specs.Option.{option_map_or};
-ghost use Rattle.glyphs_layers.specs.LayerRules.{layer_of};
-ghost use Rattle.glyphs_layers.specs.LayerReading.{coordinate_of, point_of, point_by, last_first, contour_of, path_of, shapes_of, layer_record, master_layers};
+ghost use Rattle.std.specs.Prelude.{◌≡◌, ◌++◌, flat_map, IfOk, OnOk};
+ghost use Rattle.std.specs.List.{find};
+ghost use Rattle.refusal_codes.specs.First.{noted};
+ghost use Rattle.source_values.specs.Values.{items_under};
+ghost use Rattle.glyphs_layers.specs.LayerRules.{shape_failures, shapes_failures, layer_failures, entry_failures, is_layer_of, layer_of, master_failures};
+ghost use Rattle.glyphs_layers.specs.LayerReading.{shapes_of, all_shapes, layer_record, master_layers};
 
-use crate::layer_rules::layer_of;
-use fixed_math::Fixed;
-use font_ir::{Contour, DrawnPoint, LayerIr, Master, Shape};
-use glyphs_source::{Range, decimal_at, items_at, items_under, natural_or};
+use crate::paths::read_shape;
+use font_ir::{LayerIr, Master, Shape};
 use plain_lists::Sequence;
 use plist_reader::Tree;
+use refusal_codes::{FirstFailure, Rule};
+use source_values::{
+    Asked, EmptyList, PlainText, Range, Whole, items_at, natural_or, note_at, optional, required,
+    text_under,
+};
 use std::alloc::{AllocError, Global};
 
-/// The layers of the masters.
-pub fn layers(
+/// What each layer of a glyph holds, also where it is no master's.
+#[derive(Clone, Copy)]
+pub struct Entry;
+
+impl Asked for Entry {
+    ghost failures = { λ asked. entry_failures };
+
+    #[tactic(auto, unfolding(crate::specs::LayerRules::entry_failures))]
+    fn note(&self, tree: &Tree, layer: u32, first: &mut FirstFailure) {
+        optional(tree, layer, b"layerId", &PlainText, first);
+    }
+}
+
+/// The layers of the masters that have one, and what fails of them.
+pub fn read_layers(
     alloc: Global,
     tree: &Tree,
     numbers: &[u32],
     masters: &[Master],
-) -> Result<Sequence<LayerIr>, AllocError>
-    ensures { IfOk result (λ layers. layers ≡ flat_map (master_layers tree.now numbers.now) masters.now) }
+    first: &mut FirstFailure,
+) -> Result<Vec<LayerIr>, AllocError>
+    ensures layers { IfOk result (λ layers. layers.items ≡ flat_map (master_layers tree.now numbers.now) masters.now) }
+    ensures failures { OnOk result (first.new ≡ noted first.old (flat_map (master_failures tree.now numbers.now) masters.now)) }
 {
     let mut layers = Vec::with_capacity(alloc, masters.len())?;
     for master in masters {
-        push_layer(alloc, tree, numbers, master, &mut layers)?;
+        push_layer(alloc, tree, numbers, master, &mut layers, first)?;
     }
-    Ok(Sequence::from_vec(layers))
+    Ok(layers)
 }
 
 /// Adds a master's layer, where it is there.
@@ -34,117 +54,93 @@ fn push_layer(
     numbers: &[u32],
     master: &Master,
     layers: &mut Vec<LayerIr>,
+    first: &mut FirstFailure,
 ) -> Result<(), AllocError>
-    ensures { OnOk result (layers.new.items ≡ layers.old.items ++ master_layers tree.now numbers.now master.now) }
+    ensures layers { OnOk result (layers.new.items ≡ layers.old.items ++ master_layers tree.now numbers.now master.now) }
+    ensures failures { OnOk result (first.new ≡ noted first.old (master_failures tree.now numbers.now master.now)) }
 {
-    if let Some(number) = layer_of(tree, numbers, master) {
-        layers.push(layer(alloc, tree, number)?)?;
+    if let Some(layer) = layer_of(tree, numbers, master) {
+        layers.push(read_layer(alloc, tree, layer, first)?)?;
     }
     Ok(())
 }
 
-#[tactic(auto, unfolding(crate::specs::LayerReading::layer_record))]
-fn layer(alloc: Global, tree: &Tree, number: u32) -> Result<LayerIr, AllocError>
-    ensures { IfOk result (λ layer. layer ≡ layer_record tree.now number) }
+/// The number of a master's layer.
+fn layer_of(tree: &Tree, layers: &[u32], master: &Master) -> Option<u32>
+    ensures { result ≡ layer_of tree.now layers.now master.now }
 {
+    for layer in layers {
+        if is_layer_of(tree, master.id.as_bytes(), *layer) {
+            return Some(*layer);
+        }
+    }
+    None
+}
+
+fn is_layer_of(tree: &Tree, id: &[u8], layer: u32) -> bool
+    ensures { result ≡ is_layer_of tree.now id.now layer }
+{
+    match text_under(tree, layer, b"layerId") {
+        Some(text) => text.as_bytes() == id,
+        None => false,
+    }
+}
+
+#[tactic(auto, using(refusal_codes::proofs::FirstLaws::noting), unfolding(crate::specs::LayerRules::layer_failures, crate::specs::LayerReading::layer_record))]
+fn read_layer(
+    alloc: Global,
+    tree: &Tree,
+    layer: u32,
+    first: &mut FirstFailure,
+) -> Result<LayerIr, AllocError>
+    ensures layer { IfOk result (λ read. read ≡ layer_record tree.now layer) }
+    ensures failures { OnOk result (first.new ≡ noted first.old (layer_failures tree.now layer)) }
+{
+    required(tree, layer, b"width", &Whole(Range::Natural(0, 32767)), first);
+    let shapes = read_shapes_under(alloc, tree, layer, first)?;
+    optional(tree, layer, b"anchors", &EmptyList, first);
     Ok(LayerIr {
-        width: i32::from(natural_or(tree, number, b"width", 0, 32767, 0)),
-        shapes: shapes(alloc, tree, items_under(tree, number, b"shapes"))?,
+        width: i32::from(natural_or(tree, layer, b"width", 0, 32767, 0)),
+        shapes,
         anchors: Sequence::new(alloc),
     })
 }
 
-fn shapes(alloc: Global, tree: &Tree, numbers: &[u32]) -> Result<Sequence<Shape>, AllocError>
-    ensures { IfOk result (λ shapes. shapes ≡ flat_map (shapes_of tree.now) numbers.now) }
+/// The shapes of a layer, none where it has no such list.
+#[tactic(auto, unfolding(crate::specs::LayerRules::shapes_failures))]
+fn read_shapes_under(
+    alloc: Global,
+    tree: &Tree,
+    layer: u32,
+    first: &mut FirstFailure,
+) -> Result<Sequence<Shape>, AllocError>
+    ensures shapes { IfOk result (λ shapes. shapes ≡ all_shapes tree.now layer) }
+    ensures failures { OnOk result (first.new ≡ noted first.old (shapes_failures tree.now layer)) }
+{
+    let Some(number) = tree.find(layer, b"shapes") else {
+        return Ok(Sequence::new(alloc));
+    };
+    match items_at(tree, number) {
+        Some(numbers) => read_shapes(alloc, tree, numbers, first),
+        None => {
+            note_at(tree, number, Rule::WrongShape, first);
+            Ok(Sequence::new(alloc))
+        }
+    }
+}
+
+fn read_shapes(
+    alloc: Global,
+    tree: &Tree,
+    numbers: &[u32],
+    first: &mut FirstFailure,
+) -> Result<Sequence<Shape>, AllocError>
+    ensures shapes { IfOk result (λ shapes. shapes ≡ flat_map (shapes_of tree.now) numbers.now) }
+    ensures failures { OnOk result (first.new ≡ noted first.old (flat_map (shape_failures tree.now) numbers.now)) }
 {
     let mut shapes = Vec::with_capacity(alloc, numbers.len())?;
     for number in numbers {
-        push_shape(alloc, tree, *number, &mut shapes)?;
+        read_shape(alloc, tree, *number, &mut shapes, first)?;
     }
     Ok(Sequence::from_vec(shapes))
-}
-
-/// Adds a path, unless it has no nodes.
-#[tactic(auto, unfolding(crate::specs::LayerReading::shapes_of))]
-fn push_shape(
-    alloc: Global,
-    tree: &Tree,
-    number: u32,
-    shapes: &mut Vec<Shape>,
-) -> Result<(), AllocError>
-    ensures { OnOk result (shapes.new.items ≡ shapes.old.items ++ shapes_of tree.now number) }
-{
-    let nodes = items_under(tree, number, b"nodes");
-    if !nodes.is_empty() {
-        shapes.push(Shape::Path(contour(alloc, tree, nodes)?))?;
-    }
-    Ok(())
-}
-
-/// The contour of a path's nodes. The last one is the start.
-#[tactic(auto, unfolding(crate::specs::LayerReading::contour_of))]
-fn contour(alloc: Global, tree: &Tree, nodes: &[u32]) -> Result<Contour, AllocError>
-    ensures { IfOk result (λ contour. contour ≡ contour_of tree.now nodes.now) }
-{
-    let (others, start) = nodes.split_at(nodes.len().saturating_sub(1));
-    let mut points = Vec::with_capacity(alloc, nodes.len())?;
-    push_points(tree, start, &mut points)?;
-    push_points(tree, others, &mut points)?;
-    Ok(Contour {
-        points: Sequence::from_vec(points),
-    })
-}
-
-/// Adds the points of these nodes.
-fn push_points(tree: &Tree, nodes: &[u32], points: &mut Vec<DrawnPoint>) -> Result<(), AllocError>
-    ensures { OnOk result (points.new.items ≡ points.old.items ++ map (point_of tree.now) nodes.now) }
-{
-    for node in nodes {
-        push_point(tree, *node, points)?;
-    }
-    Ok(())
-}
-
-fn push_point(tree: &Tree, node: u32, points: &mut Vec<DrawnPoint>) -> Result<(), AllocError>
-    ensures { OnOk result (points.new.items ≡ points.old.items ++ point_of tree.now node ∷ []) }
-{
-    points.push(point(tree, node))?;
-    Ok(())
-}
-
-#[tactic(auto, unfolding(crate::specs::LayerReading::point_of))]
-fn point(tree: &Tree, node: u32) -> DrawnPoint
-    ensures { result ≡ point_of tree.now node }
-{
-    let parts = items_at(tree, node).unwrap_or(&[]);
-    DrawnPoint {
-        x: coordinate(tree, part(parts, 0)),
-        y: coordinate(tree, part(parts, 1)),
-        on: true,
-    }
-}
-
-/// The value at this position of a list, 0 where it is shorter.
-fn part(parts: &[u32], position: usize) -> u32
-    ensures { result ≡ slice_index parts.now position }
-{
-    parts.get(position).copied().unwrap_or(0)
-}
-
-/// A coordinate in 16.16, 0 where the value is no coordinate.
-#[tactic(auto, unfolding(crate::specs::LayerReading::coordinate_of))]
-fn coordinate(tree: &Tree, number: u32) -> Fixed
-    ensures { result ≡ coordinate_of tree.now number }
-{
-    match decimal_at(tree, number) {
-        Some(decimal) => {
-            if decimal.billionths == 0 && Range::Coordinate.holds(&decimal) {
-                let size = (65536 * decimal.whole) as i32;
-                Fixed(if decimal.negative { -size } else { size })
-            } else {
-                Fixed(0)
-            }
-        }
-        None => Fixed(0),
-    }
 }

@@ -2,7 +2,7 @@
 #![tactic(auto)]
 
 mod glyph_layers;
-mod layer_rules;
 mod layers;
+mod paths;
 
 pub use glyph_layers::raw_glyph;

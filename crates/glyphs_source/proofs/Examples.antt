@@ -1,13 +1,18 @@
 -- Worked examples: a source of one triangle as its property list reads, and what is read of it.
-use Rattle.std.specs.Prelude.{◌≡◌, ℕ, ◌+◌, List, [], ◌∷◌, ◌++◌, map, length, true, None, Ok, Err, codes, pos, negsuc, refl}
+use Rattle.std.specs.Prelude.{◌≡◌, ℕ, ◌+◌, List, [], ◌∷◌, ◌++◌, map, length, true, None, Result, Ok, Err, codes, pos, negsuc, refl}
 use Rattle.plist_reader.specs.declared.tree.Tree.{Tree}
 use Rattle.plist_reader.specs.declared.tree.TreeNode.{TreeNode}
 use Rattle.plist_reader.specs.declared.tree.TreeValue.TheVariants as tree
+use Rattle.refusal_codes.specs.declared.refusal.Refusal.{Refusal}
+use Rattle.refusal_codes.specs.declared.job.TheConstants.{HEADER, INDEX}
+use Rattle.refusal_codes.specs.First.{refusal_of}
+use Rattle.refusal_codes.specs.declared.rule.Rule.{Rule}
 use Rattle.refusal_codes.specs.declared.rule.Rule.TheVariants.{WrongShape, MissingKey, OutOfRange, DuplicateUnicode}
-use Rattle.glyphs_source.specs.Decimals.{are_digits, digits_value, billionths_of, fraction_of, unsigned_of, decimal_of}
-use Rattle.glyphs_source.specs.Values.{decimal_at, whole_number_failures, text_failures, name_failures, empty_list_failures, empty_dictionary_failures, natural_in}
-use Rattle.glyphs_source.specs.HeaderReading.{version_failures, axis_value_failures, dictionary_failures, axis_values_failures, dictionaries_failures, master_parts_failures, master_failures, masters_failures, name_and_numbers_failures, design_forms_failures, feature_forms_failures, top_failures, header_failures, axis_count_failures, header_whole_failures, units_per_em, master_record, master_numbers, place_under, header_record, header_of}
-use Rattle.glyphs_source.specs.IndexReading.{codes_failures, glyph_parts_failures, glyph_failures, glyphs_failures, index_failures, code_at, codes_at, glyph_codes, glyph_name, glyph_text, is_exported, entry_of, glyph_numbers, index_of}
+use Rattle.font_ir.specs.declared.header.Header.{Header}
+use Rattle.glyphs_source.specs.declared.entries.IndexEntry.{IndexEntry}
+use Rattle.glyphs_source.specs.HeaderReading.{header_of}
+use Rattle.glyphs_source.specs.IndexReading.{index_of}
+use Rattle.glyphs_source.specs.OnLiterals.{header_on_literals, index_on_literals}
 
 -- a bare word at a place
 abbrev pub word : ℕ → List ℕ → TreeNode
@@ -121,45 +126,67 @@ same_code = source 40 named ((0, 1) ∷ (2, 3) ∷ []) (
     pairs 236 270 ((41, 42) ∷ (43, 46) ∷ []) ∷ []
     ) (6 ∷ []) 36 (codes "1000")
 
--- the header: the defaults of version and metrics
-pub header_of-triangle : header_of triangle ≡ Ok (record {
+-- a refusal of the header's job, and one of the index's, which have no name
+abbrev header_refusal : Rule → ℕ → Refusal
+header_refusal rule place = refusal_of HEADER [] (record { rule = rule; place = place })
+
+abbrev index_refusal : Rule → ℕ → Refusal
+index_refusal rule place = refusal_of INDEX [] (record { rule = rule; place = place })
+
+-- the header of the triangle: the defaults of version and metrics
+abbrev triangle_header : Header
+triangle_header = record {
   upem = 1000;
   family = codes "Tri";
   major = 1;
   minor = 0;
   axes = [];
-  masters = record { id = codes "m1"; design = []; user = []; location = []; ascender = pos 800; descender = negsuc 199; cap = pos 0; xheight = pos 0; place = 55 } ∷ [];
+  masters =
+      record {
+        id = codes "m1";
+        design = [];
+        user = [];
+        location = [];
+        ascender = pos 800;
+        descender = negsuc 199;
+        cap = pos 0;
+        xheight = pos 0;
+        place = 55;
+      }
+      ∷ [];
   masters_place = 53;
   origin = 0;
   instances = [];
   kerning = [];
   kern_place = 0;
   features = [];
-})
-unfolding are_digits digits_value billionths_of fraction_of unsigned_of decimal_of decimal_at whole_number_failures text_failures name_failures empty_list_failures empty_dictionary_failures natural_in version_failures axis_value_failures dictionary_failures axis_values_failures dictionaries_failures master_parts_failures master_failures masters_failures name_and_numbers_failures design_forms_failures feature_forms_failures top_failures header_failures axis_count_failures header_whole_failures units_per_em master_record master_numbers place_under header_record header_of
-header_of-triangle = refl
+}
 
--- an em of 15 units is out of range, at the number
-pub header_of-small_em : header_of small_em ≡ Err (record { stratum = 0; kind = 1; name = []; rule = OutOfRange; place = 251 })
-unfolding are_digits digits_value billionths_of fraction_of unsigned_of decimal_of decimal_at whole_number_failures text_failures name_failures empty_list_failures empty_dictionary_failures natural_in version_failures axis_value_failures dictionary_failures axis_values_failures dictionaries_failures master_parts_failures master_failures masters_failures name_and_numbers_failures design_forms_failures feature_forms_failures top_failures header_failures axis_count_failures header_whole_failures units_per_em master_record master_numbers place_under header_record header_of
-header_of-small_em = refl
+-- each source with its header or its refusal: an em of 15 units is out of range, at the number; a family needs a name, so the
+-- dictionary fails; an axis isn't built, so the list is of a wrong shape
+abbrev header_rows : List (Tree × Result Header Refusal)
+header_rows =
+    (triangle, Ok triangle_header)
+    ∷ (small_em, Err (header_refusal OutOfRange 251))
+    ∷ (nameless, Err (header_refusal MissingKey 0))
+    ∷ (axes, Err (header_refusal WrongShape 29))
+    ∷ []
 
--- a family needs a name: the dictionary fails
-pub header_of-nameless : header_of nameless ≡ Err (record { stratum = 0; kind = 1; name = []; rule = MissingKey; place = 0 })
-unfolding are_digits digits_value billionths_of fraction_of unsigned_of decimal_of decimal_at whole_number_failures text_failures name_failures empty_list_failures empty_dictionary_failures natural_in version_failures axis_value_failures dictionary_failures axis_values_failures dictionaries_failures master_parts_failures master_failures masters_failures name_and_numbers_failures design_forms_failures feature_forms_failures top_failures header_failures axis_count_failures header_whole_failures units_per_em master_record master_numbers place_under header_record header_of
-header_of-nameless = refl
+pub headers-computed : map (λ row. header_of row.0) header_rows ≡ map (λ row. row.1) header_rows
+unfolding header_on_literals
+headers-computed = refl
 
--- an axis isn't built: the list is of a wrong shape
-pub header_of-axes : header_of axes ≡ Err (record { stratum = 0; kind = 1; name = []; rule = WrongShape; place = 29 })
-unfolding are_digits digits_value billionths_of fraction_of unsigned_of decimal_of decimal_at whole_number_failures text_failures name_failures empty_list_failures empty_dictionary_failures natural_in version_failures axis_value_failures dictionary_failures axis_values_failures dictionaries_failures master_parts_failures master_failures masters_failures name_and_numbers_failures design_forms_failures feature_forms_failures top_failures header_failures axis_count_failures header_whole_failures units_per_em master_record master_numbers place_under header_record header_of
-header_of-axes = refl
+-- the one exported glyph of the triangle, with one code, whose dictionary is the value 40
+abbrev triangle_entry : IndexEntry
+triangle_entry = record { number = 0; node = 40; exported = true; codes = 65 ∷ []; left = None; right = None }
 
--- the index: one exported glyph with one code, whose dictionary is the value 40
-pub index_of-triangle : index_of triangle ≡ Ok ((codes "A", record { number = 0; node = 40; exported = true; codes = 65 ∷ []; left = None; right = None }) ∷ [])
-unfolding are_digits digits_value billionths_of fraction_of unsigned_of decimal_of decimal_at whole_number_failures text_failures name_failures empty_list_failures empty_dictionary_failures natural_in codes_failures glyph_parts_failures glyph_failures glyphs_failures index_failures code_at codes_at glyph_codes glyph_name glyph_text is_exported entry_of glyph_numbers index_of
-index_of-triangle = refl
+-- each source with its index or its refusal: where a code stands again, the second glyph fails
+abbrev index_rows : List (Tree × Result (List (List ℕ × IndexEntry)) Refusal)
+index_rows =
+    (triangle, Ok ((codes "A", triangle_entry) ∷ []))
+    ∷ (same_code, Err (index_refusal DuplicateUnicode 236))
+    ∷ []
 
--- a code that stands again: the second glyph fails
-pub index_of-same_code : index_of same_code ≡ Err (record { stratum = 0; kind = 2; name = []; rule = DuplicateUnicode; place = 236 })
-unfolding are_digits digits_value billionths_of fraction_of unsigned_of decimal_of decimal_at whole_number_failures text_failures name_failures empty_list_failures empty_dictionary_failures natural_in codes_failures glyph_parts_failures glyph_failures glyphs_failures index_failures code_at codes_at glyph_codes glyph_name glyph_text is_exported entry_of glyph_numbers index_of
-index_of-same_code = refl
+pub indexes-computed : map (λ row. index_of row.0) index_rows ≡ map (λ row. row.1) index_rows
+unfolding index_on_literals
+indexes-computed = refl

@@ -1,23 +1,26 @@
 -- A header that is read has one master, at no axis, and its numbers are in their ranges.
-use Rattle.std.proofs.Common.{◌≡◌, ℕ, ◌+◌, ◌<◌, ◌≤◌, ◌*◌, ◌/◌, ◌^◌, pos, ◌-ℤ◌, ◌==◌, ◌&&◌, ◌||◌, not, cond, nat_le, Bool, true, false, List, [], ◌∷◌, ◌++◌, length, map, Option, Some, None, Ok, refl, sym, ap, ◌∙◌, subst, lit<, lit≤, arith}
-use Rattle.std.specs.Prelude.{codes, option_and_then, unwrap_or, if◌then◌else◌}
+use Rattle.std.proofs.Common.{◌≡◌, ℕ, ◌+◌, ◌<◌, ◌≤◌, ◌*◌, ◌/◌, ◌^◌, pos, ◌-ℤ◌, ◌==◌, ◌&&◌, ◌||◌, not, cond, nat_le, Bool, true, false, List, [], ◌∷◌, ◌++◌, length, map, Option, Some, None, Result, Ok, Err, refl, sym, ap, ◌∙◌, subst, lit<, lit≤, arith}
+use Rattle.std.specs.Prelude.{codes, IfOk, option_and_then, unwrap_or, if◌then◌else◌}
 use Rattle.std.specs.Option.{option_map_or}
 use Rattle.std.specs.List.{AllByRecursion}
 use Rattle.std.proofs.lemmas.Bool.Decides.{nat_tests}
 use Rattle.std.proofs.lemmas.Int.{ints}
 use Rattle.plist_reader.specs.declared.tree.Tree.{Tree}
-use Rattle.plist_reader.specs.Tree.{find_in}
+use Rattle.plist_reader.specs.Tree.{find_in, text_at}
 use Rattle.font_ir.specs.declared.header.Header.{Header}
 use Rattle.font_ir.specs.declared.header.Master.{Master}
 use Rattle.refusal_codes.specs.declared.first.Failure.{Failure}
+use Rattle.refusal_codes.specs.declared.errors.ReadError.{ReadError}
+use Rattle.refusal_codes.specs.Gives.{Gives}
 use Rattle.refusal_codes.specs.declared.rule.Rule.TheVariants.{MissingKey, OutOfRange}
 use Rattle.refusal_codes.specs.First.{first_of, foremost, refusal_of}
 use Rattle.refusal_codes.specs.declared.job.TheConstants.{HEADER}
 use Rattle.refusal_codes.proofs.FirstLaws.{first_of_none}
 use Rattle.refusal_codes.proofs.JudgedLaws.{judged_ok}
-use Rattle.glyphs_source.specs.declared.decimals.Decimal.{Decimal}
-use Rattle.glyphs_source.specs.Decimals.{is_whole}
-use Rattle.glyphs_source.specs.Values.{fails, text_at, items_at, is_dictionary, decimal_at, name_failures_by, name_failures, under_by, natural_by, natural_in}
+use Rattle.source_values.specs.declared.decimals.Decimal.{Decimal}
+use Rattle.source_values.specs.Decimals.{is_whole}
+use Rattle.source_values.specs.Values.{items_at, is_dictionary, decimal_at, natural_by, natural_in}
+use Rattle.source_values.specs.Asking.{fails, name_failures_by, name_failures, under_by}
 use Rattle.glyphs_source.specs.HeaderReading.{IsMetric, HasMetricsInRange, HasNumbersInRange, IsReadHeader, units_per_em, masters_failures_by, masters_failures, name_and_numbers_failures, design_forms_failures, feature_forms_failures, top_failures, header_failures, whole_rules_by, header_whole_failures, master_record, first_master, master_numbers, header_record, header_of}
 
 -- of two lists that are empty together the second is
@@ -30,41 +33,35 @@ dictionary_there true xs x e = e
 dictionary_there false xs x e = absurd cc
 
 -- a list of masters that fails no rule has a first one
-listed : (t : Tree) (n : ℕ) (o : Option (List ℕ)) → masters_failures_by t n o ≡ [] → foremost (whole_rules_by t n o) ≡ None → (m : ℕ) × (first_master t (unwrap_or o []) ≡ master_record t m ∷ [])
+listed : (t : Tree) (n : ℕ) (o : Option (List ℕ)) → masters_failures_by t n o ≡ []
+    → foremost (whole_rules_by t n o) ≡ None
+    → (m : ℕ) × (first_master t (unwrap_or o []) ≡ master_record t m ∷ [])
 listed t n None e w = absurd cc
 listed t n (Some []) e w = absurd cc
 listed t n (Some (m ∷ ms)) e w = (m, refl)
 
-there : (t : Tree) (o : Option ℕ) → under_by (masters_failures t) (fails MissingKey t t.top) o ≡ [] → foremost (option_map_or (λ n. whole_rules_by t n (items_at t n)) o []) ≡ None → (m : ℕ) × (first_master t (unwrap_or (option_and_then (items_at t) o) []) ≡ master_record t m ∷ [])
+there : (t : Tree) (o : Option ℕ)
+    → under_by (masters_failures t) (fails MissingKey t t.top) o ≡ []
+    → foremost (option_map_or (λ n. whole_rules_by t n (items_at t n)) o []) ≡ None
+    → (m : ℕ)
+    × (first_master t (unwrap_or (option_and_then (items_at t) o) []) ≡ master_record t m ∷ [])
 unfolding masters_failures
 there t None e w = absurd cc
 there t (Some n) e w = listed t n (items_at t n) e w
 
-local_none : (t : Tree) → first_of (header_failures t) ≡ None → under_by (masters_failures t) (fails MissingKey t t.top) (find_in t t.top (codes "fontMaster")) ≡ []
-unfolding header_failures top_failures
+local_none : (t : Tree) → first_of (header_failures t) ≡ None
+    → under_by (masters_failures t) (fails MissingKey t t.top) (find_in t t.top (codes "fontMaster")) ≡ []
+unfolding top_failures
 local_none t e =
-    last_empty (name_and_numbers_failures t ++ design_forms_failures t ++ feature_forms_failures t) _
+    last_empty
+    (name_and_numbers_failures t t.top ++ design_forms_failures t t.top ++ feature_forms_failures t t.top) _
     (dictionary_there (is_dictionary t t.top) _ _ (first_of_none _ e))
 
-one_master : (t : Tree) → first_of (header_failures t) ≡ None → foremost (header_whole_failures t) ≡ None → (m : ℕ) × ((header_record t).masters ≡ master_record t m ∷ [])
+one_master : (t : Tree) → first_of (header_failures t) ≡ None
+    → foremost (header_whole_failures t) ≡ None
+    → (m : ℕ) × ((header_record t).masters ≡ master_record t m ∷ [])
 unfolding header_whole_failures header_record master_numbers
 one_master t e w = there t (find_in t t.top (codes "fontMaster")) (local_none t e) w
-
--- the header's masters
-pub header-masters : (t : Tree) (h : Header) → header_of t ≡ Ok h → (m : ℕ) × (h.masters ≡ master_record t m ∷ [])
-unfolding header_of
-header-masters t h e =
-    let parts = judged_ok (refusal_of HEADER []) (first_of (header_failures t)) (foremost (header_whole_failures t)) (header_record t) h e in
-    let found = one_master t parts.0 parts.1 in
-    (found.0, ap (λ (x : Header). x.masters) (sym parts.2) ∙ found.1)
-
-pub few_masters : (t : Tree) (h : Header) → header_of t ≡ Ok h → length h.masters < 2 ^ 32
-few_masters t h e = let found = header-masters t h e in subst (λ (ms : List Master). length ms < 2 ^ 32) (sym found.1) (lit< tt)
-
--- its place has no coordinates
-pub master_record-location : (t : Tree) (m : ℕ) → (master_record t m).location ≡ []
-unfolding master_record
-master_record-location t m = refl
 
 located : (t : Tree) (m : ℕ) (ms : List Master) → ms ≡ master_record t m ∷ [] → map (λ (master : Master). master.location) ms ≡ [] ∷ []
 unfolding master_record
@@ -111,16 +108,17 @@ name_within : (t : Tree) (n : ℕ) (o : Option (List ℕ)) → name_failures_by 
 name_within t n None e = absurd cc
 name_within t n (Some text) e = sized t n (length text) (nat_le 1 (length text)) (nat_le (length text) 255) refl refl e
 
-name_under : (t : Tree) (o : Option ℕ) → under_by (name_failures t) (fails MissingKey t t.top) o ≡ [] → IsWithin 1 255 (length (unwrap_or (option_and_then (text_at t) o) []))
+name_under : (t : Tree) (o : Option ℕ) → under_by (name_failures t) (fails MissingKey t t.top) o ≡ [] → IsWithin 1 255 (length (unwrap_or (option_and_then (text_at t.nodes) o) []))
 unfolding name_failures
 name_under t None e = absurd cc
-name_under t (Some n) e = name_within t n (text_at t n) e
+name_under t (Some n) e = name_within t n (text_at t.nodes n) e
 
 family_within : (t : Tree) → first_of (header_failures t) ≡ None → IsWithin 1 255 (length (header_record t).family)
-unfolding header_failures top_failures name_and_numbers_failures header_record
+unfolding top_failures name_and_numbers_failures header_record
 family_within t e =
-    let top = dictionary_there (is_dictionary t t.top) (top_failures t) _ (first_of_none _ e) in
-    let own = first_empty (name_and_numbers_failures t) _ (first_empty (name_and_numbers_failures t ++ design_forms_failures t) _ (first_empty _ _ top)) in
+    let top = dictionary_there (is_dictionary t t.top) (top_failures t t.top) _ (first_of_none _ e) in
+    let forms = name_and_numbers_failures t t.top ++ design_forms_failures t t.top in
+    let own = first_empty (name_and_numbers_failures t t.top) _ (first_empty forms _ (first_empty _ _ top)) in
     name_under t (find_in t t.top (codes "familyName")) (last_empty _ _ (first_empty _ _ (first_empty _ _ own)))
 
 signed : (a u : ℕ) → a ≤ u → u ≤ a + 16383 → a ≤ 16383 → IsMetric (pos a) × IsMetric (pos a -ℤ pos u)
@@ -178,5 +176,16 @@ read_record t e w =
       no_kerning = refl;
     }
 
-pub read_header : (t : Tree) (h : Header) → h ≡ header_record t → first_of (header_failures t) ≡ None → foremost (header_whole_failures t) ≡ None → IsReadHeader h
-read_header t h is local whole = subst IsReadHeader (sym is) (read_record t local whole)
+pub read_header : (t : Tree) (h : Header) → header_of t ≡ Ok h → IsReadHeader h
+unfolding header_of
+read_header t h e =
+    let parts =
+        judged_ok (refusal_of HEADER []) (first_of (header_failures t)) (foremost (header_whole_failures t))
+        (header_record t) h e in
+    subst IsReadHeader parts.2 (read_record t parts.0 parts.1)
+
+-- the same of what a call answers
+pub given_header : (t : Tree) (r : Result Header ReadError) → Gives (λ header. header) r (header_of t)
+    → IfOk r IsReadHeader
+given_header t (Ok header) g = read_header t header g
+given_header t (Err error) g = tt

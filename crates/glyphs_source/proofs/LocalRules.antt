@@ -4,16 +4,17 @@ use Rattle.std.specs.Prelude.{flat_map, codes}
 use Rattle.std.specs.List.{AllByRecursion}
 use Rattle.std.proofs.lemmas.List.Concat.{flat_map-cons}
 use Rattle.plist_reader.specs.declared.tree.Tree.{Tree}
-use Rattle.plist_reader.specs.Tree.{find_in}
+use Rattle.plist_reader.specs.Tree.{find_in, text_at}
 use Rattle.refusal_codes.specs.declared.first.Failure.{Failure}
 use Rattle.refusal_codes.specs.declared.rule.Rule.TheVariants.{WrongShape, MissingKey, OutOfRange, DuplicateGlyph, DuplicateUnicode}
 use Rattle.refusal_codes.specs.First.{first_of, noted, is_before}
-use Rattle.glyphs_source.specs.declared.decimals.Decimal.{Decimal}
-use Rattle.glyphs_source.specs.declared.values.Range.{Range}
-use Rattle.glyphs_source.specs.declared.values.Range.TheVariants.{Any, Natural, Code, Coordinate}
-use Rattle.glyphs_source.specs.Decimals.{is_whole}
-use Rattle.glyphs_source.specs.Values.{fails, is_dictionary, items_at, text_at, decimal_at, in_range, range_rule, whole_number_failures_by, whole_number_failures, text_failures, name_failures_by, name_failures, each_by, under_by, required, optional}
-use Rattle.glyphs_source.specs.IndexReading.{codes_failures_by, codes_failures, glyph_parts_failures, glyph_failures, glyphs_failures, index_failures}
+use Rattle.source_values.specs.declared.decimals.Decimal.{Decimal}
+use Rattle.source_values.specs.declared.kinds.Range.{Range}
+use Rattle.source_values.specs.declared.kinds.Range.TheVariants.{Any, Natural, Code, Coordinate}
+use Rattle.source_values.specs.Decimals.{is_whole}
+use Rattle.source_values.specs.Values.{is_list, is_dictionary, items_at, decimal_at, in_range}
+use Rattle.source_values.specs.Asking.{fails, range_rule, whole_failures_by, whole_failures, text_failures, name_failures_by, name_failures, each_by, each, dictionary, under_by, required, optional}
+use Rattle.glyphs_source.specs.IndexReading.{codes_failures, glyph_parts_failures, glyph_list_failures, index_failures}
 
 -- what holds of each failure of a list holds of the least
 both : (P : Failure → Type 0) (b : Bool) (x y : Failure) → P x → P y → P (cond b x y)
@@ -47,75 +48,88 @@ either_of : (b : Bool) (xs ys : List Failure) → AreLocal xs → AreLocal ys �
 either_of true xs ys h k = h
 either_of false xs ys h k = k
 
-module _ (t : Tree) where
-  shape : (n : ℕ) → AreLocal (fails WrongShape t n)
-  shape n = ((λ e. absurd cc, λ e. absurd cc), tt)
+-- what a value fails is of another rule, whatever the value
+abbrev IsLocalRule : (Tree → ℕ → List Failure) → Type 0
+IsLocalRule failures = (t : Tree) (n : ℕ) → AreLocal (failures t n)
 
-  outside : (range : Range) (n : ℕ) → AreLocal (fails (range_rule range) t n)
-  outside Any n = ((λ e. absurd cc, λ e. absurd cc), tt)
-  outside (Natural low high) n = ((λ e. absurd cc, λ e. absurd cc), tt)
-  outside Code n = ((λ e. absurd cc, λ e. absurd cc), tt)
-  outside Coordinate n = ((λ e. absurd cc, λ e. absurd cc), tt)
+shape : IsLocalRule (fails WrongShape)
+shape t n = ((λ e. absurd cc, λ e. absurd cc), tt)
 
-  under : (failures : ℕ → List Failure) (missing : List Failure) (o : Option ℕ) → ((n : ℕ) → AreLocal (failures n)) → AreLocal missing → AreLocal (under_by failures missing o)
-  under failures missing None h k = k
-  under failures missing (Some n) h k = h n
+outside : (range : Range) → IsLocalRule (fails (range_rule range))
+outside Any t n = ((λ e. absurd cc, λ e. absurd cc), tt)
+outside (Natural low high) t n = ((λ e. absurd cc, λ e. absurd cc), tt)
+outside Code t n = ((λ e. absurd cc, λ e. absurd cc), tt)
+outside Coordinate t n = ((λ e. absurd cc, λ e. absurd cc), tt)
 
-  needed : (pairs : ℕ) (key : List ℕ) (failures : ℕ → List Failure) → ((n : ℕ) → AreLocal (failures n)) → AreLocal (required t pairs key failures)
-  needed pairs key failures h = under failures (fails MissingKey t pairs) (find_in t pairs key) h ((λ e. absurd cc, λ e. absurd cc), tt)
+whole_by : (range : Range) (t : Tree) (n : ℕ) (o : Option Decimal) → AreLocal (whole_failures_by range t n o)
+whole_by range t n None = shape t n
+whole_by range t n (Some d) =
+    either_of (is_whole d) _ _
+    (either_of (in_range range d) [] (fails (range_rule range) t n) tt (outside range t n))
+    ((λ e. absurd cc, λ e. absurd cc), tt)
 
-  allowed : (pairs : ℕ) (key : List ℕ) (failures : ℕ → List Failure) → ((n : ℕ) → AreLocal (failures n)) → AreLocal (optional t pairs key failures)
-  allowed pairs key failures h = under failures [] (find_in t pairs key) h tt
+whole : (range : Range) → IsLocalRule (whole_failures range)
+unfolding whole_failures
+whole range t n = whole_by range t n (decimal_at t n)
 
-  whole_by : (range : Range) (n : ℕ) (o : Option Decimal) → AreLocal (whole_number_failures_by range t n o)
-  whole_by range n None = shape n
-  whole_by range n (Some d) =
-      either_of (is_whole d) _ _ (either_of (in_range range d) [] (fails (range_rule range) t n) tt (outside range n)) ((λ e. absurd cc, λ e. absurd cc), tt)
+text : IsLocalRule text_failures
+unfolding text_failures
+text t n = either_of _ [] (fails WrongShape t n) tt (shape t n)
 
-  whole : (range : Range) (n : ℕ) → AreLocal (whole_number_failures range t n)
-  unfolding whole_number_failures
-  whole range n = whole_by range n (decimal_at t n)
+name_by : (t : Tree) (n : ℕ) (o : Option (List ℕ)) → AreLocal (name_failures_by t n o)
+name_by t n None = shape t n
+name_by t n (Some text) = either_of _ [] (fails OutOfRange t n) tt ((λ e. absurd cc, λ e. absurd cc), tt)
 
-  text : (n : ℕ) → AreLocal (text_failures t n)
-  unfolding text_failures
-  text n = either_of _ [] (fails WrongShape t n) tt (shape n)
+name : IsLocalRule name_failures
+unfolding name_failures
+name t n = name_by t n (text_at t.nodes n)
 
-  name_by : (n : ℕ) (o : Option (List ℕ)) → AreLocal (name_failures_by t n o)
-  name_by n None = shape n
-  name_by n (Some text) = either_of _ [] (fails OutOfRange t n) tt ((λ e. absurd cc, λ e. absurd cc), tt)
+-- ---- values in others
 
-  name : (n : ℕ) → AreLocal (name_failures t n)
-  unfolding name_failures
-  name n = name_by n (text_at t n)
+module _ (failures : Tree → ℕ → List Failure) (h : IsLocalRule failures) where
+  under : (t : Tree) (missing : List Failure) (o : Option ℕ) → AreLocal missing → AreLocal (under_by (failures t) missing o)
+  under t missing None k = k
+  under t missing (Some n) k = h t n
 
-  each : (failures : ℕ → List Failure) (n : ℕ) (o : Option (List ℕ)) → ((m : ℕ) → AreLocal (failures m)) → AreLocal (each_by failures t n o)
-  each failures n None h = shape n
-  each failures n (Some items) h = of_each failures h items
+  needed : (key : List ℕ) → IsLocalRule (required key failures)
+  needed key t n = under t (fails MissingKey t n) (find_in t n key) ((λ e. absurd cc, λ e. absurd cc), tt)
 
-  codes_by : (n : ℕ) (o : Option (List ℕ)) → AreLocal (codes_failures_by t n o)
-  codes_by n None = whole Code n
-  codes_by n (Some items) = of_each (whole_number_failures Code t) (whole Code) items
+  allowed : (key : List ℕ) → IsLocalRule (optional key failures)
+  allowed key t n = under t [] (find_in t n key) tt
 
-  code : (n : ℕ) → AreLocal (codes_failures t n)
-  unfolding codes_failures
-  code n = codes_by n (items_at t n)
+  listed_by : (t : Tree) (n : ℕ) (o : Option (List ℕ)) → AreLocal (each_by (failures t) t n o)
+  listed_by t n None = shape t n
+  listed_by t n (Some items) = of_each (failures t) (h t) items
 
-  parts : (g : ℕ) → AreLocal (glyph_parts_failures t g)
-  unfolding glyph_parts_failures
-  parts g =
-      joined _ _ (joined _ _ (joined _ _ (joined _ _ (needed g (codes "glyphname") _ name) (allowed g (codes "unicode") _ code)) (allowed g (codes "export") _ (whole Any))) (allowed g (codes "kernLeft") _ text)) (allowed g (codes "kernRight") _ text)
+  listed : IsLocalRule (each failures)
+  listed t n = listed_by t n (items_at t n)
 
-  glyph : (g : ℕ) → AreLocal (glyph_failures t g)
-  unfolding glyph_failures
-  glyph g = either_of (is_dictionary t g) _ _ (parts g) (shape g)
+  inside : IsLocalRule (dictionary failures)
+  inside t n = either_of (is_dictionary t n) _ _ (h t n) (shape t n)
 
-  glyphs : (n : ℕ) → AreLocal (glyphs_failures t n)
-  unfolding glyphs_failures
-  glyphs n = each (glyph_failures t) n (items_at t n) glyph
+-- ---- the index
 
-  all : AreLocal (index_failures t)
-  unfolding index_failures
-  all = either_of (is_dictionary t t.top) _ _ (allowed t.top (codes "glyphs") _ glyphs) (shape t.top)
+code : IsLocalRule codes_failures
+unfolding codes_failures
+code t n = either_of (is_list t n) _ _ (listed (whole_failures Code) (whole Code) t n) (whole Code t n)
 
-  pub first_local : (f : Failure) → first_of (index_failures t) ≡ Some f → IsLocal f
-  first_local f e = first_in IsLocal (index_failures t) f all e
+parts : IsLocalRule glyph_parts_failures
+unfolding glyph_parts_failures
+parts t g =
+    joined _ _
+    (joined _ _
+    (joined _ _
+    (joined _ _ (needed name_failures name (codes "glyphname") t g) (allowed codes_failures code (codes "unicode") t g))
+    (allowed (whole_failures Any) (whole Any) (codes "export") t g))
+    (allowed text_failures text (codes "kernLeft") t g))
+    (allowed text_failures text (codes "kernRight") t g)
+
+glyph : IsLocalRule (dictionary glyph_parts_failures)
+glyph = inside glyph_parts_failures parts
+
+glyphs : IsLocalRule glyph_list_failures
+unfolding glyph_list_failures
+glyphs = allowed (each (dictionary glyph_parts_failures)) (listed (dictionary glyph_parts_failures) glyph) (codes "glyphs")
+
+pub first_local : (t : Tree) (f : Failure) → first_of (index_failures t) ≡ Some f → IsLocal f
+first_local t f e = first_in IsLocal (index_failures t) f (inside glyph_list_failures glyphs t t.top) e

@@ -10,6 +10,7 @@ use Rattle.std.proofs.lemmas.List.{append-nil, append_assoc, map-append}
 use Rattle.std.proofs.lemmas.List.Concat.{flat_map-cons}
 use Rattle.std.proofs.lemmas.Grind.{flat_map-append}
 use Rattle.plist_reader.specs.declared.tree.Tree.{Tree}
+use Rattle.plist_reader.specs.Keys.{is_among}
 use Rattle.refusal_codes.specs.declared.refusal.Refusal.{Refusal}
 use Rattle.refusal_codes.specs.declared.errors.ReadError.{ReadError}
 use Rattle.refusal_codes.specs.declared.errors.ReadError.TheVariants as read_errors
@@ -19,8 +20,8 @@ use Rattle.refusal_codes.specs.First.{first_of, foremost, or_next, refusal_of, j
 use Rattle.refusal_codes.specs.declared.job.TheConstants.{INDEX}
 use Rattle.refusal_codes.specs.Gives.{Gives}
 use Rattle.glyphs_source.specs.declared.entries.IndexEntry.{IndexEntry}
-use Rattle.glyphs_source.specs.Values.{place_at}
-use Rattle.glyphs_source.specs.IndexReading.{glyph_name, glyph_numbers, entries_from, is_among, repeated_names, repeats, counting, repeated_codes, index_failures, index_of}
+use Rattle.source_values.specs.Values.{place_at}
+use Rattle.glyphs_source.specs.IndexReading.{glyph_name, glyph_numbers, entries_from, repeated_names, repeats, counting, repeated_codes, index_failures, index_of}
 use Rattle.glyphs_source.specs.Repeats.{IsWithoutRepeats, IsFirstRepeatedName, IsFirstRepeatedCode, TellsRepeat, TellsRepeatOf}
 use Rattle.glyphs_source.proofs.LocalRules.{first_local}
 
@@ -132,7 +133,7 @@ module _ (t : Tree) where
   names_first before [] f h n = absurd cc
   names_first before (g ∷ gs) f h n =
       let x : Failure = record { rule = DuplicateGlyph; place = place_at t g } in
-      at_first (is_among (map (glyph_name t) before) (glyph_name t g)) x f (repeated_names t (map (glyph_name t) before ++ glyph_name t g ∷ []) gs) n
+      at_first (is_among (glyph_name t g) (map (glyph_name t) before)) x f (repeated_names t (map (glyph_name t) before ++ glyph_name t g ∷ []) gs) n
       (λ b q. (sym (ap (λ y. y.rule) q), record { before = before; glyph = g; behind = gs; in_order = refl; distinct = h; again = b; there = sym (ap (λ y. y.place) q) }))
       (λ b q. subst (λ all. (f.rule ≡ DuplicateGlyph) × IsFirstRepeatedName t all f.place) (append_assoc before (g ∷ []) gs)
       (names_first (before ++ g ∷ []) gs f (subst distinct_names (sym (names_last before g)) (distinct_last (pointwise nat_eq) nat_list_eq_equiv (map (glyph_name t) before) (glyph_name t g) h b))
@@ -142,7 +143,7 @@ module _ (t : Tree) where
   names_none before [] h n = subst (λ all. distinct_names (map (glyph_name t) all)) (sym (append-nil before)) h
   names_none before (g ∷ gs) h n =
       let x : Failure = record { rule = DuplicateGlyph; place = place_at t g } in
-      let parts = at_none (is_among (map (glyph_name t) before) (glyph_name t g)) x (repeated_names t (map (glyph_name t) before ++ glyph_name t g ∷ []) gs) n in
+      let parts = at_none (is_among (glyph_name t g) (map (glyph_name t) before)) x (repeated_names t (map (glyph_name t) before ++ glyph_name t g ∷ []) gs) n in
       subst (λ all. distinct_names (map (glyph_name t) all)) (append_assoc before (g ∷ []) gs)
       (names_none (before ++ g ∷ []) gs (subst distinct_names (sym (names_last before g)) (distinct_last (pointwise nat_eq) nat_list_eq_equiv (map (glyph_name t) before) (glyph_name t g) h parts.0))
       (ap (λ names. foremost (repeated_names t names gs)) (names_last before g) ∙ parts.1))

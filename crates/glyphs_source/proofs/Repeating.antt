@@ -6,11 +6,13 @@ use Rattle.std.specs.Cmp.Lexicographic.{pointwise}
 use Rattle.std.proofs.lemmas.List.{at_drop_more, map-append}
 use Rattle.indexmap.specs.IndexSet.{insert_key}
 use Rattle.plist_reader.specs.declared.tree.Tree.{Tree}
+use Rattle.plist_reader.specs.Keys.{is_among}
 use Rattle.refusal_codes.specs.declared.rule.Rule.TheVariants.{DuplicateGlyph}
 use Rattle.refusal_codes.specs.First.{foremost}
 use Rattle.glyphs_source.specs.declared.entries.IndexEntry.{IndexEntry}
-use Rattle.glyphs_source.specs.Values.{place_at, fails}
-use Rattle.glyphs_source.specs.IndexReading.{glyph_name, is_among, repeats, repeated_names, entry_of, entries_from}
+use Rattle.source_values.specs.Values.{place_at}
+use Rattle.source_values.specs.Asking.{fails}
+use Rattle.glyphs_source.specs.IndexReading.{glyph_name, repeats, repeated_names, entry_of, entries_from}
 
 -- ---- codes
 
@@ -29,14 +31,14 @@ insert_key-new seen c e = ap (λ (b : Bool). cond b seen (seen ++ c ∷ [])) e
 -- ---- names
 
 module _ (t : Tree) where
-  names_next : (names : List (List ℕ)) (gs : List ℕ) (i : ℕ) → i < length gs → repeated_names t names (drop i gs) ≡ (cond (is_among names (glyph_name t (get_or gs i 0))) (fails DuplicateGlyph t (get_or gs i 0)) [] ++ repeated_names t (names ++ glyph_name t (get_or gs i 0) ∷ []) (drop (i + 1) gs))
+  names_next : (names : List (List ℕ)) (gs : List ℕ) (i : ℕ) → i < length gs → repeated_names t names (drop i gs) ≡ (cond (is_among (glyph_name t (get_or gs i 0)) names) (fails DuplicateGlyph t (get_or gs i 0)) [] ++ repeated_names t (names ++ glyph_name t (get_or gs i 0) ∷ []) (drop (i + 1) gs))
   names_next names gs i lt = at_drop_more (repeated_names t names) gs i 0 lt
 
-  pub names_found : (names : List (List ℕ)) (gs : List ℕ) (i : ℕ) → i < length gs → is_among names (glyph_name t (get_or gs i 0)) ≡ true → foremost (repeated_names t names (drop i gs)) ≡ Some (record { rule = DuplicateGlyph; place = place_at t (get_or gs i 0) })
+  pub names_found : (names : List (List ℕ)) (gs : List ℕ) (i : ℕ) → i < length gs → is_among (glyph_name t (get_or gs i 0)) names ≡ true → foremost (repeated_names t names (drop i gs)) ≡ Some (record { rule = DuplicateGlyph; place = place_at t (get_or gs i 0) })
   names_found names gs i lt e =
       ap foremost (names_next names gs i lt ∙ ap (λ (b : Bool). cond b (fails DuplicateGlyph t (get_or gs i 0)) [] ++ repeated_names t (names ++ glyph_name t (get_or gs i 0) ∷ []) (drop (i + 1) gs)) e)
 
-  pub names_new : (names : List (List ℕ)) (gs : List ℕ) (i : ℕ) → i < length gs → is_among names (glyph_name t (get_or gs i 0)) ≡ false → repeated_names t names (drop i gs) ≡ repeated_names t (names ++ glyph_name t (get_or gs i 0) ∷ []) (drop (i + 1) gs)
+  pub names_new : (names : List (List ℕ)) (gs : List ℕ) (i : ℕ) → i < length gs → is_among (glyph_name t (get_or gs i 0)) names ≡ false → repeated_names t names (drop i gs) ≡ repeated_names t (names ++ glyph_name t (get_or gs i 0) ∷ []) (drop (i + 1) gs)
   names_new names gs i lt e =
       names_next names gs i lt ∙ ap (λ (b : Bool). cond b (fails DuplicateGlyph t (get_or gs i 0)) [] ++ repeated_names t (names ++ glyph_name t (get_or gs i 0) ∷ []) (drop (i + 1) gs)) e
 
@@ -44,9 +46,9 @@ module _ (t : Tree) where
   entries_next k gs i lt = at_drop_more (entries_from t k) gs i 0 lt
 
 -- a map has a name exactly where the name is among its keys
-pub among_keys : (name : List ℕ) (es : List (List ℕ × IndexEntry)) → is_some (lookup (pointwise nat_eq name) es) ≡ is_among (keys_of es) name
+pub among_keys : (name : List ℕ) (es : List (List ℕ × IndexEntry)) → is_some (lookup (pointwise nat_eq name) es) ≡ is_among name (keys_of es)
 among_keys name [] = refl
-among_keys name (e ∷ es) = chosen (pointwise nat_eq name e.0) (lookup (pointwise nat_eq name) es) (is_among (keys_of es) name) (among_keys name es)
+among_keys name (e ∷ es) = chosen (pointwise nat_eq name e.0) (lookup (pointwise nat_eq name) es) (is_among name (keys_of es)) (among_keys name es)
   where
     chosen : (b : Bool) (r : Option IndexEntry) (s : Bool) → is_some r ≡ s → is_some (cond b (Some e.1) r) ≡ (b || s)
     chosen true r s h = refl

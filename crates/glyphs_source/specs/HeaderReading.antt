@@ -12,10 +12,11 @@ use Rattle.refusal_codes.specs.declared.rule.Rule.TheVariants.{WrongShape, Wrong
 use Rattle.refusal_codes.specs.declared.first.Failure.{Failure}
 use Rattle.refusal_codes.specs.First.{first_of, foremost, refusal_of, judged}
 use Rattle.refusal_codes.specs.declared.job.TheConstants.{HEADER}
-use Rattle.glyphs_source.specs.declared.decimals.Decimal.{Decimal}
-use Rattle.glyphs_source.specs.declared.values.Range.TheVariants.{Natural}
-use Rattle.glyphs_source.specs.Decimals.{is_whole}
-use Rattle.glyphs_source.specs.Values.{place_at, items_at, is_dictionary, decimal_at, fails, whole_number_failures, text_failures, name_failures, each_by, empty_list_failures, empty_dictionary_failures, required, optional, natural_or, items_under, text_or_empty}
+use Rattle.source_values.specs.declared.decimals.Decimal.{Decimal}
+use Rattle.source_values.specs.declared.kinds.Range.TheVariants.{Natural}
+use Rattle.source_values.specs.Decimals.{is_whole}
+use Rattle.source_values.specs.Values.{place_at, items_at, decimal_at, natural_or, items_under, text_or_empty}
+use Rattle.source_values.specs.Asking.{fails, whole_failures, text_failures, name_failures, dictionary_failures, empty_list_failures, empty_dictionary_failures, each, dictionary, required, optional}
 
 -- ---- rules of single values
 
@@ -41,70 +42,62 @@ axis_value_failures_by t n (Some d) = if is_axis_value d then [] else fails OutO
 unfoldable pub axis_value_failures : Tree → ℕ → List Failure
 axis_value_failures t n = axis_value_failures_by t n (decimal_at t n)
 
-unfoldable pub dictionary_failures : Tree → ℕ → List Failure
-dictionary_failures t n = if is_dictionary t n then [] else fails WrongShape t n
-
-unfoldable pub axis_values_failures : Tree → ℕ → List Failure
-axis_values_failures t n = each_by (axis_value_failures t) t n (items_at t n)
-
-unfoldable pub dictionaries_failures : Tree → ℕ → List Failure
-dictionaries_failures t n = each_by (dictionary_failures t) t n (items_at t n)
-
 -- ---- masters
 
 unfoldable pub master_parts_failures : Tree → ℕ → List Failure
 master_parts_failures t m =
-    required t m (codes "id") (text_failures t)
-    ++ optional t m (codes "axesValues") (axis_values_failures t)
-    ++ optional t m (codes "metricValues") (dictionaries_failures t)
-    ++ optional t m (codes "customParameters") (empty_list_failures t)
+    required (codes "id") text_failures t m
+    ++ optional (codes "axesValues") (each axis_value_failures) t m
+    ++ optional (codes "metricValues") (each dictionary_failures) t m
+    ++ optional (codes "customParameters") empty_list_failures t m
 
-unfoldable pub master_failures : Tree → ℕ → List Failure
-master_failures t m = if is_dictionary t m then master_parts_failures t m else fails WrongShape t m
+abbrev pub master_failures : Tree → ℕ → List Failure
+master_failures = dictionary master_parts_failures
 
 -- a second master isn't built
 abbrev pub masters_failures_by : Tree → ℕ → Option (List ℕ) → List Failure
 masters_failures_by t n None = fails WrongShape t n
 masters_failures_by t n (Some masters) =
-    option_map_or (master_failures t) (slice_get masters 0) [] ++ option_map_or (fails WrongShape t) (slice_get masters 1) []
+    option_map_or (master_failures t) (slice_get masters 0) []
+    ++ option_map_or (fails WrongShape t) (slice_get masters 1) []
 
 unfoldable pub masters_failures : Tree → ℕ → List Failure
 masters_failures t n = masters_failures_by t n (items_at t n)
 
 -- ---- the top dictionary
 
-unfoldable pub name_and_numbers_failures : Tree → List Failure
-name_and_numbers_failures t =
-    required t t.top (codes ".formatVersion") (version_failures t)
-    ++ required t t.top (codes "unitsPerEm") (whole_number_failures (Natural 16 16384) t)
-    ++ required t t.top (codes "familyName") (name_failures t)
-    ++ optional t t.top (codes "versionMajor") (whole_number_failures (Natural 0 32767) t)
-    ++ optional t t.top (codes "versionMinor") (whole_number_failures (Natural 0 999) t)
+unfoldable pub name_and_numbers_failures : Tree → ℕ → List Failure
+name_and_numbers_failures t top =
+    required (codes ".formatVersion") version_failures t top
+    ++ required (codes "unitsPerEm") (whole_failures (Natural 16 16384)) t top
+    ++ required (codes "familyName") name_failures t top
+    ++ optional (codes "versionMajor") (whole_failures (Natural 0 32767)) t top
+    ++ optional (codes "versionMinor") (whole_failures (Natural 0 999)) t top
 
-unfoldable pub design_forms_failures : Tree → List Failure
-design_forms_failures t =
-    optional t t.top (codes "axes") (empty_list_failures t)
-    ++ optional t t.top (codes "metrics") (empty_list_failures t)
-    ++ optional t t.top (codes "instances") (empty_list_failures t)
-    ++ optional t t.top (codes "customParameters") (empty_list_failures t)
+unfoldable pub design_forms_failures : Tree → ℕ → List Failure
+design_forms_failures t top =
+    optional (codes "axes") empty_list_failures t top
+    ++ optional (codes "metrics") empty_list_failures t top
+    ++ optional (codes "instances") empty_list_failures t top
+    ++ optional (codes "customParameters") empty_list_failures t top
 
-unfoldable pub feature_forms_failures : Tree → List Failure
-feature_forms_failures t =
-    optional t t.top (codes "classes") (empty_list_failures t)
-    ++ optional t t.top (codes "featurePrefixes") (empty_list_failures t)
-    ++ optional t t.top (codes "features") (empty_list_failures t)
-    ++ optional t t.top (codes "kerningLTR") (empty_dictionary_failures t)
+unfoldable pub feature_forms_failures : Tree → ℕ → List Failure
+feature_forms_failures t top =
+    optional (codes "classes") empty_list_failures t top
+    ++ optional (codes "featurePrefixes") empty_list_failures t top
+    ++ optional (codes "features") empty_list_failures t top
+    ++ optional (codes "kerningLTR") empty_dictionary_failures t top
 
-unfoldable pub top_failures : Tree → List Failure
-top_failures t =
-    name_and_numbers_failures t
-    ++ design_forms_failures t
-    ++ feature_forms_failures t
-    ++ required t t.top (codes "fontMaster") (masters_failures t)
+unfoldable pub top_failures : Tree → ℕ → List Failure
+top_failures t top =
+    name_and_numbers_failures t top
+    ++ design_forms_failures t top
+    ++ feature_forms_failures t top
+    ++ required (codes "fontMaster") masters_failures t top
 
 -- the local rules that the header fails
-unfoldable pub header_failures : Tree → List Failure
-header_failures t = if is_dictionary t t.top then top_failures t else fails WrongShape t t.top
+abbrev pub header_failures : Tree → List Failure
+header_failures t = dictionary top_failures t t.top
 
 -- ---- whole rules: there is a master, and it has one coordinate per axis, which is none
 

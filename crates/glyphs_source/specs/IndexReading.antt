@@ -1,50 +1,46 @@
 -- The glyphs that a source names, in the order of the file, and the rules that they may fail (Glyphs file format,
 -- version 3; the rules are fontc's own). Their layers are not read here.
-use Rattle.std.specs.Prelude.{ℕ, ◌+◌, Bool, false, not, ◌&&◌, ◌||◌, ◌==◌, nat_eq, List, [], ◌∷◌, ◌++◌, map, flat_map, Option, Some, None, Result, codes, option_and_then, if◌then◌else◌}
+use Rattle.std.specs.Prelude.{ℕ, ◌+◌, Bool, false, not, ◌&&◌, ◌||◌, ◌==◌, nat_eq, List, [], ◌∷◌, ◌++◌, map, Option, Some, None, Result, codes, if◌then◌else◌}
 use Rattle.std.specs.Option.{option_map_or}
 use Rattle.std.specs.List.{list_any}
 use Rattle.std.specs.Cmp.Lexicographic.{pointwise}
 use Rattle.plist_reader.specs.declared.tree.Tree.{Tree}
 use Rattle.plist_reader.specs.Tree.{find_in}
+use Rattle.plist_reader.specs.Keys.{is_among}
 use Rattle.refusal_codes.specs.declared.refusal.Refusal.{Refusal}
 use Rattle.refusal_codes.specs.declared.rule.Rule.TheVariants.{WrongShape, DuplicateGlyph, DuplicateUnicode}
 use Rattle.refusal_codes.specs.declared.first.Failure.{Failure}
 use Rattle.refusal_codes.specs.First.{first_of, foremost, or_next, refusal_of, judged}
 use Rattle.refusal_codes.specs.declared.job.TheConstants.{INDEX}
-use Rattle.glyphs_source.specs.declared.decimals.Decimal.{Decimal}
+use Rattle.source_values.specs.declared.decimals.Decimal.{Decimal}
+use Rattle.source_values.specs.declared.kinds.Range.TheVariants.{Any, Code}
+use Rattle.source_values.specs.Decimals.{is_whole}
+use Rattle.source_values.specs.Values.{items_at, is_list, decimal_at, in_range, items_under, text_under, text_or_empty, decimal_under}
+use Rattle.source_values.specs.Asking.{fails, whole_failures, text_failures, name_failures, each, dictionary, required, optional}
 use Rattle.glyphs_source.specs.declared.entries.IndexEntry.{IndexEntry}
-use Rattle.glyphs_source.specs.declared.values.Range.TheVariants.{Any, Code}
-use Rattle.glyphs_source.specs.Decimals.{is_whole}
-use Rattle.glyphs_source.specs.Values.{items_at, text_at, is_dictionary, decimal_at, fails, in_range, whole_number_failures, text_failures, name_failures, each_by, required, optional, items_under, text_or_empty}
 
 -- ---- local rules
 
 -- codes: a whole number, or a list of them
-abbrev pub codes_failures_by : Tree → ℕ → Option (List ℕ) → List Failure
-codes_failures_by t n None = whole_number_failures Code t n
-codes_failures_by t n (Some items) = flat_map (whole_number_failures Code t) items
-
 unfoldable pub codes_failures : Tree → ℕ → List Failure
-codes_failures t n = codes_failures_by t n (items_at t n)
+codes_failures t n =
+    if is_list t n then each (whole_failures Code) t n else whole_failures Code t n
 
 unfoldable pub glyph_parts_failures : Tree → ℕ → List Failure
 glyph_parts_failures t g =
-    required t g (codes "glyphname") (name_failures t)
-    ++ optional t g (codes "unicode") (codes_failures t)
-    ++ optional t g (codes "export") (whole_number_failures Any t)
-    ++ optional t g (codes "kernLeft") (text_failures t)
-    ++ optional t g (codes "kernRight") (text_failures t)
+    required (codes "glyphname") name_failures t g
+    ++ optional (codes "unicode") codes_failures t g
+    ++ optional (codes "export") (whole_failures Any) t g
+    ++ optional (codes "kernLeft") text_failures t g
+    ++ optional (codes "kernRight") text_failures t g
 
-unfoldable pub glyph_failures : Tree → ℕ → List Failure
-glyph_failures t g = if is_dictionary t g then glyph_parts_failures t g else fails WrongShape t g
-
-unfoldable pub glyphs_failures : Tree → ℕ → List Failure
-glyphs_failures t n = each_by (glyph_failures t) t n (items_at t n)
+-- what the top dictionary says of glyphs: a list of dictionaries
+unfoldable pub glyph_list_failures : Tree → ℕ → List Failure
+glyph_list_failures = optional (codes "glyphs") (each (dictionary glyph_parts_failures))
 
 -- the local rules that the index fails
-unfoldable pub index_failures : Tree → List Failure
-index_failures t =
-    if is_dictionary t t.top then optional t t.top (codes "glyphs") (glyphs_failures t) else fails WrongShape t t.top
+abbrev pub index_failures : Tree → List Failure
+index_failures t = dictionary glyph_list_failures t t.top
 
 -- ---- the entries
 
@@ -69,10 +65,6 @@ glyph_codes t g = option_map_or (codes_at t) (find_in t g (codes "unicode")) []
 unfoldable pub glyph_name : Tree → ℕ → List ℕ
 glyph_name t g = text_or_empty t g (codes "glyphname")
 
--- the text under a key, where there is one
-unfoldable pub glyph_text : Tree → ℕ → List ℕ → Option (List ℕ)
-glyph_text t g key = option_and_then (text_at t) (find_in t g key)
-
 abbrev pub is_zero : Option Decimal → Bool
 is_zero None = false
 is_zero (Some d) = d.whole == 0
@@ -80,7 +72,8 @@ is_zero (Some d) = d.whole == 0
 -- a glyph is exported unless its `export` is 0; `.notdef` always is
 unfoldable pub is_exported : Tree → ℕ → Bool
 is_exported t g =
-    pointwise nat_eq (glyph_name t g) (codes ".notdef") || not (is_zero (option_and_then (decimal_at t) (find_in t g (codes "export"))))
+    pointwise nat_eq (glyph_name t g) (codes ".notdef")
+    || not (is_zero (decimal_under t g (codes "export")))
 
 unfoldable pub entry_of : Tree → ℕ → ℕ → IndexEntry
 entry_of t number g = record {
@@ -88,8 +81,8 @@ entry_of t number g = record {
   node = g;
   exported = is_exported t g;
   codes = glyph_codes t g;
-  left = glyph_text t g (codes "kernLeft");
-  right = glyph_text t g (codes "kernRight");
+  left = text_under t g (codes "kernLeft");
+  right = text_under t g (codes "kernRight");
 }
 
 -- the entries of the glyphs, numbered from this number on
@@ -103,15 +96,12 @@ glyph_numbers t = items_under t t.top (codes "glyphs")
 
 -- ---- whole rules, in the order of the file
 
--- whether a name is among others
-abbrev pub is_among : List (List ℕ) → List ℕ → Bool
-is_among names name = list_any (pointwise nat_eq name) names
-
 -- each glyph whose name an earlier glyph has, where these are the names before
 abbrev pub repeated_names : Tree → List (List ℕ) → List ℕ → List Failure
 repeated_names t names [] = []
 repeated_names t names (g ∷ gs) =
-    (if is_among names (glyph_name t g) then fails DuplicateGlyph t g else []) ++ repeated_names t (names ++ glyph_name t g ∷ []) gs
+    (if is_among (glyph_name t g) names then fails DuplicateGlyph t g else [])
+    ++ repeated_names t (names ++ glyph_name t g ∷ []) gs
 
 -- whether one of the codes stands before, where these are the codes that do
 abbrev pub repeats : List ℕ → List ℕ → Bool
@@ -126,10 +116,13 @@ counting e = if e.exported then e.codes else []
 abbrev pub repeated_codes : Tree → List ℕ → List IndexEntry → List Failure
 repeated_codes t before [] = []
 repeated_codes t before (e ∷ es) =
-    (if repeats before (counting e) then fails DuplicateUnicode t e.node else []) ++ repeated_codes t (before ++ counting e) es
+    (if repeats before (counting e) then fails DuplicateUnicode t e.node else [])
+    ++ repeated_codes t (before ++ counting e) es
 
 -- what the job of the index answers
 unfoldable pub index_of : Tree → Result (List (List ℕ × IndexEntry)) Refusal
 index_of t =
     let entries = entries_from t 0 (glyph_numbers t) in
-    judged (refusal_of INDEX []) (first_of (index_failures t)) (or_next (foremost (repeated_names t [] (glyph_numbers t))) (foremost (repeated_codes t [] (map (λ entry. entry.1) entries)))) entries
+    let names_again = foremost (repeated_names t [] (glyph_numbers t)) in
+    let codes_again = foremost (repeated_codes t [] (map (λ entry. entry.1) entries)) in
+    judged (refusal_of INDEX []) (first_of (index_failures t)) (or_next names_again codes_again) entries

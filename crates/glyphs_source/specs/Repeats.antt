@@ -5,13 +5,14 @@ use Rattle.std.specs.List.{IsDistinct}
 use Rattle.std.specs.Map.{keys_of}
 use Rattle.std.specs.Cmp.Lexicographic.{pointwise}
 use Rattle.plist_reader.specs.declared.tree.Tree.{Tree}
+use Rattle.plist_reader.specs.Keys.{is_among}
 use Rattle.refusal_codes.specs.declared.refusal.Refusal.{Refusal}
 use Rattle.refusal_codes.specs.declared.errors.ReadError.{ReadError}
 use Rattle.refusal_codes.specs.declared.errors.ReadError.TheVariants as read_errors
 use Rattle.refusal_codes.specs.declared.rule.Rule.TheVariants.{DuplicateGlyph, DuplicateUnicode}
 use Rattle.glyphs_source.specs.declared.entries.IndexEntry.{IndexEntry}
-use Rattle.glyphs_source.specs.Values.{place_at}
-use Rattle.glyphs_source.specs.IndexReading.{glyph_name, glyph_numbers, entries_from, is_among, counting}
+use Rattle.source_values.specs.Values.{place_at}
+use Rattle.glyphs_source.specs.IndexReading.{glyph_name, glyph_numbers, entries_from, counting}
 
 -- the names are distinct, and so are the codes that count, joined in the order of the file
 pub record IsWithoutRepeats (index : List (List ℕ × IndexEntry)) : Type 0 where
@@ -25,7 +26,7 @@ pub record IsFirstRepeatedName (t : Tree) (glyphs : List ℕ) (place : ℕ) : Ty
   pub behind : List ℕ
   pub in_order : glyphs ≡ before ++ glyph ∷ behind
   pub distinct : IsDistinct (pointwise nat_eq) (map (glyph_name t) before)
-  pub again : is_among (map (glyph_name t) before) (glyph_name t glyph) ≡ true
+  pub again : is_among (glyph_name t glyph) (map (glyph_name t) before) ≡ true
   pub there : place ≡ place_at t glyph
 
 -- at this place stands the first of these glyphs with a code that stands again: the codes that count before it are distinct,

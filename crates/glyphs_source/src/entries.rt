@@ -1,13 +1,11 @@
-ghost use Rattle.std.specs.Prelude.{◌≡◌, option_and_then, map, IfOk};
-ghost use Rattle.plist_reader.specs.Tree.{find_in};
-ghost use Rattle.glyphs_source.specs.Values.{decimal_at};
-ghost use Rattle.glyphs_source.specs.IndexReading.{code_at, codes_at, glyph_codes, glyph_name, glyph_text, is_zero, is_exported, entry_of};
+ghost use Rattle.std.specs.Prelude.{◌≡◌, map, IfOk};
+ghost use Rattle.source_values.specs.Values.{text_under, decimal_under};
+ghost use Rattle.glyphs_source.specs.IndexReading.{code_at, codes_at, glyph_codes, glyph_name, is_zero, is_exported, entry_of};
 
-use crate::keys::{copied, text_under};
-use crate::values::{Range, decimal_at, items_at};
 use font_ir::Name;
 use plain_lists::Sequence;
 use plist_reader::Tree;
+use source_values::{Range, copied, decimal_at, decimal_under, items_at, text_under};
 use std::alloc::{AllocError, Global};
 
 /// What a source's list of glyphs says of one of them.
@@ -70,20 +68,16 @@ fn is_exported(tree: &Tree, glyph: u32, name: &Name) -> bool
 
 /// Whether the number under a key is 0.
 fn is_zero_under(tree: &Tree, pairs: u32, key: &[u8]) -> bool
-    ensures { result ≡ is_zero (option_and_then (decimal_at tree.now) (find_in tree.now pairs key.now)) }
+    ensures { result ≡ is_zero (decimal_under tree.now pairs key.now) }
 {
-    match tree.find(pairs, key) {
-        Some(number) => match decimal_at(tree, number) {
-            Some(decimal) => decimal.whole == 0,
-            None => false,
-        },
+    match decimal_under(tree, pairs, key) {
+        Some(decimal) => decimal.whole == 0,
         None => false,
     }
 }
 
-#[tactic(auto, unfolding(crate::specs::IndexReading::glyph_text))]
 fn read_text(alloc: Global, tree: &Tree, glyph: u32, key: &[u8]) -> Result<Option<Name>, AllocError>
-    ensures { IfOk result (λ text. text ≡ glyph_text tree.now glyph key.now) }
+    ensures { IfOk result (λ text. text ≡ text_under tree.now glyph key.now) }
 {
     match text_under(tree, glyph, key) {
         Some(text) => Ok(Some(copied(alloc, Some(text))?)),

@@ -1,15 +1,16 @@
-ghost use Rattle.std.specs.Prelude.{◌≡◌, ◌≤◌, [], IfOk};
+ghost use Rattle.std.specs.Prelude.{◌≡◌, ◌≤◌, [], Ok, IfOk};
+ghost use Rattle.plist_reader.specs.declared.tree.Tree.{Tree as SeenTree};
 ghost use Rattle.plist_reader.specs.Tree.{IsTree};
+ghost use Rattle.font_ir.specs.declared.header.Header.{Header as SeenHeader};
 ghost use Rattle.refusal_codes.specs.Gives.{Gives};
 ghost use Rattle.glyphs_source.specs.HeaderReading.{units_per_em, master_record, first_master, master_numbers, place_under, header_record, header_of, IsReadHeader};
 
 use crate::header_rules::{note_header, whole_failure};
-use crate::keys::{copied, items_under, natural_or, text_under};
-use crate::values::place_at;
 use font_ir::{Header, Master};
 use plain_lists::{Sequence, Text};
 use plist_reader::Tree;
 use refusal_codes::{FirstFailure, ReadError, job};
+use source_values::{copied, items_under, natural_or, place_at, text_under};
 use std::alloc::{AllocError, Global};
 
 /// What a source says of the whole font.
@@ -17,11 +18,25 @@ use std::alloc::{AllocError, Global};
 /// One master is read, without axes. The error is the least failure by place, then by rule, of the rules of single values;
 /// where none of them fails, it is that there is no master, at the place of their list, or that the master has coordinates,
 /// at the place of the master. Where memory runs out, the error is that.
-#[tactic(auto, unfolding(crate::specs::HeaderReading::header_of))]
 pub fn header(alloc: Global, tree: &Tree) -> Result<Header, ReadError>
     requires { IsTree tree.now }
     ensures record { Gives (λ header. header) result (header_of tree.now) }
     ensures read { IfOk result IsReadHeader }
+{
+    read_header(alloc, tree)
+}
+
+/// What `header` reads of a tree has one master and no axes, and its numbers are in their ranges. A law: the function does
+/// nothing.
+pub fn headers_have_one_master()
+    ensures { (tree : SeenTree) (header : SeenHeader) → header_of tree ≡ Ok header → IsReadHeader header }
+{
+}
+
+/// What `header` answers.
+#[tactic(auto, unfolding(crate::specs::HeaderReading::header_of))]
+fn read_header(alloc: Global, tree: &Tree) -> Result<Header, ReadError>
+    ensures { Gives (λ header. header) result (header_of tree.now) }
 {
     let mut first = FirstFailure::new();
     note_header(tree, &mut first);

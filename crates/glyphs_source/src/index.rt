@@ -2,6 +2,7 @@ ghost use Rattle.std.specs.Prelude.{◌≡◌, ◌<◌, ◌^◌, ◌++◌, [], l
 ghost use Rattle.std.specs.Cmp.Lexicographic.{pointwise};
 ghost use Rattle.std.specs.Cmp.{partial_equiv_from_equiv};
 ghost use Rattle.plist_reader.specs.Tree.{IsTree};
+ghost use Rattle.plist_reader.specs.Keys.{is_among};
 ghost use Rattle.std.specs.Map.{keys_of};
 ghost use Rattle.indexmap.specs.IndexMap.{values};
 ghost use Rattle.refusal_codes.specs.First.{foremost, judged, refusal_of};
@@ -9,17 +10,16 @@ ghost use Rattle.refusal_codes.specs.declared.job.TheConstants.{INDEX};
 ghost use Rattle.refusal_codes.specs.Gives.{Gives};
 ghost use Rattle.glyphs_source.specs.Repeats.{IsWithoutRepeats, TellsRepeatOf};
 ghost use Rattle.glyphs_source.specs.Same.{same_index, same_index_equiv};
-ghost use Rattle.glyphs_source.specs.IndexReading.{entries_from, glyph_numbers, glyph_name, entry_of, is_among, repeated_names, repeats, counting, repeated_codes, index_of};
+ghost use Rattle.glyphs_source.specs.IndexReading.{entries_from, glyph_numbers, glyph_name, entry_of, repeated_names, repeats, counting, repeated_codes, index_of};
 
 use crate::entries::{IndexEntry, read_entry, read_name};
 use crate::index_rules::note_index;
-use crate::keys::items_under;
-use crate::values::place_at;
 use font_ir::Name;
 use indexmap::{IndexMap, IndexSet};
 use plain_lists::Text;
 use plist_reader::Tree;
 use refusal_codes::{Failure, FirstFailure, ReadError, Rule, job};
+use source_values::{items_under, place_at};
 use std::alloc::{AllocError, Global};
 use std::marker::Model;
 
@@ -162,7 +162,7 @@ fn add_glyph(
     glyph: u32,
     entries: &mut IndexMap<Name, IndexEntry>,
 ) -> Result<bool, AllocError>
-    ensures again { IfOk result (λ again. again ≡ is_among (keys_of entries.old.entries) (glyph_name tree.now glyph)) }
+    ensures again { IfOk result (λ again. again ≡ is_among (glyph_name tree.now glyph) (keys_of entries.old.entries)) }
     ensures added { IfOk result (λ again. again ≡ false →
         entries.new.entries ≡ entries.old.entries ++ (glyph_name tree.now glyph, entry_of tree.now number glyph) ∷ []) }
 {

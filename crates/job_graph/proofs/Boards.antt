@@ -24,43 +24,17 @@ use Rattle.job_graph.specs.Scan.{next_of, IsNext}
 use Rattle.job_graph.specs.Promises.{IsHistory}
 use Rattle.job_graph.specs.BoardView.{BoardView, IsBoard, halted_after, halted_of}
 use Rattle.job_graph.specs.Answers.{HandsOut, some_claimable}
-use Rattle.job_graph.specs.Members.{In, In-from_Contains, Contains-from_In}
-use Rattle.job_graph.proofs.Members.{find-some, find-In, list_any-In, list_any-found}
-use Rattle.job_graph.proofs.Growth.{none≢some, Within, reads_agree, all_settled_within, outcome_within, ready_reads, ready_unsettled, settle}
-use Rattle.job_graph.proofs.Confluence.{nil_append}
-use Rattle.job_graph.proofs.Limit.{limit_orderly, below_limit}
+use Rattle.job_graph.specs.Members.{In, In-from_Contains, Contains-from_In, find-some, find-In, list_any-In, list_any-found}
+use Rattle.job_graph.specs.Growth.{none≢some, Within, reads_agree, all_settled_within, outcome_within, ready_reads, ready_unsettled, settle}
+use Rattle.job_graph.specs.Confluence.{nil_append}
+use Rattle.job_graph.specs.Limit.{limit_orderly, below_limit}
 use Rattle.job_graph.proofs.Run.{get_set_same, get_set_other, is_run-push, run_induction, state_of-push, out_of-push, claim_allowed, IsOut, Grows, grows, finish_is}
-use Rattle.job_graph.proofs.Owned.{list_any-push}
+use Rattle.job_graph.proofs.Owned.{or_false, list_any-push}
+use Rattle.job_graph.proofs.Halts.{length-out_of, halts-set, halted_of-push, halted_flag}
 use Rattle.job_graph.proofs.Kept.{claimed_runs, within_limit, history_of, complete_of_end}
-
-length_fold-out : {Id : Type 0} (outs : List (Option Id)) (events : List (Event Id)) → length (fold out_after outs events) ≡ length outs
-length_fold-out outs [] = refl
-length_fold-out outs (event.Claim w id ∷ events) = length_fold-out (slice_set outs w (Some id)) events ∙ length-set outs w (Some id)
-length_fold-out outs (event.Finish w id ∷ events) = length_fold-out (slice_set outs w None) events ∙ length-set outs w None
-length_fold-out outs (event.Halt w ∷ events) = length_fold-out (slice_set outs w None) events ∙ length-set outs w None
-
-pub length-out_of : {Id : Type 0} (workers : ℕ) (events : List (Event Id)) → length (out_of workers events) ≡ workers
-length-out_of {Id} workers events = length_fold-out (replicate workers None) events ∙ length-replicate {A = Option Id} workers None
 
 find-none : {X : Type 0} (p : X → Bool) (xs : List X) → find p xs ≡ None → list_any p xs ≡ false
 find-none p xs e = false_from_ne_true _ (λ t. let f = list_any-found p xs t in let g = find-In p xs f.0 f.1 f.2 in none≢some g.0 (find p xs) e g.1)
-
-slice_get-replicate : {X : Type 0} (n i : ℕ) (x : X) → i < n → slice_get (replicate n x) i ≡ Some x
-slice_get-replicate zero i x lt = absurd (omega arith)
-slice_get-replicate (suc n) zero x lt = refl
-slice_get-replicate (suc n) (suc i) x lt = slice_get-replicate n i x (omega arith)
-
-or_false : (b : Bool) → (b || false) ≡ b
-or_false true = refl
-or_false false = refl
-
--- a halt leaves one place less for halts
-pub halts-set : (halted : List Bool) (w : ℕ) → slice_get halted w ≡ Some false → count_by not (slice_set halted w true) + 1 ≡ count_by not halted
-halts-set halted w e =
-    let s = sum_by-set (λ b. cond (not b) 1 0) halted w true false (slice_get_within halted w false e) in
-    let g : get_or halted w false ≡ false = get_or_from_slice_get halted w false false e in
-    let t : count_by not (slice_set halted w true) + 1 ≡ count_by not halted + 0 = subst (λ b. count_by not (slice_set halted w true) + cond (not b) 1 0 ≡ count_by not halted + 0) g s in
-    omega arith
 
 same_flag : (x y : Bool) → Some x ≡ Some y → x ≡ y
 same_flag x y e = cc
@@ -72,25 +46,6 @@ runs_is : (halted ready none : Bool) → halted ≡ false → ready ≡ true →
 runs_is halted ready none h r = ap (λ b. cond b Halted (cond ready Running (cond none Ended Running))) h ∙ ap (λ b. cond b Running (cond none Ended Running)) r
 
 module _ {Id V : Type 0} (same : Id → Id → Bool) (plan : Meaning Id V) (workers : ℕ) where
-  halted_of-push : (events : List (Event Id)) (e : Event Id) → halted_of workers (events ++ e ∷ []) ≡ halted_after (halted_of workers events) e
-  halted_of-push events e = fold-append halted_after (replicate workers false) events (e ∷ [])
-
-  flag_after : (w : ℕ) (halted : List Bool) (events : List (Event Id)) (e : Event Id) → slice_get halted w ≡ Some (list_any (is_halt_of w) events) → slice_get (halted_after halted e) w ≡ Some (list_any (is_halt_of w) events || is_halt_of w e)
-  flag_after w halted events (event.Claim v id) h = h ∙ ap Some (sym (or_false _))
-  flag_after w halted events (event.Finish v id) h = h ∙ ap Some (sym (or_false _))
-  flag_after w halted events (event.Halt v) h =
-      elim (cases_Bool (nat_eq v w)) [
-        | inl at ↦ subst (λ k. slice_get (slice_set halted v true) k ≡ Some true) (eqb-true v w at) (get_set_same halted v true (list_any (is_halt_of w) events) (ap (slice_get halted) (eqb-true v w at) ∙ h)) ∙ ap Some (sym (or_right _ _ at))
-        | inr away ↦ get_set_other halted v w true (λ e. false≢true (sym away ∙ eq-eqb v w e)) ∙ h ∙ ap Some (sym (ap (λ b. list_any (is_halt_of w) events || b) away ∙ or_false _))
-      ]
-
-  -- the flag of a worker
-  pub halted_flag : (w : ℕ) → w < workers → (events : List (Event Id)) → is_run same plan workers events ≡ true → slice_get (halted_of workers events) w ≡ Some (list_any (is_halt_of w) events)
-  halted_flag w lt =
-      run_induction same plan workers (λ events. slice_get (halted_of workers events) w ≡ Some (list_any (is_halt_of w) events))
-      (slice_get-replicate workers w false lt)
-      (λ events e r a h. ap (λ hs. slice_get hs w) (halted_of-push events e) ∙ flag_after w (halted_of workers events) events e h ∙ ap Some (sym (list_any-push (is_halt_of w) events e)))
-
   pub board_new : (events : Vec (Event Id) Global) (jobs : List (Spec Id)) (outs : List (Option Id)) (halted : List Bool) → events.items ≡ [] → vec_len events ≡ 0 → workers ≤ vec_capacity events → jobs ≡ plan.opening → outs ≡ replicate workers None → halted ≡ replicate workers false → IsBoard same plan workers events (record { jobs = jobs; values = [] }) outs halted false
   board_new events jobs outs halted none len room js os hs = record {
     legal = ap (is_run same plan workers) none;
@@ -129,7 +84,7 @@ module _ {Id V : Type 0} (same : Id → Id → Bool) (plan : Meaning Id V) (work
           legal = ap (is_run same plan workers) items ∙ is_run-push same plan workers events.items (event.Claim w id) b.legal allowed;
           state_is = b.state_is ∙ sym (ap (state_of same plan) items ∙ state_of-push same plan workers events.items (event.Claim w id));
           outs_are = ap (λ os. slice_set os w (Some id)) b.outs_are ∙ sym (ap (out_of workers) items ∙ out_of-push same plan workers events.items (event.Claim w id));
-          halted_are = b.halted_are ∙ sym (ap (halted_of workers) items ∙ halted_of-push events.items (event.Claim w id));
+          halted_are = b.halted_are ∙ sym (ap (halted_of workers) items ∙ halted_of-push same plan workers events.items (event.Claim w id));
           any_is = b.any_is ∙ sym (ap has_halted items ∙ list_any-push is_halt events.items (event.Claim w id) ∙ or_false _);
           room = room;
         }
@@ -151,13 +106,13 @@ module _ {Id V : Type 0} (same : Id → Id → Bool) (plan : Meaning Id V) (work
           legal = ap (is_run same plan workers) items ∙ is_run-push same plan workers events.items (event.Finish w id) b.legal allowed;
           state_is = settled ∙ sym (ap (state_of same plan) items ∙ state_of-push same plan workers events.items (event.Finish w id) ∙ finish_is same plan workers lawful now g.grown_state id it);
           outs_are = ap (λ os. slice_set os w None) b.outs_are ∙ sym (ap (out_of workers) items ∙ out_of-push same plan workers events.items (event.Finish w id));
-          halted_are = b.halted_are ∙ sym (ap (halted_of workers) items ∙ halted_of-push events.items (event.Finish w id));
+          halted_are = b.halted_are ∙ sym (ap (halted_of workers) items ∙ halted_of-push same plan workers events.items (event.Finish w id));
           any_is = b.any_is ∙ sym (ap has_halted items ∙ list_any-push is_halt events.items (event.Finish w id) ∙ or_false _);
           room = room;
         }
 
     pub flag_is : (w : ℕ) → w < workers → slice_get halted w ≡ Some (list_any (is_halt_of w) events.items)
-    flag_is w lt = ap (λ hs. slice_get hs w) b.halted_are ∙ halted_flag w lt events.items b.legal
+    flag_is w lt = ap (λ hs. slice_get hs w) b.halted_are ∙ halted_flag same plan workers w lt events.items b.legal
 
     pub length_outs : length outs ≡ workers
     length_outs = ap length b.outs_are ∙ length-out_of workers events.items
@@ -193,7 +148,7 @@ module _ {Id V : Type 0} (same : Id → Id → Bool) (plan : Meaning Id V) (work
           legal = ap (is_run same plan workers) items ∙ is_run-push same plan workers events.items (event.Halt w) b.legal (and_from _ _ (lt-ltb w workers lt) (not_from_false _ flag));
           state_is = b.state_is ∙ sym (ap (state_of same plan) items ∙ state_of-push same plan workers events.items (event.Halt w));
           outs_are = ap (λ os. slice_set os w None) b.outs_are ∙ sym (ap (out_of workers) items ∙ out_of-push same plan workers events.items (event.Halt w));
-          halted_are = ap (λ hs. slice_set hs w true) b.halted_are ∙ sym (ap (halted_of workers) items ∙ halted_of-push events.items (event.Halt w));
+          halted_are = ap (λ hs. slice_set hs w true) b.halted_are ∙ sym (ap (halted_of workers) items ∙ halted_of-push same plan workers events.items (event.Halt w));
           any_is = sym (ap has_halted items ∙ list_any-push is_halt events.items (event.Halt w) ∙ or_right _ _ refl);
           room = (let s = halts-set halted w e in let r = b.room in omega arith);
         }

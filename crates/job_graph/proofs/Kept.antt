@@ -13,13 +13,13 @@ use Rattle.job_graph.specs.Rounds.{State, value_in, is_settled, has_id, is_ready
 use Rattle.job_graph.specs.Laws.{IsLawful}
 use Rattle.job_graph.specs.Histories.{has_halted, out_of, running, was_claimed, state_of, is_allowed, goes_on, is_run, some_ready, end_of}
 use Rattle.job_graph.specs.Promises.{IsReadSettled, IsHistory, IsComplete, AddsNoneBelow, IsFirstOver}
-use Rattle.job_graph.specs.Members.{In, slice_get-In, list_all-In, In-from_Contains, Contains-from_In}
-use Rattle.job_graph.proofs.Members.{list_any-In, list_any-found}
-use Rattle.job_graph.proofs.Growth.{none_of, some_of, Within, settled_within, ready_reads, ready_awaits}
-use Rattle.job_graph.proofs.Confluence.{central, settled_up_to}
-use Rattle.job_graph.proofs.Limit.{filter-from, below_limit, limit_below, limit_orderly, limit_over, limit_first}
+use Rattle.job_graph.specs.Members.{In, slice_get-In, list_all-In, In-from_Contains, Contains-from_In, list_any-In, list_any-found}
+use Rattle.job_graph.specs.Growth.{none_of, some_of, Within, settled_within, ready_reads, ready_awaits}
+use Rattle.job_graph.specs.Confluence.{central, settled_up_to}
+use Rattle.job_graph.specs.Limit.{filter-from, below_limit, limit_below, limit_orderly, limit_over, limit_first}
 use Rattle.job_graph.proofs.Run.{is_run-parts, may_claim, grows}
 use Rattle.job_graph.proofs.Owned.{Owned, owned}
+use Rattle.job_graph.proofs.Short.{short_of}
 
 In-length : {X : Type 0} (xs : List X) (x : X) → In x xs → 0 < length xs
 In-length [] x i = absurd i
@@ -88,6 +88,8 @@ module _ {Id V : Type 0} (same : Id → Id → Bool) (plan : Meaning Id V) (work
           legal = r;
           values = w.values;
           jobs = λ job c. Contains-from_In _ job (w.jobs job (In-from_Contains _ job c));
+          claimed_once = λ id. at_most _ _ (o.claims id);
+          short = short_of same plan workers lawful events r;
           written_once = λ id. at_most _ _ (o.finishes id);
           read_settled = read_settled events r;
         }

@@ -1,12 +1,9 @@
-pub mod Members
-pub mod Growth
-pub mod Confluence
-pub mod Limit
 pub mod Run
 pub mod Owned
+pub mod Halts
+pub mod Short
+pub mod Last
 pub mod Kept
 pub mod Due
 pub mod Boards
 pub mod Examples
-pub mod Hands
-pub mod Tables

@@ -12,10 +12,10 @@ use Rattle.job_graph.specs.Meaning.{Meaning}
 use Rattle.job_graph.specs.Rounds.{State, is_settled, outcome_in}
 use Rattle.job_graph.specs.Laws.{IsLawful}
 use Rattle.job_graph.specs.Histories.{is_halt, has_halted, out_after, out_of, is_claim_of, is_finish_of, was_claimed, was_finished, state_after, state_of, is_allowed, is_run}
-use Rattle.job_graph.proofs.Growth.{none≢some, settle}
+use Rattle.job_graph.specs.Growth.{none≢some, settle}
 use Rattle.job_graph.proofs.Run.{get_set_cases, get_set_same, get_set_other, may_claim, has_out_is, run_induction, state_of-push, out_of-push, IsOut, Grows, grows, finish_is, none_out}
 
-or_false : (b : Bool) → (b || false) ≡ b
+pub or_false : (b : Bool) → (b || false) ≡ b
 or_false true = refl
 or_false false = refl
 

@@ -11,11 +11,10 @@ use Rattle.job_graph.specs.Meaning.{Meaning}
 use Rattle.job_graph.specs.Rounds.{State, has_id, start, is_ready, limit}
 use Rattle.job_graph.specs.Laws.{IsLawful}
 use Rattle.job_graph.specs.Histories.{out_after, out_of, is_free, has_halted, was_claimed, has_out, finished, state_after, state_of, is_ready_id, is_allowed, goes_on, is_run}
-use Rattle.job_graph.specs.Members.{In}
-use Rattle.job_graph.proofs.Members.{find-some, find-In, list_any-found}
-use Rattle.job_graph.proofs.Growth.{none≢some, Within, within_itself, within_through, settle, within_settle, outcome_within, ready_reads, Grown, begun, grown}
-use Rattle.job_graph.proofs.Confluence.{nil_append, orderly_within}
-use Rattle.job_graph.proofs.Limit.{below_limit, limit_orderly}
+use Rattle.job_graph.specs.Members.{In, find-some, find-In, list_any-found}
+use Rattle.job_graph.specs.Growth.{none≢some, Within, within_itself, within_through, settle, within_settle, outcome_within, ready_reads, Grown, begun, grown}
+use Rattle.job_graph.specs.Confluence.{nil_append, orderly_within}
+use Rattle.job_graph.specs.Limit.{below_limit, limit_orderly}
 
 -- an element after a write
 pub get_set_cases : {X : Type 0} (xs : List X) (i j : ℕ) (v x : X) → slice_get (slice_set xs i v) j ≡ Some x → ((i ≡ j) × (v ≡ x)) ⊎ (((i ≡ j) → ⊥) × (slice_get xs j ≡ Some x))

@@ -1,19 +1,25 @@
 -- A board, as its callers see it, and what it keeps. fontc's own.
-use Rattle.std.specs.Prelude.{◌≡◌, ℕ, ◌+◌, ◌≤◌, not, true, false, Bool, List, Option, fold, replicate, count_by, slice_set}
+use Rattle.std.specs.Prelude.{◌≡◌, ℕ, ◌+◌, ◌≤◌, ◌≢◌, not, true, false, Bool, List, Option, Some, fold, replicate, count_by, slice_get, slice_set, slice_range, length}
 use Rattle.std.specs.Vec.{vec_len, vec_capacity}
 use Rattle.std.specs.declared.vec.Vec.{Vec}
 use Rattle.std.specs.declared.alloc.Global.{Global}
 use Rattle.job_graph.specs.declared.event.Event.{Event}
 use Rattle.job_graph.specs.declared.event.Event.TheVariants as event
+use Rattle.access_context.specs.Plain.{Plain}
 use Rattle.job_graph.specs.Meaning.{Meaning}
-use Rattle.job_graph.specs.Rounds.{State}
-use Rattle.job_graph.specs.Histories.{has_halted, out_of, state_of, is_run}
+use Rattle.job_graph.specs.Rounds.{State, IsAddedOf}
+use Rattle.job_graph.specs.Histories.{has_halted, out_of, out_at, state_of, is_run}
 
 -- the plan, how many workers there are, and what happened
 pub record BoardView (P Id : Type 0) : Type 0 where
   pub plan : P
   pub workers : ℕ
   pub events : List (Event Id)
+
+-- one worker has this out, and each other worker what it had
+pub record NowHas {P Id : Type 0} (old new : BoardView P Id) (worker : ℕ) (out : Option Id) : Type 0 where
+  pub here : out_at new.workers new.events worker ≡ Some out
+  pub others : (other : ℕ) → other ≢ worker → out_at new.workers new.events other ≡ out_at old.workers old.events other
 
 -- which workers halted
 abbrev pub halted_after : {Id : Type 0} → List Bool → Event Id → List Bool
@@ -32,3 +38,12 @@ pub record IsBoard {Id V : Type 0} (same : Id → Id → Bool) (plan : Meaning I
   pub halted_are : halted ≡ halted_of workers events.items
   pub any_is : any_halted ≡ has_halted events.items
   pub room : vec_len events + count_by not halted ≤ vec_capacity events
+
+-- the jobs that each value added stand in a row, from one place up to another; there is a pair of places for each value
+abbrev pub AreRanges : {Id V : Type 0} → (Id → Id → Bool) → Meaning Id V → State Id V → List (ℕ × ℕ) → Type 0
+AreRanges {Id} {V} same plan state ranges =
+    (length ranges ≡ length state.values)
+    × ((place : ℕ) (value : Id × Plain V) (range : ℕ × ℕ)
+      → slice_get state.values place ≡ Some value
+      → slice_get ranges place ≡ Some range
+      → (range.0 ≤ range.1) × (range.1 ≤ length state.jobs) × IsAddedOf same plan value.0 (slice_range state.jobs range.0 range.1))

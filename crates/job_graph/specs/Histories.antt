@@ -1,5 +1,5 @@
 -- Histories of workers that claim jobs, finish them and halt: which are legal, and what each comes to. fontc's own.
-use Rattle.std.specs.Prelude.{ℕ, nat_eq, nat_lt, Bool, true, false, not, ◌&&◌, List, [], ◌∷◌, ◌++◌, fold, find, count_by, replicate, Option, Some, None, is_some, slice_get, slice_set, if◌then◌else◌}
+use Rattle.std.specs.Prelude.{ℕ, nat_eq, nat_lt, Bool, true, false, not, ◌&&◌, List, [], ◌∷◌, ◌++◌, fold, filter, find, count_by, replicate, Option, Some, None, is_some, slice_get, slice_set, if◌then◌else◌}
 use Rattle.std.specs.List.{list_any}
 use Rattle.access_context.specs.declared.access.Spec.{Spec}
 use Rattle.job_graph.specs.Meaning.{Meaning}
@@ -30,6 +30,20 @@ out_after outs (event.Halt w) = slice_set outs w None
 
 abbrev pub out_of : {Id : Type 0} → ℕ → List (Event Id) → List (Option Id)
 out_of workers events = fold out_after (replicate workers None) events
+
+-- what one worker has out: a job or none, where there is such a worker
+abbrev pub out_at : {Id : Type 0} → ℕ → List (Event Id) → ℕ → Option (Option Id)
+out_at workers events worker = slice_get (out_of workers events) worker
+
+-- whose event this is
+abbrev pub worker_of : {Id : Type 0} → Event Id → ℕ
+worker_of (event.Claim w id) = w
+worker_of (event.Finish w id) = w
+worker_of (event.Halt w) = w
+
+-- the events of one worker
+abbrev pub events_of : {Id : Type 0} → ℕ → List (Event Id) → List (Event Id)
+events_of worker events = filter (λ e. nat_eq (worker_of e) worker) events
 
 -- how many jobs are running
 abbrev pub running : {Id : Type 0} → ℕ → List (Event Id) → ℕ

@@ -1,6 +1,7 @@
 -- The growth of a graph of jobs in rounds, up to its limit. No worker, no order and no count is in it. fontc's own.
-use Rattle.std.specs.Prelude.{◌≡◌, Contains, ℕ, zero, suc, Bool, true, not, ◌&&◌, ◌||◌, nat_le, List, [], ◌++◌, map, filter, length, Option, Some, None, is_some, unwrap_or, if◌then◌else◌}
+use Rattle.std.specs.Prelude.{◌≡◌, Contains, ℕ, zero, suc, Bool, true, not, ◌&&◌, ◌||◌, nat_le, List, [], ◌++◌, map, filter, length, Option, Some, None, is_some, unwrap_or, option_map, find, if◌then◌else◌}
 use Rattle.std.specs.List.{list_all, list_any, flat_map}
+use Rattle.access_context.specs.declared.access.Access.{Access}
 use Rattle.access_context.specs.declared.access.Spec.{Spec}
 use Rattle.access_context.specs.Plain.{Plain, Blocked, PlainOutcome}
 use Rattle.access_context.specs.declared.settled.Settled.{Settled}
@@ -58,6 +59,10 @@ module _ {Id V : Type 0} (same : Id → Id → Bool) where
     abbrev pub is_ready : State Id V → Spec Id → Bool
     is_ready state job = not (is_settled state job.id) && (list_all (is_settled state) job.access.reads && awaits_nothing state job.access.awaits)
 
+    -- with what a job was added, where there is one with this id
+    abbrev pub access_in : State Id V → Id → Option (Access Id)
+    access_in state id = option_map (λ (job : Spec Id). job.access) (find (has_id same id) state.jobs)
+
     -- what comes of a job by what it reads in a state
     abbrev pub outcome_of : Id → List (Id × Plain V) → PlainOutcome V Id
     outcome_of id reads = if all_done reads then plan.outcome id reads else blocked
@@ -103,3 +108,10 @@ pub record IsOutcomeOf {Id V : Type 0} (same : Id → Id → Bool) (plan : Meani
   pub added : Contains (limit same plan).jobs job
   pub named : job.id ≡ id
   pub is : outcome ≡ outcome_in same plan (limit same plan) job
+
+-- the jobs that a job adds by what it reads in the limit
+pub record IsAddedOf {Id V : Type 0} (same : Id → Id → Bool) (plan : Meaning Id V) (id : Id) (added : List (Spec Id)) : Type 0 where
+  pub job : Spec Id
+  pub there : Contains (limit same plan).jobs job
+  pub named : job.id ≡ id
+  pub is : added ≡ (outcome_in same plan (limit same plan) job).added

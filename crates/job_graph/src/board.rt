@@ -1,8 +1,8 @@
-ghost use Rattle.std.specs.Prelude.{◌≡◌, ◌<◌, [], ◌∷◌, ◌++◌, option_map, IfSome, IfOk, OnOk, IfErr, OnErr, Some, None, slice_get, if◌then◌else◌};
+ghost use Rattle.std.specs.Prelude.{◌≡◌, ◌<◌, [], ◌∷◌, ◌++◌, option_map, IfSome, IfOk, OnOk, IfErr, OnErr, Some, None, ℕ, if◌then◌else◌};
 ghost use Rattle.std.specs.List.{list_any};
 ghost use Rattle.access_context.specs.Plain.{plain, plain_outcome};
 ghost use Rattle.job_graph.specs.Rounds.{value_in, is_unsettled_job, limit, IsOutcomeOf};
-ghost use Rattle.job_graph.specs.Histories.{is_halt_of, out_of, state_of, end_of};
+ghost use Rattle.job_graph.specs.Histories.{is_halt_of, out_at, state_of, end_of};
 ghost use Rattle.job_graph.specs.Promises.{IsHistory, IsComplete};
 
 use crate::claim::{Claim, Ticket, Unfinished};
@@ -47,13 +47,14 @@ impl<P: Plan> Model for Board<P> {
 }
 
 impl<P: Plan> Board<P> {
-    ghost use Rattle.job_graph.specs.BoardView.{BoardView};
+    ghost use Rattle.job_graph.specs.BoardView.{BoardView, NowHas};
     ghost use Rattle.job_graph.specs.Answers.{IsAnswer};
     ghost use Rattle.job_graph.specs.declared.event.Event.TheVariants as event;
 
     /// A board on which nothing happened yet.
     pub fn new(alloc: Global, plan: P, workers: u32) -> Result<Board<P>, NoMemory>
         ensures made { IfOk result (λ b. b ≡ record { plan = plan; workers = workers; events = [] }) }
+        ensures free { IfOk result (λ b. (w : ℕ) → w < b.workers → out_at b.workers b.events w ≡ Some None) }
         ensures history { IfOk result (λ b. IsHistory P.Id.eq (P.meaning b.plan) b.workers b.events) }
     {
         let jobs = plan.opening(alloc)?;
@@ -76,7 +77,7 @@ impl<P: Plan> Board<P> {
     /// Hands a worker a ready job that wasn't handed out, or says why not.
     pub fn claim(&mut self, alloc: Global, worker: u32) -> Claim<P>
         requires known { worker < self.old.workers }
-        requires free { slice_get (out_of self.old.workers self.old.events) worker ≡ Some None }
+        requires free { out_at self.old.workers self.old.events worker ≡ Some None }
         ensures answer { IsAnswer P.Id.eq (P.meaning self.old.plan) self.old worker result self.new }
         ensures history { IsHistory P.Id.eq (P.meaning self.new.plan) self.new.workers self.new.events }
     {
@@ -119,9 +120,10 @@ impl<P: Plan> Board<P> {
         ticket: Ticket<P::Id>,
         outcome: Outcome<P::Value, P::Id>,
     ) -> Result<(), Unfinished<P>>
-        requires out { slice_get (out_of self.old.workers self.old.events) worker ≡ Some (Some ticket) }
+        requires out { out_at self.old.workers self.old.events worker ≡ Some (Some ticket) }
         requires outcome { IsOutcomeOf P.Id.eq (P.meaning self.old.plan) ticket (plain_outcome outcome) }
         ensures ok { OnOk result (self.new ≡ record self.old { events = self.old.events ++ event.Finish worker ticket ∷ [] }) }
+        ensures free { OnOk result (NowHas self.old self.new worker None) }
         ensures err { OnErr result (self.new ≡ self.old) }
         ensures back { IfErr result (λ u. (u.ticket ≡ ticket) × (u.outcome ≡ outcome)) }
         ensures history { IsHistory P.Id.eq (P.meaning self.new.plan) self.new.workers self.new.events }
@@ -151,6 +153,7 @@ impl<P: Plan> Board<P> {
     pub fn halt(&mut self, worker: u32)
         requires { worker < self.old.workers }
         ensures halts { self.new ≡ (if list_any (is_halt_of worker) self.old.events then self.old else record self.old { events = self.old.events ++ event.Halt worker ∷ [] }) }
+        ensures gives_up { NowHas self.old self.new worker None }
         ensures history { IsHistory P.Id.eq (P.meaning self.new.plan) self.new.workers self.new.events }
     {
         let place = worker as usize;

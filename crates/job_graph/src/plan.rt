@@ -1,9 +1,11 @@
 ghost use Rattle.std.specs.Prelude.{◌≡◌, IfOk, IsTrue};
-ghost use Rattle.access_context.specs.Plain.{plain_outcome};
+ghost use Rattle.access_context.specs.Plain.{Plain, plain_outcome};
+ghost use Rattle.access_context.specs.declared.access.Spec.{Spec};
 ghost use Rattle.job_graph.specs.Meaning.{Meaning};
 ghost use Rattle.access_context.specs.Read.{all_done};
 ghost use Rattle.job_graph.specs.Rounds.{IsDue};
 ghost use Rattle.job_graph.specs.Laws.{IsLawful};
+ghost use Rattle.job_graph.specs.Solutions.{IsSolution};
 
 use access_context::{Outcome, Reads, Spec};
 use refusal_codes::NoMemory;
@@ -41,4 +43,19 @@ pub trait Plan: Drop {
 
     /// What a plan keeps.
     ghost lawful: { (plan : Self) → IsLawful Self.Id.eq (meaning plan) };
+}
+
+/// A plan that tells of each id what its job is, whether that job is ever added, and what comes of it.
+pub trait Solved: Plan {
+    /// The job of an id.
+    ghost spec_of: { Self → Self.Id → Spec Self.Id };
+
+    /// The job of this id is added at some time.
+    ghost is_there: { Self → Self.Id → Type 0 };
+
+    /// What comes of a job.
+    ghost value_of: { Self → Self.Id → Plain Self.Value };
+
+    /// This is right, by facts about ids alone.
+    ghost solution: { (plan : Self) → IsSolution Self.Id.eq (Self.meaning plan) (spec_of plan) (is_there plan) (value_of plan) };
 }

@@ -242,7 +242,7 @@ pub fn next_run<P: Plan>(
         None => Ok(None),
         Some(job) => {
             let reads = reads_of(alloc, values, job.access.reads.as_slice())?;
-            Ok(Some((job.id, Reads::of(reads))))
+            Ok(Some((job.id, Reads::indexed(alloc, reads)?)))
         }
     }
 }

@@ -12,7 +12,8 @@ use Rattle.font_ir.specs.declared.header.Header.{Header}
 use Rattle.font_ir.specs.declared.glyph.FlatGlyph.{FlatGlyph}
 use Rattle.metrics_tables.specs.declared.measures.Measures.{Measures}
 use Rattle.metrics_tables.specs.Comparisons.{greatest_count}
-use Rattle.metrics_tables.specs.Measuring.{glyphs_of, measures_of, width_at, IsMeasurable, HasMastersPlaces}
+use Rattle.font_ir.specs.FlatGlyphs.{glyphs_of}
+use Rattle.metrics_tables.specs.Measuring.{measures_of, width_at, IsMeasurable, HasMastersPlaces}
 use Rattle.font_ir.specs.Outlines.{contours_at, points_at, bounds_of}
 
 -- what is said of the glyphs in order, said of the references

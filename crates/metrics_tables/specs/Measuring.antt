@@ -1,9 +1,6 @@
 -- What is measured of the glyphs of a font, in the order of their glyph numbers.
 use Rattle.std.specs.Prelude.{◌≡◌, ℕ, ◌<◌, ℤ, pos, unsigned_abs, List, [], length, map, slice_index_or, Result, Ok, Err}
 use Rattle.std.specs.List.{All}
-use Rattle.std.specs.declared.alloc.Global.{Global}
-use Rattle.std.specs.declared.sync.Arc.{Arc}
-use Rattle.std.specs.Arc.{arc_value}
 use Rattle.font_ir.specs.FlatGlyphs.{IsFlatGlyph}
 use Rattle.font_ir.specs.Outlines.{contours_at, points_at, bounds_of}
 use Rattle.font_ir.specs.declared.header.Header.{Header}
@@ -13,9 +10,6 @@ use Rattle.metrics_tables.specs.declared.measures.Maxima.{Maxima}
 use Rattle.metrics_tables.specs.declared.measures.MeasureError.{MeasureError}
 use Rattle.metrics_tables.specs.declared.measures.MeasureError.TheVariants.{TooLarge, Regions, NoMemory}
 use Rattle.metrics_tables.specs.Comparisons.{greatest_count}
-
-abbrev pub glyphs_of : List (Arc FlatGlyph Global) → List FlatGlyph
-glyphs_of glyphs = map arc_value glyphs
 
 -- One master, no axes, no kept components: the fonts that are measured today. They have no regions and no deltas.
 pub record IsStatic (header : Header) (glyphs : List FlatGlyph) : Type 0 where

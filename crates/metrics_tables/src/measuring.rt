@@ -1,7 +1,8 @@
 ghost use Rattle.std.specs.Prelude.{◌≡◌, ◌<◌, ℕ, [], length, map, unsigned_abs, IfOk};
 ghost use Rattle.std.specs.List.{All};
 ghost use Rattle.metrics_tables.specs.Comparisons.{greatest_count};
-ghost use Rattle.metrics_tables.specs.Measuring.{glyphs_of, measures_of, maxima_of, width_at, IsStatic, IsMeasurable, HasMastersPlaces, Measured};
+ghost use Rattle.font_ir.specs.FlatGlyphs.{glyphs_of};
+ghost use Rattle.metrics_tables.specs.Measuring.{measures_of, maxima_of, width_at, IsStatic, IsMeasurable, HasMastersPlaces, Measured};
 ghost use Rattle.font_ir.specs.Outlines.{contours_at, points_at, bounds_of};
 ghost use Rattle.metrics_tables.specs.Tables.{AreMeasures, HasOriginAndVersion};
 ghost use Rattle.font_ir.specs.FlatGlyphs.{IsFlatGlyph};

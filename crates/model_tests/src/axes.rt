@@ -1,5 +1,5 @@
 ghost use Rattle.std.specs.Prelude.{◌≡◌, length, All, IfOk};
-ghost use Rattle.axis_space.specs.Coordinates.{HasAxis};
+ghost use Rattle.font_ir.specs.Coordinates.{HasAxis};
 
 use axis_space::{MapError, avar_map, normalise, user_of};
 use fixed_math::{F2Dot14, Fixed};

@@ -1,5 +1,6 @@
 pub mod Counts
 pub mod Files
+pub mod Calls
 pub mod Console
 pub mod Memory
 pub mod Slots

@@ -1,4 +1,5 @@
-ghost use Rattle.std.specs.Prelude.{◌≡◌, ◌⊎◌, ℕ, ◌≤◌, ◌<◌, List, [], length, take, IfOk, OnOk, OnErr};
+ghost use Rattle.std.specs.Prelude.{◌≡◌, ◌⊎◌, ℕ, ◌≤◌, ◌<◌, List, [], length, take, Option, None, IfOk, OnOk, OnErr};
+ghost use Rattle.outside_io.specs.Calls.{Call, ReadCall, BeginCall, AppendCall, followed_by_call, taken_by};
 ghost use Rattle.outside_io.specs.Counts.{HasRisen, NoneFalls, NoneRises};
 ghost use Rattle.outside_io.specs.Files.{Holding, Leaves, LeavesOthers, LeavesAll, GivesBytes, EndsBy, replaced_by, followed_by};
 
@@ -17,6 +18,9 @@ pub trait Files {
     /// For each path, how many calls of `begin` and `append` have failed. One number may serve all paths.
     ghost failed_writes: { Self → List ℕ → ℕ };
 
+    /// What was asked so far, in the order of the calls, where the object tells it.
+    ghost calls: { Self → Option (List Call) } = { λ _. None };
+
     /// Reads some bytes of a path from a place on, and answers how many bytes of `into` it wrote, from the front. The
     /// answer 0 for an `into` that isn't empty says that the path ends at or before the place. What stands in `into`
     /// behind those bytes, and in all of it after an error, is left open.
@@ -30,7 +34,8 @@ pub trait Files {
         ensures cause { OnErr result (HasRisen (failed_reads self.old path.now) (failed_reads self.new path.now)) }
         ensures reads { NoneFalls (failed_reads self.old) (failed_reads self.new) }
         ensures reads_ok { OnOk result (NoneRises (failed_reads self.old) (failed_reads self.new)) }
-        ensures writes { NoneRises (failed_writes self.old) (failed_writes self.new) };
+        ensures writes { NoneRises (failed_writes self.old) (failed_writes self.new) }
+        ensures called { calls self.new ≡ followed_by_call (ReadCall path.now (length into.old)) (calls self.old) };
 
     /// Makes a path hold no bytes, whether or not it was there. Where that fails, the path is as before or empty.
     fn begin(&mut self, path: &str) -> Result<(), Failed>
@@ -43,7 +48,8 @@ pub trait Files {
         ensures cause { OnErr result (HasRisen (failed_writes self.old path.now) (failed_writes self.new path.now)) }
         ensures writes { NoneFalls (failed_writes self.old) (failed_writes self.new) }
         ensures writes_ok { OnOk result (NoneRises (failed_writes self.old) (failed_writes self.new)) }
-        ensures reads { NoneRises (failed_reads self.old) (failed_reads self.new) };
+        ensures reads { NoneRises (failed_reads self.old) (failed_reads self.new) }
+        ensures called { calls self.new ≡ followed_by_call (BeginCall path.now) (calls self.old) };
 
     /// Adds first bytes of `bytes` at the end of a path, and answers how many it took: at least one. Where it fails, it
     /// took none.
@@ -58,5 +64,6 @@ pub trait Files {
         ensures cause { OnErr result (HasRisen (failed_writes self.old path.now) (failed_writes self.new path.now)) }
         ensures writes { NoneFalls (failed_writes self.old) (failed_writes self.new) }
         ensures writes_ok { OnOk result (NoneRises (failed_writes self.old) (failed_writes self.new)) }
-        ensures reads { NoneRises (failed_reads self.old) (failed_reads self.new) };
+        ensures reads { NoneRises (failed_reads self.old) (failed_reads self.new) }
+        ensures called { calls self.new ≡ followed_by_call (AppendCall path.now bytes.now (taken_by result)) (calls self.old) };
 }

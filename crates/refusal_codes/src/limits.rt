@@ -26,7 +26,7 @@ pub const COMPONENTS: usize = 256;
 pub const POINTS: usize = 8_000;
 
 /// The size of a coordinate in font units.
-pub const COORDINATE: i32 = 16_383;
+pub const COORDINATE: u32 = 16_383;
 
 /// Glyphs of a font.
 pub const GLYPHS: usize = 65_535;

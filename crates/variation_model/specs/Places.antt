@@ -1,28 +1,10 @@
--- The places of a variation model, and the order in which it takes them. A place is a list of normalised coordinates, one per
--- axis. The order is fontc's own.
+-- The order in which a variation model takes its places, which is fontc's own.
 use Rattle.std.specs.Prelude.{◌≡◌, ◌≢◌, ℕ, ◌<◌, ◌^◌, Bool, not, ◌&&◌, ◌==◌, if◌then◌else◌, List, [], ◌∷◌, ◌++◌, length, map, replicate, slice_index_or, pos, int_lt, unsigned_abs, filter, count_by, position, unwrap_or, Contains, EachIndex}
 use Rattle.std.specs.List.{enumerate_from, list_any, flat_map, range_with_len}
 use Rattle.std.specs.Ordering.{nat_cmp, is_lt, int_eq}
 use Rattle.std.specs.Cmp.Lexicographic.{slice_cmp}
 use Rattle.fixed_math.specs.declared.F2Dot14.{F2Dot14}
-
--- what is looked up past the ends
-abbrev pub zero_number : F2Dot14
-zero_number = record { 0 = pos 0 }
-
-abbrev pub place_at : List (List F2Dot14) → ℕ → List F2Dot14
-place_at places i = slice_index_or places i []
-
--- how many axes there are
-abbrev pub axis_count : List (List F2Dot14) → ℕ
-axis_count places = length (place_at places 0)
-
--- what the places of a model are: not too many to be counted, all of one length, all different, one of them zero
-pub record ArePlaces (places : List (List F2Dot14)) : Type 0 where
-  pub few : length places < 2 ^ 32
-  pub one_length : EachIndex places (λ i. length (place_at places i) ≡ axis_count places)
-  pub different : (i j : ℕ) → i < j → j < length places → place_at places i ≢ place_at places j
-  pub has_zero : Contains places (replicate (axis_count places) zero_number)
+pub use Rattle.font_ir.specs.Places.{zero_number, place_at, axis_count, ArePlaces}
 
 -- the active coordinates of a place, each with its axis: those that are not zero
 abbrev pub is_active : ℕ × F2Dot14 → Bool

@@ -4,7 +4,9 @@
 ghost use Rattle.std.specs.Prelude.{◌≡◌, ◌≢◌, ◌⊎◌, ℕ, ◌<◌, ◌≤◌, ◌^◌, ◌+◌, take, drop, length, vec_len, Ok, IfOk, IfSome, OnOk, OnErr, Err, IsErrOf};
 ghost use Rattle.outside_io.specs.Counts.{HasRisen, NoneFalls, NoneRises};
 ghost use Rattle.outside_io.specs.Files.{Leaves, LeavesOthers, LeavesAll, told_bytes, replaced_by};
+ghost use Rattle.outside_io.specs.Calls.{ReadCall, followed_by_call};
 ghost use Rattle.whole_files.specs.Transfers.{BeginsWith};
+ghost use Rattle.whole_files.specs.Requests.{Since, least_room, AreRoomyReads, AreWholeOffers};
 ghost use Rattle.whole_files.specs.declared.ReadWholeError.TheVariants as whole_errors;
 
 use outside_io::{Failed, Files};
@@ -36,6 +38,7 @@ impl From<AllocError> for ReadWholeError {
 ///
 /// `TooLong` says that there are more, `Failed` that a read failed, and `NoMemory` that memory ran out. Whatever it answers, each
 /// path is as before.
+#[tactic(auto, using(crate::proofs::Asked::no_reads_yet, crate::proofs::Asked::read_with_room))]
 pub fn read_whole<F: Files>(
     alloc: Global,
     files: &mut F,
@@ -53,6 +56,9 @@ pub fn read_whole<F: Files>(
     ensures reads { NoneFalls (F.failed_reads files.old) (F.failed_reads files.new) }
     ensures reads_ok { result ≢ Err ReadWholeError.Failed → NoneRises (F.failed_reads files.old) (F.failed_reads files.new) }
     ensures writes { NoneRises (F.failed_writes files.old) (F.failed_writes files.new) }
+
+    // Each read offers room for at least 4,096 bytes.
+    ensures asked { Since (AreRoomyReads path.now) (F.calls files.old) (F.calls files.new) }
 {
     let mut buffer = zeros(alloc, READ_ROOM)?;
     let mut bytes = Vec::new(alloc);
@@ -81,7 +87,7 @@ fn read_onto<F: Files>(
     buffer: &mut [u8],
     bytes: &mut Vec<u8>,
 ) -> Result<usize, ReadWholeError>
-    requires room { 0 < length buffer.old }
+    requires room { least_room ≤ length buffer.old }
     requires front { BeginsWith (F.holds files.old path.now) bytes.old.items }
     ensures front { OnOk result (BeginsWith (F.holds files.old path.now) bytes.new.items) }
     ensures more { IfOk result (λ count. vec_len bytes.new ≡ vec_len bytes.old + count) }
@@ -92,6 +98,7 @@ fn read_onto<F: Files>(
     ensures reads { NoneFalls (F.failed_reads files.old) (F.failed_reads files.new) }
     ensures reads_ok { result ≢ Err ReadWholeError.Failed → NoneRises (F.failed_reads files.old) (F.failed_reads files.new) }
     ensures writes { NoneRises (F.failed_writes files.old) (F.failed_writes files.new) }
+    ensures called { F.calls files.new ≡ followed_by_call (ReadCall path.now (length buffer.old)) (F.calls files.old) }
 {
     match files.read_some(path, bytes.len() as u64, buffer) {
         Ok(count) => match bytes.extend_from_slice(&buffer[..count]) {
@@ -103,6 +110,7 @@ fn read_onto<F: Files>(
 }
 
 /// Makes a path hold these bytes and no others. Where that fails, the path is as before, or holds first bytes of them.
+#[tactic(auto, using(crate::proofs::Asked::begun_with, crate::proofs::Asked::some_offers, crate::proofs::Asked::offered))]
 pub fn write_whole<F: Files>(files: &mut F, path: &str, bytes: &[u8]) -> Result<(), Failed>
     ensures ok { OnOk result (Leaves (replaced_by bytes.now (F.holds files.old path.now)) (F.holds files.new path.now)) }
     ensures err { OnErr result (Leaves (F.holds files.old path.now) (F.holds files.new path.now)
@@ -114,6 +122,9 @@ pub fn write_whole<F: Files>(files: &mut F, path: &str, bytes: &[u8]) -> Result<
     ensures writes { NoneFalls (F.failed_writes files.old) (F.failed_writes files.new) }
     ensures writes_ok { OnOk result (NoneRises (F.failed_writes files.old) (F.failed_writes files.new)) }
     ensures reads { NoneRises (F.failed_reads files.old) (F.failed_reads files.new) }
+
+    // Each append offers all that is left.
+    ensures asked { Since (AreWholeOffers path.now bytes.now) (F.calls files.old) (F.calls files.new) }
 {
     files.begin(path)?;
     let mut rest = bytes;

@@ -1,5 +1,6 @@
 use Rattle.std.proofs.Common.{◌<◌, length, vec_len, rules, arith, refl}
 use Rattle.outside_io.specs.Files.{told_bytes}
+use Rattle.whole_files.proofs.Asked.{no_reads_yet}
 use Rattle.whole_files.proofs.Fronts.{nothing_read}
 use Rattle.whole_files.proofs.read_whole.Goals as goal
 
@@ -11,4 +12,5 @@ loop-bytes-init g c = record {
   paths = λ path. refl;
   reads = λ path. refl;
   writes = λ path. refl;
+  asked = no_reads_yet c.args.path.now (g.F.Files.calls c.args.files.now);
 }

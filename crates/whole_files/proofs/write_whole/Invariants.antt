@@ -2,6 +2,7 @@
 use Rattle.std.proofs.Common.{◌≡◌, length}
 use Rattle.outside_io.specs.Counts.{NoneRises}
 use Rattle.outside_io.specs.Files.{LeavesOthers}
+use Rattle.whole_files.specs.Requests.{Since, OfferAll}
 use Rattle.whole_files.proofs.Fronts.{IsWritten}
 use Rattle.whole_files.proofs.write_whole.Given as goal
 
@@ -13,6 +14,7 @@ invariant-loop-rest g l =
       others : LeavesOthers l.path (holds l.fn.files) (holds l.files);
       writes : NoneRises (g.F.Files.failed_writes l.fn.files) (g.F.Files.failed_writes l.files);
       reads : NoneRises (g.F.Files.failed_reads l.fn.files) (g.F.Files.failed_reads l.files);
+      asked : Since (λ calls. OfferAll l.path l.bytes calls l.rest) (g.F.Files.calls l.fn.files) (g.F.Files.calls l.files);
     }
 
 abbrev pub decreases-loop-rest : goal.decreases-loop-rest

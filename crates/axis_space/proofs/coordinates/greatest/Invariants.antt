@@ -1,7 +1,7 @@
 use Rattle.std.proofs.Common.{◌≡◌, take}
 use Rattle.std.specs.List.{fold}
 use Rattle.std.specs.Int.{int_max}
-use Rattle.axis_space.specs.Coordinates.{coordinate_on}
+use Rattle.font_ir.specs.Coordinates.{coordinate_on}
 use Rattle.axis_space.proofs.coordinates.greatest.Given as goal
 
 abbrev pub invariant-loop-master : goal.invariant-loop-master

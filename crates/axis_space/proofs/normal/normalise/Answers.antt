@@ -1,5 +1,5 @@
 use Rattle.std.proofs.Common.{◌≡◌, rules, ℤ, pos, ◌≤ℤ◌, subst, sym}
-use Rattle.axis_space.specs.Normal.{normalised}
+use Rattle.font_ir.specs.Normal.{normalised}
 use Rattle.axis_space.proofs.NearestLemmas.{normalised_monotone}
 use Rattle.axis_space.proofs.normal.normalise.Goals as goal
 

@@ -1,7 +1,7 @@
 use Rattle.std.proofs.Common.{◌≡◌, arith, ◌∙◌, pos, negsuc, ◌*ℤ◌, ◌≤ℤ◌, FitsSigned, to_z, of_z}
 use Rattle.std.proofs.lemmas.Int.{ints}
 use Rattle.std.specs.Int.{w16, w128}
-use Rattle.axis_space.specs.Normal.{nearest}
+use Rattle.font_ir.specs.Normal.{nearest}
 use Rattle.axis_space.proofs.NearestLemmas.{nearest_low, nearest_high, nearest_opposite, nearest_whole, narrowed, part_is}
 use Rattle.axis_space.proofs.normal.over.Goals as goal
 

@@ -1,7 +1,7 @@
 use Rattle.std.proofs.Common.{arith}
 use Rattle.std.proofs.lemmas.Grind.{common_steps}
-use Rattle.axis_space.specs.AxisPairs.{pairs_of}
-use Rattle.axis_space.specs.declared.coordinates.Kind.TheVariants.{Design, User}
+use Rattle.font_ir.specs.AxisMaps.{pairs_of}
+use Rattle.font_ir.specs.declared.header.CoordinateScale.TheVariants.{Design, User}
 use Rattle.axis_space.proofs.CoordinateLemmas.{normal_from, pairs_more}
 use Rattle.axis_space.proofs.pairs.all_pairs.Goals as goal
 

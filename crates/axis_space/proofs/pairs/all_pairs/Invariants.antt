@@ -1,5 +1,5 @@
 use Rattle.std.proofs.Common.{◌≡◌, ◌++◌, map, take}
-use Rattle.axis_space.specs.AxisPairs.{fixed_pairs, master_pair}
+use Rattle.font_ir.specs.AxisMaps.{fixed_pairs, master_pair}
 use Rattle.axis_space.proofs.pairs.all_pairs.Given as goal
 
 abbrev pub invariant-loop-master : goal.invariant-loop-master

@@ -1,5 +1,6 @@
 use Rattle.std.proofs.Common.{◌≡◌, ◌∙◌, sym, ap, Some, None, Ok}
-use Rattle.axis_space.specs.AxisPairs.{pairs_of, avar_pairs, in_order, first_fall, judged_by}
+use Rattle.font_ir.specs.AxisMaps.{pairs_of}
+use Rattle.axis_space.specs.AxisPairs.{avar_pairs, in_order, first_fall, judged_by}
 use Rattle.axis_space.proofs.FallLemmas.{accepted, refused}
 use Rattle.axis_space.proofs.pairs.avar_map.Goals as goal
 

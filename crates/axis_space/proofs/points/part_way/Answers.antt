@@ -1,7 +1,7 @@
 use Rattle.std.proofs.Common.{◌≡◌, arith, ◌∙◌, ◌*ℤ◌, FitsSigned, to_z, of_z}
 use Rattle.std.proofs.lemmas.Int.{ints}
 use Rattle.std.specs.Int.{w64, w128}
-use Rattle.axis_space.specs.Normal.{nearest}
+use Rattle.font_ir.specs.Normal.{nearest}
 use Rattle.axis_space.proofs.LineLemmas.{part_up, part_down, product_bounds, part_way_is, part_fits, widened}
 use Rattle.axis_space.proofs.points.part_way.Goals as goal
 

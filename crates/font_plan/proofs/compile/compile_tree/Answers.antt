@@ -1,7 +1,7 @@
 use Rattle.std.proofs.Common.{length, ap, sym, ◌∙◌}
 use Rattle.std.specs.Arc.{arc_value}
 use Rattle.std.proofs.lemmas.List.{length-map}
-use Rattle.metrics_tables.specs.Measuring.{glyphs_of}
+use Rattle.font_ir.specs.FlatGlyphs.{glyphs_of}
 use Rattle.font_plan.proofs.DrawnLaws.{one_glyph_a_name}
 use Rattle.font_plan.proofs.compile.compile_tree.Goals as goal
 

@@ -3,7 +3,7 @@ use Rattle.std.specs.declared.alloc.Global.{Global}
 use Rattle.std.specs.declared.sync.Arc.{Arc}
 use Rattle.std.specs.List.{All}
 use Rattle.font_ir.specs.declared.glyph.FlatGlyph.{FlatGlyph}
-use Rattle.metrics_tables.specs.Measuring.{glyphs_of}
+use Rattle.font_ir.specs.FlatGlyphs.{glyphs_of}
 use Rattle.font_plan.specs.Drawn.{IsDrawn}
 use Rattle.font_plan.proofs.DrawnLaws.{drawn_push}
 use Rattle.font_plan.proofs.glyphs.push_drawn.Goals as goal

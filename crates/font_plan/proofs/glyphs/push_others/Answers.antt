@@ -6,7 +6,7 @@ use Rattle.std.specs.declared.sync.Arc.{Arc}
 use Rattle.std.specs.Global.{Vec}
 use Rattle.font_ir.specs.declared.glyph.FlatGlyph.{FlatGlyph}
 use Rattle.refusal_codes.specs.Gives.{RefusesRead}
-use Rattle.metrics_tables.specs.Measuring.{glyphs_of}
+use Rattle.font_ir.specs.FlatGlyphs.{glyphs_of}
 use Rattle.font_plan.specs.Drawn.{IsDrawn}
 use Rattle.font_plan.specs.Font.{Entry, all_drawn, followed_by, others_from}
 use Rattle.font_plan.proofs.Steps.{refused_here, drawn_here, others_later}

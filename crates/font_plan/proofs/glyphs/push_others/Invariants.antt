@@ -1,7 +1,7 @@
 -- the glyphs so far, and what is left behind them, are the whole
 use Rattle.std.proofs.Common.{◌≡◌, drop}
 use Rattle.std.specs.List.{All}
-use Rattle.metrics_tables.specs.Measuring.{glyphs_of}
+use Rattle.font_ir.specs.FlatGlyphs.{glyphs_of}
 use Rattle.font_plan.specs.Drawn.{IsDrawn}
 use Rattle.font_plan.specs.Font.{followed_by, all_drawn, others_from}
 use Rattle.font_plan.proofs.glyphs.push_others.Given as goal

@@ -3,9 +3,10 @@ use Rattle.std.proofs.Common.{◌≡◌, List, ℕ, [], ◌∷◌, ◌++◌, Non
 use Rattle.std.specs.Map.{keys_of}
 use Rattle.std.specs.Cmp.Lexicographic.{pointwise}
 use Rattle.indexmap.specs.IndexMap.{get}
+use Rattle.plist_reader.specs.Keys.{is_among}
 use Rattle.indexmap.proofs.CallerLemmas.{insert_entry-new}
 use Rattle.glyphs_source.specs.declared.entries.IndexEntry.{IndexEntry}
-use Rattle.glyphs_source.specs.IndexReading.{glyph_name, is_among}
+use Rattle.glyphs_source.specs.IndexReading.{glyph_name}
 use Rattle.glyphs_source.proofs.Repeating.{among_keys, none_from}
 use Rattle.glyphs_source.proofs.index.add_glyph.Goals as goal
 
@@ -15,7 +16,7 @@ returns-clause-again c =
     c.is_some.ensures
     ∙ ap is_some c.in_ok-earlier.ensures.old
     ∙ among_keys c.in_ok-name.name m.entries
-    ∙ ap (is_among (keys_of m.entries)) c.in_ok-name.ensures
+    ∙ ap (λ (name : List ℕ). is_among name (keys_of m.entries)) c.in_ok-name.ensures
 
 pub returns-clause-added : goal.returns-clause-added
 returns-clause-added c = λ e.

@@ -1,7 +1,7 @@
 use Rattle.std.proofs.Common.{sym, ◌∙◌}
 use Rattle.job_graph.specs.Rounds.{state_from}
 use Rattle.job_graph.specs.Histories.{is_claimable}
-use Rattle.job_graph.proofs.Members.{find_drop-found, find_drop-passed}
+use Rattle.job_graph.specs.Members.{find_drop-found, find_drop-passed}
 use Rattle.job_graph.proofs.scan.next_job.Goals as goal
 
 pub returns-then-is_claimable : goal.returns-then-is_claimable

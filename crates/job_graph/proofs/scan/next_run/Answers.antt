@@ -3,10 +3,10 @@ use Rattle.access_context.specs.Read.{plain_item}
 use Rattle.job_graph.specs.Rounds.{item_of}
 use Rattle.job_graph.proofs.scan.next_run.Goals as goal
 
-pub returns-in_ok-reads-in-Some : goal.returns-in_ok-reads-in-Some
-returns-in_ok-reads-in-Some g c = (
+pub returns-in_ok-indexed-in-Some : goal.returns-in_ok-indexed-in-Some
+returns-in_ok-indexed-in-Some g c = (
   c.in-Some.job.now,
   sym c.in-Some.ensures,
   refl,
-  c.of.ensures ∙ (c.in_ok-reads-in-Some.ensures ∙ ap (λ ids. map (item_of g.P.Id.PartialEq.eq (map plain_item c.args.values.now)) ids) c.as_slice.ensures),
+  c.in_ok-indexed-in-Some.ensures ∙ (c.in_ok-reads-in-Some.ensures ∙ ap (λ ids. map (item_of g.P.Id.PartialEq.eq (map plain_item c.args.values.now)) ids) c.as_slice.ensures),
 )

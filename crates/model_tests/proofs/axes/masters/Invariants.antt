@@ -1,6 +1,6 @@
 use Rattle.std.proofs.Common.{◌≡◌, length}
 use Rattle.std.specs.Prelude.{All}
-use Rattle.axis_space.specs.Coordinates.{HasAxis}
+use Rattle.font_ir.specs.Coordinates.{HasAxis}
 use Rattle.model_tests.proofs.axes.masters.Given as goal
 
 abbrev pub invariant-loop-place : goal.invariant-loop-place

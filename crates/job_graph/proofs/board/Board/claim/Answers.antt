@@ -1,7 +1,8 @@
-use Rattle.std.proofs.Common.{◌≡◌, ◌<◌, [], ◌∷◌, ◌++◌, length, is_some, count_by, refl, sym, ap, ◌∙◌, arith}
+use Rattle.std.proofs.Common.{◌≡◌, ◌<◌, [], ◌∷◌, ◌++◌, length, is_some, count_by, Some, None, refl, sym, ap, ◌∙◌, arith}
 use Rattle.job_graph.specs.declared.event.Event.TheVariants as event
 use Rattle.job_graph.specs.Rounds.{state_from}
 use Rattle.job_graph.proofs.Boards.{length_outs, out_within, board_claim, board_same, board_history, hands_out, none_claimable, has_ended, same_workers, view_push, view_same, next_moved, next_none, next_some}
+use Rattle.job_graph.proofs.Halts.{now_has}
 use Rattle.job_graph.proofs.board.Board.claim.Goals as goal
 
 pub returns-then-self-clause-answer : goal.returns-then-self-clause-answer
@@ -57,6 +58,7 @@ returns-then-note-clause-answer g c =
       rw (← c.self.view_is) (sym c.self.invariant.any_is ∙ c.if-self.false),
       rw (← c.self.view_is) (hands_out _ _ _ (g.met.P.Plan.lawful c.self.inside.plan) _ _ _ _ _ c.self.invariant c.of.result next.0 next.1 (next.2 ∙ sym c.of.ensures) c.in-Ok-Some.reads next.3),
       view_push _ _ (event.Claim c.args.worker c.of.result) _ c.self.view_is (c.if-note.ensures.items ∙ ap (λ k. c.self.inside.events.items ++ event.Claim c.args.worker k ∷ []) (sym c.of.ensures)),
+      now_has _ _ (event.Claim c.args.worker c.of.result) c.args.worker (Some c.of.result) (view_push _ _ (event.Claim c.args.worker c.of.result) _ c.self.view_is (c.if-note.ensures.items ∙ ap (λ k. c.self.inside.events.items ++ event.Claim c.args.worker k ∷ []) (sym c.of.ensures))) (λ outs. refl) None c.requires.free,
     )
 
 pub returns-then-note-clause-history : goal.returns-then-note-clause-history

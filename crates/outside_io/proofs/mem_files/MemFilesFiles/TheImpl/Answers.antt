@@ -1,4 +1,4 @@
-use Rattle.std.proofs.Common.{arith, rules}
+use Rattle.std.proofs.Common.{refl, arith}
 use Rattle.std.proofs.lemmas.Grind.{common_steps}
 use Rattle.outside_io.proofs.MemoryLaws.{begin-path, begin-others, append-path, append-others}
 use Rattle.outside_io.proofs.mem_files.MemFilesFiles.TheImpl.Goals as goal
@@ -15,6 +15,7 @@ begin-tells c =
       writes = grind (arith, common_steps);
       writes_ok = grind (arith, common_steps);
       reads = grind (arith, common_steps);
+      called = refl;
     }
 
 pub append-tells : goal.append-tells
@@ -30,4 +31,5 @@ append-tells c =
       writes = grind (arith, common_steps);
       writes_ok = grind (arith, common_steps);
       reads = grind (arith, common_steps);
+      called = refl;
     }

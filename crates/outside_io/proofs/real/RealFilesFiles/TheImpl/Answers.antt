@@ -17,6 +17,7 @@ read_some-tells g c =
       reads = λ path. counted_up _ _ c.result c.ensures.cause reads;
       reads_ok = counted_ok_paths _ _ c.result reads;
       writes = λ path. writes;
+      called = refl;
     }
 
 pub begin-tells : goal.begin-tells
@@ -31,6 +32,7 @@ begin-tells g c =
       writes = λ path. counted_up _ _ c.result c.ensures.cause writes;
       writes_ok = counted_ok_paths _ _ c.result writes;
       reads = λ path. reads;
+      called = refl;
     }
 
 pub append-tells : goal.append-tells
@@ -46,4 +48,5 @@ append-tells g c =
       writes = λ path. counted_up _ _ c.result c.ensures.cause writes;
       writes_ok = counted_ok_paths _ _ c.result writes;
       reads = λ path. reads;
+      called = refl;
     }

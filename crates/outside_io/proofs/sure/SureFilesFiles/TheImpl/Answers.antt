@@ -19,6 +19,7 @@ read_some-tells g c =
       reads = λ path. omega arith;
       reads_ok = on_ok _ c.result (λ path. refl);
       writes = λ path. refl;
+      called = refl;
     }
 
 pub begin-tells : goal.begin-tells
@@ -32,6 +33,7 @@ begin-tells g c =
       writes = λ path. omega arith;
       writes_ok = on_ok _ c.result (λ path. refl);
       reads = λ path. refl;
+      called = refl;
     }
 
 pub append-tells : goal.append-tells
@@ -46,4 +48,5 @@ append-tells g c =
       writes = λ path. omega arith;
       writes_ok = on_ok _ c.result (λ path. refl);
       reads = λ path. refl;
+      called = refl;
     }

@@ -1,8 +1,0 @@
--- what is found among the layers that are left is what is found among all
-use Rattle.std.proofs.Common.{◌≡◌, drop}
-use Rattle.std.specs.List.{find}
-use Rattle.glyphs_layers.specs.LayerRules.{is_layer_of}
-use Rattle.glyphs_layers.proofs.layer_rules.layer_of.Given as goal
-
-abbrev pub invariant-loop-layer : goal.invariant-loop-layer
-invariant-loop-layer l = find (is_layer_of l.tree l.master.id) (drop l.layer-index l.layers) ≡ find (is_layer_of l.tree l.master.id) l.layers

@@ -1,0 +1,247 @@
+ghost use Rattle.std.specs.Prelude.{◌≡◌, ◌++◌, map, flat_map, IfOk, OnOk};
+ghost use Rattle.refusal_codes.specs.First.{noted};
+ghost use Rattle.source_values.specs.Asking.{optional, whole_failures};
+ghost use Rattle.glyphs_layers.specs.LayerRules.{is_line, is_cubic, is_quadratic, type_failures, node_parts_failures, node_failures, nodes_failures, closed_failures, other_shape_failures, shape_parts_failures, shape_failures};
+ghost use Rattle.glyphs_layers.specs.LayerReading.{coordinate_of, point_by, point_of, contour_of, paths_of, shapes_of};
+
+use fixed_math::Fixed;
+use font_ir::{Contour, DrawnPoint, Shape};
+use plain_lists::Sequence;
+use plist_reader::Tree;
+use refusal_codes::{FirstFailure, Rule};
+use source_values::{
+    Asked, Range, decimal_at, is_dictionary, is_text, items_at, note_at, optional,
+};
+use std::alloc::{AllocError, Global};
+
+/// Adds a path, unless it has no nodes, and notes what fails of the shape.
+#[tactic(auto, unfolding(crate::specs::LayerRules::shape_failures, crate::specs::LayerReading::shapes_of))]
+pub fn read_shape(
+    alloc: Global,
+    tree: &Tree,
+    shape: u32,
+    shapes: &mut Vec<Shape>,
+    first: &mut FirstFailure,
+) -> Result<(), AllocError>
+    ensures shapes { OnOk result (shapes.new.items ≡ shapes.old.items ++ shapes_of tree.now shape) }
+    ensures failures { OnOk result (first.new ≡ noted first.old (shape_failures tree.now shape)) }
+{
+    if is_dictionary(tree, shape) {
+        read_shape_parts(alloc, tree, shape, shapes, first)
+    } else {
+        note_at(tree, shape, Rule::WrongShape, first);
+        Ok(())
+    }
+}
+
+#[tactic(auto, using(refusal_codes::proofs::FirstLaws::noting), unfolding(crate::specs::LayerRules::shape_parts_failures, crate::specs::LayerReading::shapes_of))]
+fn read_shape_parts(
+    alloc: Global,
+    tree: &Tree,
+    shape: u32,
+    shapes: &mut Vec<Shape>,
+    first: &mut FirstFailure,
+) -> Result<(), AllocError>
+    ensures shapes { OnOk result (shapes.new.items ≡ shapes.old.items ++ shapes_of tree.now shape) }
+    ensures failures { OnOk result (first.new ≡ noted first.old (shape_parts_failures tree.now shape)) }
+{
+    match tree.find(shape, b"nodes") {
+        None => {
+            note_other_shape(tree, shape, first);
+            Ok(())
+        }
+        Some(nodes) => {
+            optional(tree, shape, b"closed", &Closed { path: shape }, first);
+            read_path(alloc, tree, nodes, shapes, first)
+        }
+    }
+}
+
+#[tactic(auto, unfolding(crate::specs::LayerRules::other_shape_failures))]
+fn note_other_shape(tree: &Tree, shape: u32, first: &mut FirstFailure)
+    ensures { first.new ≡ noted first.old (other_shape_failures tree.now shape) }
+{
+    if tree.find(shape, b"ref").is_some() {
+        note_at(tree, shape, Rule::WrongShape, first);
+    } else {
+        note_at(tree, shape, Rule::MissingKey, first);
+    }
+}
+
+/// Whether a path is closed: a whole number, and not 0, since an open path isn't built.
+#[derive(Clone, Copy)]
+struct Closed {
+    path: u32,
+}
+
+impl Asked for Closed {
+    ghost failures = { λ asked. closed_failures asked.path };
+
+    #[tactic(auto, unfolding(crate::specs::LayerRules::closed_failures))]
+    fn note(&self, tree: &Tree, number: u32, first: &mut FirstFailure) {
+        match decimal_at(tree, number) {
+            None => note_at(tree, number, Rule::WrongShape, first),
+            Some(closed) => {
+                if closed.billionths != 0 {
+                    note_at(tree, number, Rule::NotWhole, first);
+                } else if closed.whole == 0 {
+                    note_at(tree, self.path, Rule::OpenContour, first);
+                }
+            }
+        }
+    }
+}
+
+/// Adds the path of a list of nodes, unless it is empty.
+#[tactic(auto, unfolding(crate::specs::LayerRules::nodes_failures))]
+fn read_path(
+    alloc: Global,
+    tree: &Tree,
+    number: u32,
+    shapes: &mut Vec<Shape>,
+    first: &mut FirstFailure,
+) -> Result<(), AllocError>
+    ensures shapes { OnOk result (shapes.new.items ≡ shapes.old.items ++ paths_of tree.now number) }
+    ensures failures { OnOk result (first.new ≡ noted first.old (nodes_failures tree.now number)) }
+{
+    match items_at(tree, number) {
+        None => note_at(tree, number, Rule::WrongShape, first),
+        Some([]) => {}
+        Some(nodes) => shapes.push(Shape::Path(read_contour(alloc, tree, nodes, first)?))?,
+    }
+    Ok(())
+}
+
+/// The contour of a path's nodes. The last one is the start.
+#[tactic(auto, unfolding(crate::specs::LayerReading::contour_of))]
+fn read_contour(
+    alloc: Global,
+    tree: &Tree,
+    nodes: &[u32],
+    first: &mut FirstFailure,
+) -> Result<Contour, AllocError>
+    ensures contour { IfOk result (λ contour. contour ≡ contour_of tree.now nodes.now) }
+    ensures failures { OnOk result (first.new ≡ noted first.old (flat_map (node_failures tree.now) nodes.now)) }
+{
+    let mut points = read_nodes(alloc, tree, nodes, first)?;
+    if !points.is_empty() {
+        points.as_mut_slice().rotate_right(1);
+    }
+    Ok(Contour {
+        points: Sequence::from_vec(points),
+    })
+}
+
+/// The points of these nodes, in their order.
+fn read_nodes(
+    alloc: Global,
+    tree: &Tree,
+    nodes: &[u32],
+    first: &mut FirstFailure,
+) -> Result<Vec<DrawnPoint>, AllocError>
+    ensures points { IfOk result (λ points. points.items ≡ map (point_of tree.now) nodes.now) }
+    ensures failures { OnOk result (first.new ≡ noted first.old (flat_map (node_failures tree.now) nodes.now)) }
+{
+    let mut points = Vec::with_capacity(alloc, nodes.len())?;
+    for node in nodes {
+        points.push(read_node(tree, *node, first))?;
+    }
+    Ok(points)
+}
+
+/// The point of a node.
+#[tactic(auto, unfolding(crate::specs::LayerRules::node_failures, crate::specs::LayerReading::point_of))]
+fn read_node(tree: &Tree, node: u32, first: &mut FirstFailure) -> DrawnPoint
+    ensures point { result ≡ point_of tree.now node }
+    ensures failures { first.new ≡ noted first.old (node_failures tree.now node) }
+{
+    match items_at(tree, node) {
+        Some(parts) => {
+            if parts.len() == 3 || parts.len() == 4 {
+                return read_node_parts(tree, node, parts[0], parts[1], parts[2], first);
+            }
+        }
+        None => {}
+    }
+    note_at(tree, node, Rule::WrongShape, first);
+    DrawnPoint {
+        x: Fixed(0),
+        y: Fixed(0),
+        on: true,
+    }
+}
+
+#[tactic(auto, using(refusal_codes::proofs::FirstLaws::noting), unfolding(crate::specs::LayerRules::node_parts_failures))]
+fn read_node_parts(
+    tree: &Tree,
+    node: u32,
+    x: u32,
+    y: u32,
+    kind: u32,
+    first: &mut FirstFailure,
+) -> DrawnPoint
+    ensures point { result ≡ point_by tree.now x y }
+    ensures failures { first.new ≡ noted first.old (node_parts_failures tree.now node x y kind) }
+{
+    let x = read_coordinate(tree, x, first);
+    let y = read_coordinate(tree, y, first);
+    note_type(tree, node, kind, first);
+    DrawnPoint { x, y, on: true }
+}
+
+/// A coordinate in 16.16, 0 where the value is no coordinate.
+#[tactic(auto, unfolding(source_values::specs::Asking::whole_failures, crate::specs::LayerReading::coordinate_of))]
+fn read_coordinate(tree: &Tree, number: u32, first: &mut FirstFailure) -> Fixed
+    ensures coordinate { result ≡ coordinate_of tree.now number }
+    ensures failures { first.new ≡ noted first.old (whole_failures Range.Coordinate tree.now number) }
+{
+    match decimal_at(tree, number) {
+        None => note_at(tree, number, Rule::WrongShape, first),
+        Some(decimal) => {
+            if decimal.billionths != 0 {
+                note_at(tree, number, Rule::NotWhole, first);
+            } else if !Range::Coordinate.holds(&decimal) {
+                note_at(tree, number, Rule::CoordinateTooLarge, first);
+            } else {
+                let size = (65536 * decimal.whole) as i32;
+                return Fixed(if decimal.negative { -size } else { size });
+            }
+        }
+    }
+    Fixed(0)
+}
+
+#[tactic(auto, unfolding(crate::specs::LayerRules::type_failures))]
+fn note_type(tree: &Tree, node: u32, kind: u32, first: &mut FirstFailure)
+    ensures { first.new ≡ noted first.old (type_failures tree.now node kind) }
+{
+    if is_line(tree, kind) {
+    } else if is_cubic(tree, kind) {
+        note_at(tree, node, Rule::CubicNode, first);
+    } else if is_quadratic(tree, kind) {
+        note_at(tree, node, Rule::WrongShape, first);
+    } else {
+        note_at(tree, kind, Rule::WrongShape, first);
+    }
+}
+
+fn is_line(tree: &Tree, kind: u32) -> bool
+    ensures { result ≡ is_line tree.now kind }
+{
+    is_text(tree, b"l", kind) || is_text(tree, b"ls", kind)
+}
+
+fn is_cubic(tree: &Tree, kind: u32) -> bool
+    ensures { result ≡ is_cubic tree.now kind }
+{
+    is_text(tree, b"c", kind) || is_text(tree, b"cs", kind)
+}
+
+fn is_quadratic(tree: &Tree, kind: u32) -> bool
+    ensures { result ≡ is_quadratic tree.now kind }
+{
+    is_text(tree, b"q", kind)
+        || is_text(tree, b"qs", kind)
+        || is_text(tree, b"o", kind)
+        || is_text(tree, b"os", kind)
+}

@@ -1,5 +1,0 @@
-use Rattle.job_graph.proofs.Hands.{held_new}
-use Rattle.job_graph.proofs.tests.hands.begun.Goals as goal
-
-pub returns-clause-held : goal.returns-clause-held
-returns-clause-held g c = rw (c.in_ok-board.ensures.made, c.in_ok-hands.ensures) (held_new _ _ c.args.workers)

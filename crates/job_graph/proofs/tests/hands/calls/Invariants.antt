@@ -1,9 +1,0 @@
-use Rattle.std.proofs.Common.{◌≡◌}
-use Rattle.job_graph.specs.Hands.{IsHeld}
-use Rattle.job_graph.proofs.tests.hands.calls.Given as goal
-
-abbrev pub invariant-loop-worker : goal.invariant-loop-worker
-invariant-loop-worker g l = record {
-  held : IsHeld g.P.Id.PartialEq.eq (g.P.Plan.meaning l.board.plan) l.board.workers l.board.events l.hands.items;
-  workers : l.board.workers ≡ l.fn.board.workers;
-}

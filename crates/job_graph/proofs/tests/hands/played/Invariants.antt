@@ -1,5 +1,0 @@
-use Rattle.job_graph.specs.Hands.{IsHeld}
-use Rattle.job_graph.proofs.tests.hands.played.Given as goal
-
-abbrev pub invariant-loop-i : goal.invariant-loop-i
-invariant-loop-i g l = IsHeld g.P.Id.PartialEq.eq (g.P.Plan.meaning l.board.plan) l.board.workers l.board.events l.hands.items

@@ -1,0 +1,124 @@
+use crate::ending::Left;
+use crate::source::Source;
+use anyhow::{Context, Result, bail};
+use std::alloc::Global;
+
+/// The words of a row that names none.
+const USUAL_WORDS: &str = "build in out";
+
+/// A row: a source, a command, and how its run must end.
+#[derive(Debug, Drop)]
+pub struct Row<'a> {
+    /// What the row shows.
+    pub name: &'a str,
+    pub source: Source,
+    /// The words of the command, between spaces.
+    pub words: &'a str,
+    /// How many bytes each call to the files handles at most, where that is limited.
+    pub step: Option<usize>,
+    /// The call to the files that fails, where one does; they are counted from 1.
+    pub fail: Option<u64>,
+    /// Whether it is run over the files of the system too.
+    pub is_real: bool,
+    /// The exit status that is wanted.
+    pub status: u8,
+    /// The text of the refusal that is wanted; empty where none is.
+    pub told: &'a str,
+    /// What the output must hold afterwards.
+    pub left: Left<'a>,
+    /// A text that a line `new` is to take the place of.
+    old: Option<&'a str>,
+}
+
+impl<'a> Row<'a> {
+    /// The row that these lines write. There is none where all of them are comments.
+    pub fn read(rt: &HostRuntime, lines: &'a str) -> Result<Option<Row<'a>>> {
+        let mut row = Row::new(rt.alloc());
+        for line in lines.lines() {
+            if !line.is_empty() && !line.starts_with('#') {
+                row.read_line(rt, line)?;
+            }
+        }
+        Ok(if row.name.is_empty() { None } else { Some(row) })
+    }
+
+    fn new(alloc: Global) -> Row<'a> {
+        Row {
+            name: "",
+            source: Source::new(alloc),
+            words: USUAL_WORDS,
+            step: None,
+            fail: None,
+            is_real: false,
+            status: 0,
+            told: "",
+            left: Left::AsBefore,
+            old: None,
+        }
+    }
+
+    /// Reads one line: a word, and behind a space what it is about.
+    fn read_line(&mut self, rt: &HostRuntime, line: &'a str) -> Result<()> {
+        let (word, rest) = line.split_once(' ').unwrap_or((line, ""));
+        match word {
+            "row" => self.name = rest,
+            "words" => self.words = rest,
+            "step" => self.step = Some(rest.parse::<usize>()?),
+            "fail" => self.fail = Some(rest.parse::<u64>()?),
+            "real" => self.is_real = true,
+            "status" => self.status = rest.parse::<u8>()?,
+            "refused" => self.want_refusal(rest),
+            "font" => self.left = Left::Font(rest),
+            "bytes" => self.left = Left::Count(rest.parse::<usize>()?),
+            "first" => self.want_first(rest)?,
+            _ => self.read_source(rt, word, rest)?,
+        }
+        Ok(())
+    }
+
+    /// Reads a line on the source.
+    fn read_source(&mut self, rt: &HostRuntime, word: &str, rest: &'a str) -> Result<()> {
+        let alloc = rt.alloc();
+        match word {
+            "file" => self.source.push_file(rt, rest)?,
+            "text" => self.source.push_text(rest)?,
+            "hex" => self.source.push_hex(alloc, rest)?,
+            "spaces" => self.source.push_spaces(alloc, rest.parse::<usize>()?)?,
+            "times" => self.push_times(alloc, rest)?,
+            "old" => self.old = Some(rest),
+            "new" => self.replace(alloc, rest)?,
+            "cut" => self.source.cut(rest.parse::<usize>()?),
+            _ => bail!("no line of a row begins with {word}"),
+        }
+        Ok(())
+    }
+
+    fn want_refusal(&mut self, told: &'a str) {
+        self.status = 2;
+        self.told = told;
+    }
+
+    fn want_first(&mut self, rest: &'a str) -> Result<()> {
+        let (count, name) = counted(rest)?;
+        self.left = Left::First(count as usize, name);
+        Ok(())
+    }
+
+    fn push_times(&mut self, alloc: Global, rest: &str) -> Result<()> {
+        let (count, text) = counted(rest)?;
+        self.source.push_times(alloc, count, text)
+    }
+
+    fn replace(&mut self, alloc: Global, new: &str) -> Result<()> {
+        let old = self.old.take().context("a line `new` without `old`")?;
+        self.source.replace(alloc, old, new)
+    }
+}
+
+/// A count and the text behind it.
+fn counted(rest: &str) -> Result<(u64, &str)> {
+    let (count, text) = rest
+        .split_once(' ')
+        .context("a count and a text are wanted")?;
+    Ok((count.parse::<u64>()?, text))
+}
