@@ -1,19 +1,18 @@
 //! The font compiler fontc, over the real files and the real console.
 #![tactic(auto)]
 
-use fontc_cli::{Status, run};
+use fontc_cli::{Status, run_program};
 use outside_io::{OpenGate, RealConsole, RealFiles};
 use std::process::ExitCode;
 use std::{env, io};
 
 fn main(rt: HostRuntime) -> ExitCode {
-    let status = match words(&rt) {
+    match words(&rt) {
         Ok(words) => run_words(&rt, words.as_slice()),
         // A word that isn't UTF-8 is of no command.
-        Err(error) if error.kind() != io::ErrorKind::OutOfMemory => Status::Usage,
-        Err(_) => Status::NoMemory,
-    };
-    ExitCode::from(status.code())
+        Err(error) if error.kind() != io::ErrorKind::OutOfMemory => Status::Usage.exit(),
+        Err(_) => Status::NoMemory.exit(),
+    }
 }
 
 /// The words behind the program's name.
@@ -22,12 +21,12 @@ fn words(rt: &HostRuntime) -> io::Result<Vec<String>> {
 }
 
 /// Runs the command that the words are.
-fn run_words(rt: &HostRuntime, words: &[String]) -> Status {
+fn run_words(rt: &HostRuntime, words: &[String]) -> ExitCode {
     match RealFiles::new(rt, rt.alloc()) {
         Ok(mut files) => {
             let mut console = RealConsole::new(rt);
-            run(rt.alloc(), words, &mut files, &mut console, &OpenGate).status
+            run_program(rt.alloc(), words, &mut files, &mut console, &OpenGate)
         }
-        Err(_) => Status::NoMemory,
+        Err(_) => Status::NoMemory.exit(),
     }
 }

@@ -1,6 +1,8 @@
 -- The exit status of each way in which a run can end. fontc's own: 3 and 6 are kept for faults of a font that is inspected
 -- and of the console.
-use Rattle.std.specs.Prelude.{ℕ}
+use Rattle.std.specs.Prelude.{◌≡◌, ℕ}
+use Rattle.std.specs.Process.{exit_status}
+use Rattle.std.specs.declared.process.ExitCode.{ExitCode}
 use Rattle.fontc_cli.specs.declared.status.Status.{Status}
 use Rattle.fontc_cli.specs.declared.status.Status.TheVariants.{Done, Usage, Refused, ReadFault, WriteFault, NoMemory}
 
@@ -11,3 +13,7 @@ exit_code (Refused r) = 2
 exit_code ReadFault = 4
 exit_code WriteFault = 5
 exit_code NoMemory = 7
+
+-- the program ends with the exit status of a status that is so
+abbrev pub ExitsBy : (Status → Type 0) → ExitCode → Type 0
+ExitsBy IsSo code = (status : Status) × IsSo status × (exit_status code ≡ exit_code status)

@@ -5,5 +5,5 @@ mod command;
 mod runs;
 mod status;
 
-pub use runs::{run, run_alone};
+pub use runs::{run, run_alone, run_program};
 pub use status::{Report, Status};

@@ -4,6 +4,7 @@ ghost use Rattle.outside_io.specs.Files.{told_bytes};
 ghost use Rattle.refusal_codes.specs.declared.limits.TheConstants.{SOURCE_BYTES};
 ghost use Rattle.fontc_cli.specs.Commands.{command_of};
 ghost use Rattle.fontc_cli.specs.Runs.{BuildEnds, RunEnds, IsComplete, Between};
+ghost use Rattle.fontc_cli.specs.Statuses.{ExitsBy};
 ghost use Rattle.fontc_cli.specs.Words.{shown};
 
 use crate::command::{BuildCommand, read_command};
@@ -13,6 +14,7 @@ use outside_io::{Console, Files, Gate};
 use refusal_codes::CompileError;
 use refusal_codes::limits::SOURCE_BYTES;
 use std::alloc::Global;
+use std::process::ExitCode;
 use whole_files::{ReadWholeError, read_whole, write_whole};
 
 /// Runs the command that the words are, over these files and this console.
@@ -32,6 +34,24 @@ pub fn run<F: Files, C: Console, G: Gate + Sync>(
     ensures silent { console.new ≡ console.old }
 {
     run_alone(alloc, words, files, console)
+}
+
+/// Runs the command that the words are, as `run` does, and answers what the program ends with: the exit status of a status by
+/// which such a run can end.
+pub fn run_program<F: Files, C: Console, G: Gate + Sync>(
+    alloc: Global,
+    words: &[String],
+    files: &mut F,
+    console: &mut C,
+    gate: &G,
+) -> ExitCode
+    ensures ends { ExitsBy (λ status. Between (RunEnds (command_of (map string_bytes words.now)) status)
+        F.holds F.failed_reads F.failed_writes files.old files.new) result }
+    ensures complete { ExitsBy (λ status. Between (IsComplete (command_of (map string_bytes words.now)) status)
+        F.holds F.failed_reads F.failed_writes files.old files.new) result }
+    ensures silent { console.new ≡ console.old }
+{
+    run(alloc, words, files, console, gate).status.exit()
 }
 
 /// Runs the command that the words are, as `run` does, and waits for nobody.

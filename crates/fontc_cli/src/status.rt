@@ -1,7 +1,9 @@
 ghost use Rattle.std.specs.Prelude.{◌≡◌};
+ghost use Rattle.std.specs.Process.{exit_status};
 ghost use Rattle.fontc_cli.specs.Statuses.{exit_code};
 
 use refusal_codes::Refusal;
+use std::process::ExitCode;
 
 /// How a run ended.
 #[derive(Debug, Drop)]
@@ -21,6 +23,13 @@ pub enum Status {
 }
 
 impl Status {
+    /// What the program ends with.
+    pub fn exit(&self) -> ExitCode
+        ensures { exit_status result ≡ exit_code self.now }
+    {
+        ExitCode::from(self.code())
+    }
+
     /// The program's exit status.
     pub fn code(&self) -> u8
         ensures { result ≡ exit_code self.now }
