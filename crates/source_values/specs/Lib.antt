@@ -1,7 +1,9 @@
 pub mod Asking
 pub mod Decimals
+pub mod KindLaws
 pub mod OnLiterals
 pub mod Spelling
+pub mod Tables
 pub mod Values
 pub mod WayLaws
 pub mod Ways

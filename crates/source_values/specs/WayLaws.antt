@@ -1,15 +1,17 @@
 -- How tables tell of the combinators of rules: what the proofs of tables in other crates need, and no reader.
-use Rattle.std.proofs.Common.{inl, inr, ◌≡◌, ◌⊎◌, ℕ, Bool, true, false, cond, List, [], ◌∷◌, ◌++◌, Option, Some, None, is_some, refl, sym, ap, ◌∙◌, subst, true≢false}
+use Rattle.std.proofs.Common.{inl, inr, ◌≡◌, ◌⊎◌, ◌==◌, not, arith, ℕ, Bool, true, false, cond, List, [], ◌∷◌, ◌++◌, Option, Some, None, is_some, refl, sym, ap, ◌∙◌, subst, true≢false}
 use Rattle.std.specs.Prelude.{flat_map}
 use Rattle.std.proofs.lemmas.List.Concat.{flat_map-cons}
+use Rattle.std.proofs.lemmas.Bool.Decides.{nat_tests}
 use Rattle.plist_reader.specs.declared.tree.Tree.{Tree}
 use Rattle.plist_reader.specs.Tree.{find_in}
 use Rattle.refusal_codes.specs.declared.rule.Rule.{Rule}
+use Rattle.refusal_codes.specs.Rules.{rule_number}
 use Rattle.refusal_codes.specs.declared.rule.Rule.TheVariants.{WrongShape, MissingKey}
 use Rattle.refusal_codes.specs.declared.first.Failure.{Failure}
 use Rattle.source_values.specs.Values.{place_at, items_at, is_list, is_dictionary}
 use Rattle.source_values.specs.Asking.{fails, each_by, each, dictionary, under_by, required, optional}
-use Rattle.source_values.specs.Ways.{IsOneOf, Step, under, each_item, item, when, Leads, Reaches, Row, FailsRow, Fails, Tells, here, behind, has}
+use Rattle.source_values.specs.Ways.{IsOneOf, Step, under, each_item, item, when, Leads, Reaches, Row, FailsRow, Fails, Tells, rows_of, TellsByRule, here, behind, has}
 
 -- ---- lists
 
@@ -49,39 +51,39 @@ module _ (g : ℕ → List Failure) (f : Failure) where
 -- ---- tables
 
 module _ (t : Tree) (n : ℕ) (f : Failure) where
-  rows_left : (r s : List Row) → Fails r t n f → Fails (r ++ s) t n f
+  pub rows_left : (r s : List Row) → Fails r t n f → Fails (r ++ s) t n f
   rows_left [] s p = absurd p
   rows_left (row ∷ r) s (inl p) = inl p
   rows_left (row ∷ r) s (inr p) = inr (rows_left r s p)
 
-  rows_right : (r s : List Row) → Fails s t n f → Fails (r ++ s) t n f
+  pub rows_right : (r s : List Row) → Fails s t n f → Fails (r ++ s) t n f
   rows_right [] s p = p
   rows_right (row ∷ r) s p = inr (rows_right r s p)
 
-  rows_cases : (r s : List Row) → Fails (r ++ s) t n f → Fails r t n f ⊎ Fails s t n f
+  pub rows_cases : (r s : List Row) → Fails (r ++ s) t n f → Fails r t n f ⊎ Fails s t n f
   rows_cases [] s p = inr p
   rows_cases (row ∷ r) s (inl p) = inl (inl p)
   rows_cases (row ∷ r) s (inr p) = elim (rows_cases r s p) [ inl q ↦ inl (inr q) | inr q ↦ inr q ]
 
-  from_behind : (step : Step) (rows : List Row) → Fails (behind step rows) t n f
+  pub from_behind : (step : Step) (rows : List Row) → Fails (behind step rows) t n f
       → (k : ℕ) × Leads t step n k × Fails rows t k f
   from_behind step [] p = absurd p
   from_behind step (row ∷ rows) (inl (m, (k, leads, reaches), not, is)) = (k, leads, inl (m, reaches, not, is))
   from_behind step (row ∷ rows) (inr p) = let (k, leads, q) = from_behind step rows p in (k, leads, inr q)
 
-  to_behind : (step : Step) (rows : List Row) (k : ℕ) → Leads t step n k → Fails rows t k f
+  pub to_behind : (step : Step) (rows : List Row) (k : ℕ) → Leads t step n k → Fails rows t k f
       → Fails (behind step rows) t n f
   to_behind step [] k leads p = absurd p
   to_behind step (row ∷ rows) k leads (inl (m, reaches, not, is)) = inl (m, (k, leads, reaches), not, is)
   to_behind step (row ∷ rows) k leads (inr p) = inr (to_behind step rows k leads p)
 
   -- a failure of the value itself
-  at_itself : (rule : Rule) (holds : Tree → ℕ → Bool) → holds t n ≡ false → IsOneOf (fails rule t n) f
+  pub at_itself : (rule : Rule) (holds : Tree → ℕ → Bool) → holds t n ≡ false → IsOneOf (fails rule t n) f
       → Fails (here rule holds) t n f
   at_itself rule holds not (inl e) = inl (n, refl, not, e)
   at_itself rule holds not (inr p) = absurd p
 
-  of_itself : (rule : Rule) (holds : Tree → ℕ → Bool) → Fails (here rule holds) t n f
+  pub of_itself : (rule : Rule) (holds : Tree → ℕ → Bool) → Fails (here rule holds) t n f
       → (holds t n ≡ false) × IsOneOf (fails rule t n) f
   of_itself rule holds (inl (m, same, not, is)) =
       (
@@ -90,17 +92,17 @@ module _ (t : Tree) (n : ℕ) (f : Failure) where
       )
   of_itself rule holds (inr p) = absurd p
 
-never : {A : Type 0} (b : Bool) → b ≡ true → b ≡ false → A
+pub never : {A : Type 0} (b : Bool) → b ≡ true → b ≡ false → A
 never b is not = absurd (true≢false (sym is ∙ not))
 
 -- ---- what a test finds
 
 module _ (rule : Rule) (holds : Tree → ℕ → Bool) (t : Tree) (n : ℕ) (f : Failure) where
-  by_test : (b : Bool) → holds t n ≡ b → IsOneOf (cond b [] (fails rule t n)) f → Fails (here rule holds) t n f
+  pub by_test : (b : Bool) → holds t n ≡ b → IsOneOf (cond b [] (fails rule t n)) f → Fails (here rule holds) t n f
   by_test true e p = absurd p
   by_test false e p = at_itself t n f rule holds e p
 
-  to_test : (b : Bool) → holds t n ≡ b → Fails (here rule holds) t n f → IsOneOf (cond b [] (fails rule t n)) f
+  pub to_test : (b : Bool) → holds t n ≡ b → Fails (here rule holds) t n f → IsOneOf (cond b [] (fails rule t n)) f
   to_test true e p = never (holds t n) e (of_itself t n f rule holds p).0
   to_test false e p = (of_itself t n f rule holds p).1
 
@@ -209,3 +211,78 @@ module _ (rows : List Row) (g : Tree → ℕ → List Failure) (tells : Tells ro
     items t n f (items_at t n) refl,
     λ p. to_some t n f (items_at t n) refl (rows_cases t n f (here WrongShape is_list) (behind each_item rows) p),
   )
+
+-- ---- one of two, by a test
+
+module _ (test : Tree → ℕ → Bool) (r s : List Row) (g h : Tree → ℕ → List Failure) (a : Tells r g) (b : Tells s h) where
+  abbrev other : Tree → ℕ → Bool
+  other t n = not (test t n)
+
+  module _ (t : Tree) (n : ℕ) (f : Failure) where
+    choose : (v : Bool) → test t n ≡ v → IsOneOf (cond v (g t n) (h t n)) f
+        → Fails (behind (when test) r ++ behind (when other) s) t n f
+    choose true e p =
+        rows_left t n f (behind (when test) r) (behind (when other) s) (to_behind t n f (when test) r n (e, refl) ((a t n f).0 p))
+    choose false e p =
+        rows_right t n f (behind (when test) r) (behind (when other) s)
+        (to_behind t n f (when other) s n (ap not e, refl) ((b t n f).0 p))
+
+    to_choose : (v : Bool) → test t n ≡ v → Fails (behind (when test) r) t n f ⊎ Fails (behind (when other) s) t n f
+        → IsOneOf (cond v (g t n) (h t n)) f
+    to_choose true e (inl p) =
+        let (k, leads, q) = from_behind t n f (when test) r p in
+        (a t n f).1 (subst (λ (m : ℕ). Fails r t m f) leads.1 q)
+    to_choose true e (inr p) =
+        let (k, leads, q) = from_behind t n f (when other) s p in never (other t n) leads.0 (ap not e)
+    to_choose false e (inl p) =
+        let (k, leads, q) = from_behind t n f (when test) r p in never (test t n) leads.0 e
+    to_choose false e (inr p) =
+        let (k, leads, q) = from_behind t n f (when other) s p in
+        (b t n f).1 (subst (λ (m : ℕ). Fails s t m f) leads.1 q)
+
+  pub either : Tells (behind (when test) r ++ behind (when other) s) (λ t n. cond (test t n) (g t n) (h t n))
+  either t n f = (
+    choose t n f (test t n) refl,
+    λ p. to_choose t n f (test t n) refl (rows_cases t n f (behind (when test) r) (behind (when other) s) p),
+  )
+
+-- ---- the rows of one rule
+
+module _ (t : Tree) (n : ℕ) (f : Failure) where
+  same_rule : (row : Row) → FailsRow row t n f → (rule_number row.rule == rule_number f.rule) ≡ true
+  same_rule row (m, reaches, not, is) =
+      let e : rule_number row.rule ≡ rule_number f.rule = sym (ap (λ (g : Failure). rule_number g.rule) is) in
+      grind (arith, nat_tests, e)
+
+  kept : (b : Bool) (row : Row) (rows rest : List Row) → (FailsRow row t n f → b ≡ true) → FailsRow row t n f
+      → Fails (cond b (row ∷ rest) rows) t n f
+  kept true row rows rest same p = inl p
+  kept false row rows rest same p = absurd (true≢false (sym (same p)))
+
+  passed_on : (b : Bool) (row : Row) (rest : List Row) → Fails rest t n f → Fails (cond b (row ∷ rest) rest) t n f
+  passed_on true row rest p = inr p
+  passed_on false row rest p = p
+
+  pub to_rule : (rows : List Row) → Fails rows t n f → Fails (rows_of f.rule rows) t n f
+  to_rule [] p = p
+  to_rule (row ∷ rows) (inl p) =
+      kept (rule_number row.rule == rule_number f.rule) row (rows_of f.rule rows) (rows_of f.rule rows) (same_rule row) p
+  to_rule (row ∷ rows) (inr p) =
+      passed_on (rule_number row.rule == rule_number f.rule) row (rows_of f.rule rows) (to_rule rows p)
+
+  taken : (b : Bool) (row : Row) (rows rest : List Row) → (Fails rest t n f → Fails rows t n f)
+      → Fails (cond b (row ∷ rest) rest) t n f → Fails (row ∷ rows) t n f
+  taken true row rows rest h (inl p) = inl p
+  taken true row rows rest h (inr p) = inr (h p)
+  taken false row rows rest h p = inr (h p)
+
+  pub of_rule : (rule : Rule) (rows : List Row) → Fails (rows_of rule rows) t n f → Fails rows t n f
+  of_rule rule [] p = p
+  of_rule rule (row ∷ rows) p =
+      taken (rule_number row.rule == rule_number rule) row rows (rows_of rule rows) (of_rule rule rows) p
+
+-- a table tells of each rule by the rows of that rule alone
+pub by_rule : (rows : List Row) (g : Tree → ℕ → List Failure) → Tells rows g → TellsByRule rows g
+by_rule rows g tells t n rule place =
+    let f : Failure = record { rule = rule; place = place } in
+    (λ p. to_rule t n f rows ((tells t n f).0 p), λ p. (tells t n f).1 (of_rule t n f rule rows p))

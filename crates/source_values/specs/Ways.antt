@@ -1,11 +1,12 @@
 -- Which values of a source fail which rule. A way leads from a value to others inside it; a table says of each way what is
 -- asked of the values that it reaches, and by which rule they fail. A law above the rules that the readers note, in words
 -- that know no order. fontc's own.
-use Rattle.std.specs.Prelude.{◌≡◌, ℕ, Bool, true, false, List, [], ◌∷◌, ◌++◌, length, Option, Some, None, is_some, slice_get, ◌⊎◌}
+use Rattle.std.specs.Prelude.{◌≡◌, ℕ, Bool, true, false, List, [], ◌∷◌, ◌++◌, length, Option, Some, None, is_some, slice_get, ◌⊎◌, ◌↔◌, ◌==◌, if◌then◌else◌}
 use Rattle.std.specs.Option.{option_map_or}
 use Rattle.plist_reader.specs.declared.tree.Tree.{Tree}
 use Rattle.plist_reader.specs.Tree.{find_in}
 use Rattle.refusal_codes.specs.declared.rule.Rule.{Rule}
+use Rattle.refusal_codes.specs.Rules.{rule_number}
 use Rattle.refusal_codes.specs.declared.first.Failure.{Failure}
 use Rattle.source_values.specs.Values.{place_at, items_at}
 
@@ -58,6 +59,21 @@ abbrev pub Tells : List Row → (Tree → ℕ → List Failure) → Type 0
 Tells rows failures =
     (t : Tree) (n : ℕ) (f : Failure)
     → (IsOneOf (failures t n) f → Fails rows t n f) × (Fails rows t n f → IsOneOf (failures t n) f)
+
+-- ---- the rows of one rule
+
+-- the rows of a table that are of this rule
+abbrev pub rows_of : Rule → List Row → List Row
+rows_of rule [] = []
+rows_of rule (row ∷ rows) =
+    if rule_number row.rule == rule_number rule then row ∷ rows_of rule rows else rows_of rule rows
+
+-- a rule fails at a place exactly where a row of that rule says so
+abbrev pub TellsByRule : List Row → (Tree → ℕ → List Failure) → Type 0
+TellsByRule rows failures =
+    (t : Tree) (n : ℕ) (rule : Rule) (place : ℕ)
+    → IsOneOf (failures t n) (record { rule = rule; place = place })
+    ↔ Fails (rows_of rule rows) t n (record { rule = rule; place = place })
 
 -- ---- making tables
 
