@@ -7,3 +7,5 @@ mod assembly;
 mod glyf;
 #[cfg(test)]
 mod metrics;
+#[cfg(test)]
+mod offset_trees;
