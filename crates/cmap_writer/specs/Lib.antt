@@ -1,0 +1,4 @@
+pub mod Runs
+pub mod Subtables
+pub mod Cmap
+pub mod Reading
