@@ -1,0 +1,5 @@
+pub mod Inferred
+pub mod Laws
+pub mod Moved
+pub mod Omitted
+pub mod Parts
