@@ -1,16 +1,16 @@
 -- What the calls of the table ask: that each step is allowed, that the table may be opened, and what it leaves at its end.
-use Rattle.std.proofs.Common.{◌≡◌, ◌≢◌, ℕ, zero, suc, ◌+◌, ◌%◌, ◌^◌, ◌<◌, ◌≤◌, ◌⊎◌, cond, eqb, eq-eqb, ne_eqb, List, [], ◌∷◌, ◌++◌, length, get_or, set, Option, Some, refl, sym, ap, ◌∙◌, subst, inl, ⊎_elim, arith}
+use Rattle.std.proofs.Common.{◌≡◌, ℕ, zero, suc, ◌+◌, ◌%◌, ◌^◌, ◌<◌, ◌≤◌, cond, eqb, eq-eqb, ne_eqb, List, [], ◌∷◌, ◌++◌, length, get_or, Option, Some, refl, sym, ap, ◌∙◌, subst, inl, ⊎_elim, arith}
 use Rattle.std.specs.List.{sum_by}
 use Rattle.std.proofs.lemmas.List.Sums.{sum_by-cons}
 use mathlib.Core.Logic.{dite}
 use mathlib.Core.Option.{some, none, some-injective, some-ne-none}
 use native.Mathlib.Decide.{ℕ_discrete}
 use lib.ListN.{get_elem?}
-use Rattle.atomic_table.specs.Table.{State, Me, step, rest, keeps, takes, gives, stepped, opening, Allows, Splits, Joins, Final, Seen}
-use Rattle.turnstile.specs.Entries.{BeginsWith, entries_of}
-use Rattle.turnstile.specs.Members.{newcomers, everyone, pass_of, without_pass, joined, spent, times, size, Knows, AllKnow}
+use Rattle.atomic_table.specs.Table.{State, Me, step, keeps, takes, gives, stepped, opening, Allows, Splits, Joins, Final, Seen}
+use Rattle.turnstile.specs.Entries.{entries_of}
+use Rattle.turnstile.specs.Members.{newcomers, everyone, pass_of, without_pass, joined, spent, times, size, AllKnow}
 use Rattle.turnstile.specs.Tickets.{HasTicket, IsServed}
-use Rattle.turnstile.specs.Rule.{held, Agrees, IsHome, IsOut, Kept}
+use Rattle.turnstile.specs.Rule.{Agrees, IsHome, IsOut, Kept}
 use Rattle.turnstile.specs.Steps.{seat_of, after_seeing, after_adding, drawn, Takes, looked, noted, gave}
 use Rattle.turnstile.specs.declared.knowledge.Stage.{Stage}
 use Rattle.turnstile.specs.declared.knowledge.Stage.TheVariants.{Away, Waiting, Served, Noted}
@@ -71,11 +71,11 @@ module _ (E : Type 0) {T : Type 0} where
       let s = sum_by-cons f m (newcomers root (from + 1) n) in
       dite (ℕ_discrete from k)
       (λ same.
-          let e : f m ≡ 1 = ap (λ b. cond {A = ℕ} b 1 0) (eq-eqb from k same) in
-          let others = times_from root k (from + 1) n (omega arith) in omega arith)
+      let e : f m ≡ 1 = ap (λ b. cond {A = ℕ} b 1 0) (eq-eqb from k same) in
+      let others = times_from root k (from + 1) n (omega arith) in omega arith)
       (λ other.
-          let e : f m ≡ 0 = ap (λ b. cond {A = ℕ} b 1 0) (ne_eqb from k other) in
-          let others = times_once root k (from + 1) n in omega arith)
+      let e : f m ≡ 0 = ap (λ b. cond {A = ℕ} b 1 0) (ne_eqb from k other) in
+      let others = times_once root k (from + 1) n in omega arith)
 
   pub length-newcomers : (root : T) (from n : ℕ) → length (newcomers {E = E} root from n) ≡ n
   length-newcomers root from zero = refl
@@ -110,27 +110,27 @@ module _ {B E T : Type 0} (entries : B → List (ℕ × E)) (root : B → T) whe
         → Allows Rule slots id me 2 (λ n. n) (looked entries root (step slots 2 0 0 none) me)
     look_allowed slots id me t m is bare s r _ at _ = let here = at ∙ ap some is in dite (ℕ_discrete (get_or s.words 2 0) (t % 2 ^ 64))
         (λ hit.
-            let turn = its_turn entries root passes origin s r id t m here hit in
-            let h = home_at entries root passes origin s r id t m here turn in
-            let w : V = seat_of (Served t) (after_seeing (entries h.value) m) in
-            let k = (r.each id (seat_of (Waiting t) m) here).members.0 in
-            let told : Takes entries root t m (w, (0, Some h.value) ∷ me.1) = record {
-              value = h.value;
-              view = refl;
-              slot = ap (λ cs. (0, Some h.value) ∷ cs) bare;
-              begins = (k.begins.0, h.list ∙ k.begins.1);
-              mine = ap (entries_of m.worker) h.list ∙ k.mine;
-              same_root = h.same_root ∙ sym k.root;
-            } in (
-              w,
-              takes 0 (Some h.value),
-              ap (λ hs. get_elem? hs 0) h.home,
-              takes_it entries root passes origin s r id t m here turn h,
-              λ u n is' bare'. (
-                (λ _. along (λ u n. Takes entries root u n (w, (0, Some h.value) ∷ me.1)) (λ x. Waiting x) (λ x. refl) t u m n (sym is ∙ is') told),
-                (λ not. absurd (not (hit ∙ along (λ u n. t % 2 ^ 64 ≡ u % 2 ^ 64) (λ x. Waiting x) (λ x. refl) t u m n (sym is ∙ is') refl))),
-              ),
-            ))
+        let turn = its_turn entries root passes origin s r id t m here hit in
+        let h = home_at entries root passes origin s r id t m here turn in
+        let w : V = seat_of (Served t) (after_seeing (entries h.value) m) in
+        let k = (r.each id (seat_of (Waiting t) m) here).members.0 in
+        let told : Takes entries root t m (w, (0, Some h.value) ∷ me.1) = record {
+          value = h.value;
+          view = refl;
+          slot = ap (λ cs. (0, Some h.value) ∷ cs) bare;
+          begins = (k.begins.0, h.list ∙ k.begins.1);
+          mine = ap (entries_of m.worker) h.list ∙ k.mine;
+          same_root = h.same_root ∙ sym k.root;
+        } in (
+          w,
+          takes 0 (Some h.value),
+          ap (λ hs. get_elem? hs 0) h.home,
+          takes_it entries root passes origin s r id t m here turn h,
+          λ u n is' bare'. (
+            (λ _. along (λ u n. Takes entries root u n (w, (0, Some h.value) ∷ me.1)) (λ x. Waiting x) (λ x. refl) t u m n (sym is ∙ is') told),
+            (λ not. absurd (not (hit ∙ along (λ u n. t % 2 ^ 64 ≡ u % 2 ^ 64) (λ x. Waiting x) (λ x. refl) t u m n (sym is ∙ is') refl))),
+          ),
+        ))
         (λ miss. (
           me.0,
           keeps,

@@ -1,8 +1,8 @@
 -- A pass between two calls, and what a turn leaves of it.
-use Rattle.std.proofs.Common.{◌≡◌, ℕ, ◌%◌, ◌^◌, Bool, true, false, List, [], ◌∷◌, ◌++◌, length, drop, Option, Some, None, refl, sym, ap, ◌∙◌, subst}
+use Rattle.std.proofs.Common.{◌≡◌, ℕ, ◌%◌, ◌^◌, true, false, List, [], ◌∷◌, Option, None, refl, sym, ap, ◌∙◌, subst}
 use Rattle.atomic_table.specs.Table.{Me}
 use Rattle.atomic_table.specs.Seated.{TableId}
-use Rattle.turnstile.specs.Entries.{BeginsWith, entries_of, AddsAtMostOne}
+use Rattle.turnstile.specs.Entries.{AddsAtMostOne}
 use Rattle.turnstile.specs.Members.{seen_of, mine_of}
 use Rattle.turnstile.specs.Steps.{seat_of, after_seeing, after_leaving, HasTurn, MayLeave}
 use Rattle.turnstile.specs.Passes.{PassView, entered, has_left, has_ticket, Rests, IsPass}

@@ -1,26 +1,24 @@
 -- Each step keeps the rule.
-use Rattle.std.proofs.Common.{◌≡◌, ◌≢◌, ℕ, ◌+◌, ◌%◌, ◌^◌, ◌<◌, ◌≤◌, ◌⊎◌, zero, suc, cond, eqb, eq-eqb, List, [], ◌∷◌, ◌++◌, length, get_or, set, Option, Some, None, refl, sym, ap, ◌∙◌, subst, inl, inr, ⊎_elim, arith, append-nil, length-append}
+use Rattle.std.proofs.Common.{◌≡◌, ◌≢◌, ℕ, ◌+◌, ◌%◌, ◌^◌, ◌<◌, ◌≤◌, ◌⊎◌, zero, suc, cond, eqb, eq-eqb, List, [], ◌∷◌, ◌++◌, length, get_or, set, Option, Some, refl, sym, ap, ◌∙◌, subst, inl, inr, ⊎_elim, arith, append-nil, length-append}
 use Rattle.std.specs.List.{sum_by}
 use Rattle.std.proofs.lemmas.List.Sums.{sum_by-cons, sum_by-append}
-use mathlib.Core.Logic.{dite}
 use mathlib.Core.Option.{some, none, some-injective, some-ne-none}
 use mathlib.Core.Option as maybe
-use native.Mathlib.Decide.{ℕ_discrete}
 use lib.ListN.{get_elem?}
 use lib.Seq.{set-get_or}
-use Rattle.atomic_table.specs.Table.{State, Me, step, rest, keeps, takes, gives, stepped, Allows, Splits, Joins}
+use Rattle.atomic_table.specs.Table.{State}
 use Rattle.atomic_table.proofs.Lists.{at_set, set_again, set_else, at_longer, at_snoc, one_turn}
-use Rattle.turnstile.specs.Entries.{BeginsWith, entries_of}
-use Rattle.turnstile.specs.Members.{newcomers, everyone, first_of, others_of, pass_of, without_pass, joined, spent, times, size, seen_of, Knows, AllKnow}
-use Rattle.turnstile.specs.Tickets.{HasTicket, tickets, IsServed, IsInLine}
+use Rattle.turnstile.specs.Entries.{entries_of}
+use Rattle.turnstile.specs.Members.{first_of, others_of, pass_of, without_pass, joined, spent, times, size, seen_of, AllKnow}
+use Rattle.turnstile.specs.Tickets.{HasTicket, tickets, IsServed}
 use Rattle.turnstile.specs.Rule.{held, Agrees, TicketsDiffer, IsHome, IsOut, Kept}
-use Rattle.turnstile.specs.Steps.{seat_of, after_seeing, after_adding, drawn, Takes, looked, noted, gave}
+use Rattle.turnstile.specs.Steps.{seat_of, after_seeing, after_adding}
 use Rattle.turnstile.specs.declared.knowledge.Stage.{Stage}
 use Rattle.turnstile.specs.declared.knowledge.Stage.TheVariants.{Away, Waiting, Served, Noted}
 use Rattle.turnstile.specs.declared.knowledge.Member.{Member}
 use Rattle.turnstile.specs.declared.knowledge.Knowledge.{Knowledge}
 use Rattle.turnstile.proofs.Totals.{total_set, total_same, one_le, two_le, all_le}
-use Rattle.turnstile.proofs.Lines.{in_longer_line, in_shorter_line, below_next, ticket_of_served, one_ticket, Added, added-own, entries_of-append, same_after, know_longer}
+use Rattle.turnstile.proofs.Lines.{in_longer_line, in_shorter_line, below_next, ticket_of_served, Added, added-own, entries_of-append, same_after, know_longer}
 
 each_set : {A : Type 0} (P : A → Type 0) (views : List A) (id : ℕ) (w : A) → P w → ((j : ℕ) (v : A) → j ≢ id → get_elem? views j ≡ some v → P v)
     → (j : ℕ) (v : A) → get_elem? (set views id w) j ≡ some v → P v
@@ -52,22 +50,22 @@ module _ {E T : Type 0} where
   differ_set views id w differ new i j v u t at there has has' =
       ⊎_elim
       (λ (p : (i ≡ id) × (w ≡ v)). ⊎_elim
-          (λ (q : (j ≡ id) × (w ≡ u)). p.0 ∙ sym q.0)
-          (λ (q : (j ≢ id) × (get_elem? views j ≡ some u)). absurd (new t (subst (λ (x : Knowledge E T). HasTicket x.stage t) (sym p.1) has) j u q.0 q.1 has'))
-          (at_set views id j w u there))
+      (λ (q : (j ≡ id) × (w ≡ u)). p.0 ∙ sym q.0)
+      (λ (q : (j ≢ id) × (get_elem? views j ≡ some u)). absurd (new t (subst (λ (x : Knowledge E T). HasTicket x.stage t) (sym p.1) has) j u q.0 q.1 has'))
+      (at_set views id j w u there))
       (λ (p : (i ≢ id) × (get_elem? views i ≡ some v)). ⊎_elim
-          (λ (q : (j ≡ id) × (w ≡ u)). absurd (new t (subst (λ (x : Knowledge E T). HasTicket x.stage t) (sym q.1) has') i v p.0 p.1 has))
-          (λ (q : (j ≢ id) × (get_elem? views j ≡ some u)). differ i j v u t p.1 q.1 has has')
-          (at_set views id j w u there))
+      (λ (q : (j ≡ id) × (w ≡ u)). absurd (new t (subst (λ (x : Knowledge E T). HasTicket x.stage t) (sym q.1) has') i v p.0 p.1 has))
+      (λ (q : (j ≢ id) × (get_elem? views j ≡ some u)). differ i j v u t p.1 q.1 has has')
+      (at_set views id j w u there))
       (at_set views id i w v at)
 
   differ_snoc : (views : List (Knowledge E T)) (w : Knowledge E T) → ((t : ℕ) → HasTicket w.stage t → ⊥) → TicketsDiffer views → TicketsDiffer (views ++ w ∷ [])
   differ_snoc views w bare differ i j v u t at there has has' =
       ⊎_elim
       (λ (p : get_elem? views i ≡ some v). ⊎_elim
-          (λ (q : get_elem? views j ≡ some u). differ i j v u t p q has has')
-          (λ (q : w ≡ u). absurd (bare t (subst (λ (x : Knowledge E T). HasTicket x.stage t) (sym q) has')))
-          (at_snoc views w u j there))
+      (λ (q : get_elem? views j ≡ some u). differ i j v u t p q has has')
+      (λ (q : w ≡ u). absurd (bare t (subst (λ (x : Knowledge E T). HasTicket x.stage t) (sym q) has')))
+      (at_snoc views w u j there))
       (λ (p : w ≡ v). absurd (bare t (subst (λ (x : Knowledge E T). HasTicket x.stage t) (sym p) has)))
       (at_snoc views w v i at)
 
@@ -153,7 +151,7 @@ module _ {B E T : Type 0} (entries : B → List (ℕ × E)) (root : B → T) (pa
       moved s r id (seat_of Away m) w (set s.words 1 ((get_or s.words 1 0 + 1) % 2 ^ 64)) s.homes r.history r.served (r.next + 1) at
       (λ k. refl) refl (omega arith)
       (ap (λ ws. set ws 1 ((get_or ws 1 0 + 1) % 2 ^ 64)) r.words
-          ∙ ap (λ (n : ℕ). length r.history ∷ n ∷ r.served % 2 ^ 64 ∷ []) (let e : (r.next % 2 ^ 64 + 1) % 2 ^ 64 ≡ (r.next + 1) % 2 ^ 64 = omega arith in e))
+      ∙ ap (λ (n : ℕ). length r.history ∷ n ∷ r.served % 2 ^ 64 ∷ []) (let e : (r.next % 2 ^ 64 + 1) % 2 ^ 64 ≡ (r.next + 1) % 2 ^ 64 = omega arith in e))
       (λ t has j u ne there has'. let e : r.next ≡ t = has in let l = below_next r.served r.next u.stage t has' (r.each j u there).in_line in absurd (omega arith))
       record {
         members = mine.members;
@@ -162,22 +160,22 @@ module _ {B E T : Type 0} (entries : B → List (ℕ × E)) (root : B → T) (pa
       }
       (λ j u ne there a. record { members = a.members; in_line = in_longer_line r.served r.next u.stage a.in_line; alone = a.alone })
       (⊎_elim
-          (λ (h : IsHome entries root r.history origin s). inl record {
-            value = h.value;
-            home = h.home;
-            list = h.list;
-            same_root = h.same_root;
-            nobody = each_set (λ u. IsServed u.stage → ⊥) s.views id w (λ no. no) (λ j u ne there. h.nobody j u there);
-          })
-          (λ (o : IsOut entries root r.history s). inr record {
-            seat = o.seat;
-            view = o.view;
-            there = set_else s.views id o.seat w (λ e. absurd (subst (λ (u : V). IsServed u.stage) (same_view s.views o.seat id o.view (seat_of Away m) o.there at e) o.served)) ∙ o.there;
-            served = o.served;
-            seen = o.seen;
-            away = o.away;
-          })
-          r.slot)
+      (λ (h : IsHome entries root r.history origin s). inl record {
+        value = h.value;
+        home = h.home;
+        list = h.list;
+        same_root = h.same_root;
+        nobody = each_set (λ u. IsServed u.stage → ⊥) s.views id w (λ no. no) (λ j u ne there. h.nobody j u there);
+      })
+      (λ (o : IsOut entries root r.history s). inr record {
+        seat = o.seat;
+        view = o.view;
+        there = set_else s.views id o.seat w (λ e. absurd (subst (λ (u : V). IsServed u.stage) (same_view s.views o.seat id o.view (seat_of Away m) o.there at e) o.served)) ∙ o.there;
+        served = o.served;
+        seen = o.seen;
+        away = o.away;
+      })
+      r.slot)
       r.nobody_else
 
   -- a view whose ticket is served is the only one
@@ -198,8 +196,8 @@ module _ {B E T : Type 0} (entries : B → List (ℕ × E)) (root : B → T) (pa
   pub home_at : (s : St) (r : Rule s) (id t : ℕ) (m : Member E T) → get_elem? s.views id ≡ some (seat_of (Waiting t) m) → r.served ≡ t → IsHome entries root r.history origin s
   home_at s r id t m at turn = ⊎_elim (λ (h : IsHome entries root r.history origin s). h)
       (λ (o : IsOut entries root r.history s).
-          let e = same_seat s r o.seat id o.view (seat_of (Waiting t) m) o.there at o.served (sym turn) in
-          absurd (subst (λ (u : V). IsServed u.stage) (same_view s.views o.seat id o.view (seat_of (Waiting t) m) o.there at e) o.served))
+      let e = same_seat s r o.seat id o.view (seat_of (Waiting t) m) o.there at o.served (sym turn) in
+      absurd (subst (λ (u : V). IsServed u.stage) (same_view s.views o.seat id o.view (seat_of (Waiting t) m) o.there at e) o.served))
       r.slot
 
   -- kind 3, where the ticket is served
@@ -238,9 +236,9 @@ module _ {B E T : Type 0} (entries : B → List (ℕ × E)) (root : B → T) (pa
   out_at : (s : St) (r : Rule s) (id : ℕ) (st : Stage) (m : Member E T) → get_elem? s.views id ≡ some (seat_of st m) → IsServed st → (m.seen ≡ r.history) × (s.homes ≡ none ∷ [])
   out_at s r id st m at is = let v : V = seat_of st m in ⊎_elim (λ (h : IsHome entries root r.history origin s). absurd (h.nobody id v at is))
       (λ (o : IsOut entries root r.history s).
-          let e = same_seat s r o.seat id o.view v o.there at o.served (ticket_of_served r.served r.next st is (r.each id v at).in_line) in
-          let is_it = same_view s.views o.seat id o.view v o.there at e in
-          (ap (λ (u : V). seen_of u.members) (sym is_it) ∙ o.seen, o.away))
+      let e = same_seat s r o.seat id o.view v o.there at o.served (ticket_of_served r.served r.next st is (r.each id v at).in_line) in
+      let is_it = same_view s.views o.seat id o.view v o.there at e in
+      (ap (λ (u : V). seen_of u.members) (sym is_it) ∙ o.seen, o.away))
       r.slot
 
   -- kind 6
@@ -259,11 +257,14 @@ module _ {B E T : Type 0} (entries : B → List (ℕ × E)) (root : B → T) (pa
       (ap (λ ws. set ws 0 count) r.words ∙ ap (λ (n : ℕ). n ∷ r.next % 2 ^ 64 ∷ r.served % 2 ^ 64 ∷ []) counted)
       (λ u has j x ne there has'. ne (r.differ j id x v u there at has' has))
       record {
-        members = (record {
-          begins = ([], sym (append-nil list));
-          mine = ap (entries_of m.worker) longer ∙ (entries_of-append m.worker r.history added ∙ (λ i. k.mine i ++ added-own m.worker added own i));
-          root = k.root;
-        }, tt);
+        members = (
+          record {
+            begins = ([], sym (append-nil list));
+            mine = ap (entries_of m.worker) longer ∙ (entries_of-append m.worker r.history added ∙ (λ i. k.mine i ++ added-own m.worker added own i));
+            root = k.root;
+          },
+          tt,
+        );
         in_line = line;
         alone = λ _. refl;
       }
@@ -283,8 +284,8 @@ module _ {B E T : Type 0} (entries : B → List (ℕ × E)) (root : B → T) (pa
         away = now.1;
       })
       (λ k le. ap (entries_of k) longer ∙ (same_after m.worker k r.history added
-          (λ e. let one = one_le (times k) s.views id v at in let none_is = r.known k le in let here : times k v ≡ 1 = ap (λ n. times n v) (sym e) ∙ mine in absurd (omega arith)) own
-          ∙ r.nobody_else k le))
+      (λ e. let one = one_le (times k) s.views id v at in let none_is = r.known k le in let here : times k v ≡ 1 = ap (λ n. times n v) (sym e) ∙ mine in absurd (omega arith)) own
+      ∙ r.nobody_else k le))
 
   -- kind 4
   pub gives_back : (s : St) (r : Rule s) (id t stored : ℕ) (m : Member E T) (value : B) → get_elem? s.views id ≡ some (seat_of (Noted t) m)
@@ -376,26 +377,26 @@ module _ {B E T : Type 0} (entries : B → List (ℕ × E)) (root : B → T) (pa
       let left : V = without_pass v in let right : V = pass_of v in
       let mine = r.each id v at in
       let others : (j : ℕ) (u : V) → IsServed u.stage → get_elem? s.views j ≡ some u → get_elem? (set s.views id left ++ right ∷ []) j ≡ some u =
-          λ j u is there. at_longer (set s.views id left) (right ∷ []) j u (set_else s.views id j left (λ e. absurd (not_served v.stage away (subst (λ (x : V). IsServed x.stage) (same_view s.views j id u v there at e) is))) ∙ there) in
+      λ j u is there. at_longer (set s.views id left) (right ∷ []) j u (set_else s.views id j left (λ e. absurd (not_served v.stage away (subst (λ (x : V). IsServed x.stage) (same_view s.views j id u v there at e) is))) ∙ there) in
       let was : (j : ℕ) (u : V) → IsServed u.stage → get_elem? (set s.views id left ++ right ∷ []) j ≡ some u → get_elem? s.views j ≡ some u =
-          λ j u is there. ⊎_elim
-              (λ (p : get_elem? (set s.views id left) j ≡ some u). ⊎_elim
-                  (λ (q : (j ≡ id) × (left ≡ u)). absurd (subst (λ (x : V). IsServed x.stage) (sym q.1) is))
-                  (λ (q : (j ≢ id) × (get_elem? s.views j ≡ some u)). q.1)
-                  (at_set s.views id j left u p))
-              (λ (q : right ≡ u). absurd (subst (λ (x : V). IsServed x.stage) (sym q) is))
-              (at_snoc (set s.views id left) right u j there) in
+      λ j u is there. ⊎_elim
+      (λ (p : get_elem? (set s.views id left) j ≡ some u). ⊎_elim
+      (λ (q : (j ≡ id) × (left ≡ u)). absurd (subst (λ (x : V). IsServed x.stage) (sym q.1) is))
+      (λ (q : (j ≢ id) × (get_elem? s.views j ≡ some u)). q.1)
+      (at_set s.views id j left u p))
+      (λ (q : right ≡ u). absurd (subst (λ (x : V). IsServed x.stage) (sym q) is))
+      (at_snoc (set s.views id left) right u j there) in
       dealt s r (set s.views id left ++ right ∷ [])
       (λ f bare adds.
-          let a = sum_by-append f (set s.views id left) (right ∷ []) in
-          let b = total_set f s.views id v left at in
-          let c = sum_by-cons f right [] in
-          let d : f left + f right ≡ f v = cut_adds f bare adds v away in omega arith)
+      let a = sum_by-append f (set s.views id left) (right ∷ []) in
+      let b = total_set f s.views id v left at in
+      let c = sum_by-cons f right [] in
+      let d : f left + f right ≡ f v = cut_adds f bare adds v away in omega arith)
       (differ_snoc (set s.views id left) right (λ t no. no) (differ_set s.views id left r.differ (λ t no. absurd no)))
       (λ j u there. ⊎_elim
-          (each_set (λ x. Agrees r.history origin r.served r.next x) s.views id left (agrees_away (others_of v.members) (others_know r.history origin v.members mine.members)) (λ i x ne here. r.each i x here) j u)
-          (λ (q : right ≡ u). subst (λ x. Agrees r.history origin r.served r.next x) q (agrees_away (first_of v.members) (first_knows r.history origin v.members mine.members)))
-          (at_snoc (set s.views id left) right u j there))
+      (each_set (λ x. Agrees r.history origin r.served r.next x) s.views id left (agrees_away (others_of v.members) (others_know r.history origin v.members mine.members)) (λ i x ne here. r.each i x here) j u)
+      (λ (q : right ≡ u). subst (λ x. Agrees r.history origin r.served r.next x) q (agrees_away (first_of v.members) (first_knows r.history origin v.members mine.members)))
+      (at_snoc (set s.views id left) right u j there))
       (slot_stays s r (set s.views id left ++ right ∷ []) others was)
 
   -- kind 8
@@ -407,25 +408,25 @@ module _ {B E T : Type 0} (entries : B → List (ℕ × E)) (root : B → T) (pa
       let there' : get_elem? s.views other ≡ some w = sym (set_else s.views id other both apart) ∙ there in
       let a = r.each id v at in let b = r.each other w there' in
       let stays : (j : ℕ) (u : V) → IsServed u.stage → get_elem? s.views j ≡ some u → get_elem? (set vs other spent) j ≡ some u =
-          λ j u is here.
-              set_else vs other j spent (λ e. absurd (not_served w.stage away' (subst (λ (x : V). IsServed x.stage) (same_view s.views j other u w here there' e) is)))
-                  ∙ (set_else s.views id j both (λ e. absurd (not_served v.stage away (subst (λ (x : V). IsServed x.stage) (same_view s.views j id u v here at e) is))) ∙ here) in
+      λ j u is here.
+      set_else vs other j spent (λ e. absurd (not_served w.stage away' (subst (λ (x : V). IsServed x.stage) (same_view s.views j other u w here there' e) is)))
+      ∙ (set_else s.views id j both (λ e. absurd (not_served v.stage away (subst (λ (x : V). IsServed x.stage) (same_view s.views j id u v here at e) is))) ∙ here) in
       let was : (j : ℕ) (u : V) → IsServed u.stage → get_elem? (set vs other spent) j ≡ some u → get_elem? s.views j ≡ some u =
-          λ j u is here. ⊎_elim
-              (λ (p : (j ≡ other) × (spent ≡ u)). absurd (subst (λ (x : V). IsServed x.stage) (sym p.1) is))
-              (λ (p : (j ≢ other) × (get_elem? vs j ≡ some u)). ⊎_elim
-                  (λ (q : (j ≡ id) × (both ≡ u)). absurd (subst (λ (x : V). IsServed x.stage) (sym q.1) is))
-                  (λ (q : (j ≢ id) × (get_elem? s.views j ≡ some u)). q.1)
-                  (at_set s.views id j both u p.1))
-              (at_set vs other j spent u here) in
+      λ j u is here. ⊎_elim
+      (λ (p : (j ≡ other) × (spent ≡ u)). absurd (subst (λ (x : V). IsServed x.stage) (sym p.1) is))
+      (λ (p : (j ≢ other) × (get_elem? vs j ≡ some u)). ⊎_elim
+      (λ (q : (j ≡ id) × (both ≡ u)). absurd (subst (λ (x : V). IsServed x.stage) (sym q.1) is))
+      (λ (q : (j ≢ id) × (get_elem? s.views j ≡ some u)). q.1)
+      (at_set s.views id j both u p.1))
+      (at_set vs other j spent u here) in
       dealt s r (set vs other spent)
       (λ f bare adds.
-          let x = total_set f s.views id v both at in
-          let y = total_set f vs other w spent there in
-          let z : f both ≡ f v + f w = join_adds f adds v w away away' in omega arith)
+      let x = total_set f s.views id v both at in
+      let y = total_set f vs other w spent there in
+      let z : f both ≡ f v + f w = join_adds f adds v w away away' in omega arith)
       (differ_set vs other spent (differ_set s.views id both r.differ (λ t no. absurd no)) (λ t no. absurd no))
       (each_set (λ x. Agrees r.history origin r.served r.next x) vs other spent (agrees_away [] tt)
-          (λ j u ne here. each_set (λ x. Agrees r.history origin r.served r.next x) s.views id both
-              (agrees_away (w.members ++ v.members) (both_know r.history origin w.members v.members b.members a.members))
-              (λ i x ne' here'. r.each i x here') j u here))
+      (λ j u ne here. each_set (λ x. Agrees r.history origin r.served r.next x) s.views id both
+      (agrees_away (w.members ++ v.members) (both_know r.history origin w.members v.members b.members a.members))
+      (λ i x ne' here'. r.each i x here') j u here))
       (slot_stays s r (set vs other spent) stays was)

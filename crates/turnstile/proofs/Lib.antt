@@ -3,3 +3,5 @@ pub mod Lines
 pub mod Keeps
 pub mod Allowed
 pub mod Calls
+pub mod Dealt
+pub mod Ends

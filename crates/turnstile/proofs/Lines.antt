@@ -1,11 +1,11 @@
 -- Tickets in line, and entries of one worker, as a step leaves them.
-use Rattle.std.proofs.Common.{◌≡◌, ◌≢◌, ℕ, ◌+◌, ◌<◌, ◌≤◌, Bool, true, false, cond, eqb, List, [], ◌∷◌, ◌++◌, filter, length, drop, refl, sym, ap, ◌∙◌, subst, inl, inr, ⊎_elim, arith, append_assoc, append-nil, ne_eqb, eq-eqb}
+use Rattle.std.proofs.Common.{◌≡◌, ◌≢◌, ℕ, ◌+◌, ◌<◌, cond, eqb, List, [], ◌∷◌, ◌++◌, length, drop, refl, sym, ap, ◌∙◌, subst, inl, inr, arith, append_assoc, append-nil, ne_eqb, eq-eqb}
 use Rattle.std.proofs.lemmas.List.Elements.{filter-append}
 use Rattle.std.proofs.lemmas.List.Prefix.{front_rest}
 use Rattle.std.specs.List.{sum_by, count_by}
 use Rattle.std.proofs.lemmas.List.Sums.{sum_by-cons}
 use Rattle.turnstile.specs.Entries.{BeginsWith, entries_of, AddsAtMostOne}
-use Rattle.turnstile.specs.Members.{Knows, AllKnow}
+use Rattle.turnstile.specs.Members.{AllKnow}
 use Rattle.turnstile.specs.Tickets.{HasTicket, tickets, IsServed, IsInLine}
 use Rattle.turnstile.specs.declared.knowledge.Stage.{Stage}
 use Rattle.turnstile.specs.declared.knowledge.Stage.TheVariants.{Away, Waiting, Served, Noted}

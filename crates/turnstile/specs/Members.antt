@@ -2,7 +2,6 @@
 -- A seat has members: one for a pass, all of them for the first seat and for the last, and none once it was joined.
 use Rattle.std.specs.Prelude.{◌≡◌, ℕ, zero, suc, ◌+◌, nat_eq, count_by, List, [], ◌∷◌, ◌++◌, length}
 use Rattle.turnstile.specs.Entries.{BeginsWith, entries_of}
-use Rattle.turnstile.specs.declared.knowledge.Stage.{Stage}
 use Rattle.turnstile.specs.declared.knowledge.Stage.TheVariants.{Away}
 use Rattle.turnstile.specs.declared.knowledge.Member.{Member}
 use Rattle.turnstile.specs.declared.knowledge.Knowledge.{Knowledge}

@@ -1,7 +1,7 @@
 //! What the seats at the table know. No value of these types is made: they are read by proofs alone.
 use crate::counted::Counted;
-use atomic_table::{Seat, Shared, Table};
 use crate::rule::{Beginning, Turns};
+use atomic_table::{Seat, Shared, Table};
 use std::alloc::Global;
 use std::collections::LinkedList;
 

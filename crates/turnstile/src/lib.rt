@@ -9,6 +9,7 @@ mod knowledge;
 mod pass;
 mod plays;
 mod rule;
+mod seats;
 mod steps;
 mod turn;
 mod turnstile;

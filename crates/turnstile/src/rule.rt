@@ -6,6 +6,7 @@ use std::marker::PhantomData;
 use std::snapshot::Snapshot;
 
 /// What the table is told once: the value that was given to `new`, and how many passes there are.
+#[derive(Drop)]
 pub struct Beginning<B> {
     pub value: Snapshot<B>,
     pub passes: u32,

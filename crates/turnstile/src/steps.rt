@@ -89,12 +89,7 @@ fn note<B: Counted, J: Leaving<B::Entry>>(common: &Common<B>, seat: &mut Place<B
 }
 
 /// Stores how many entries the value has, puts it back, and gives the slot and the ticket back.
-pub(crate) fn give_back<B: Counted>(
-    common: &Common<B>,
-    seat: &mut Place<B>,
-    ticket: u64,
-    value: B,
-)
+pub(crate) fn give_back<B: Counted>(common: &Common<B>, seat: &mut Place<B>, ticket: u64, value: B)
     requires table { (seat.old.table_id ≡ common.now.table_id) × (common.now.table_id.words ≡ 3) }
     requires served { (m : Member B.Entry B.Root) × MayLeave B.entries B.root m ticket value seat.old.me }
     ensures table { seat.new.table_id ≡ seat.old.table_id }

@@ -1,7 +1,6 @@
-use Rattle.std.proofs.Common.{◌≡◌, ℕ, ◌%◌, ◌^◌, [], sym, ap, ◌∙◌, arith}
-use Rattle.turnstile.specs.declared.knowledge.Stage.TheVariants.{Away, Waiting}
+use Rattle.std.proofs.Common.{ap, ◌∙◌, arith}
+use Rattle.turnstile.specs.declared.knowledge.Stage.TheVariants.{Waiting}
 use Rattle.turnstile.specs.declared.knowledge.Knowledge.{Knowledge}
-use Rattle.turnstile.specs.Steps.{seat_of}
 use Rattle.turnstile.proofs.Allowed.{draw_allowed}
 use Rattle.turnstile.proofs.steps.draw.Goals as goal
 

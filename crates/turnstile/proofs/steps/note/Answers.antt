@@ -1,5 +1,5 @@
 use Rattle.std.proofs.Common.{arith}
-use Rattle.std.proofs.Common.{◌≡◌, ap, sym, ◌∙◌, length}
+use Rattle.std.proofs.Common.{ap, sym, ◌∙◌, length}
 use Rattle.turnstile.proofs.Lines.{added_of}
 use Rattle.turnstile.proofs.Allowed.{note_allowed}
 use Rattle.turnstile.proofs.steps.note.Goals as goal

@@ -1,6 +1,4 @@
-use Rattle.std.proofs.Common.{◌≡◌, ℕ, ◌%◌, ◌^◌, [], sym, ap, ◌∙◌, arith}
-use Rattle.turnstile.specs.declared.knowledge.Stage.TheVariants.{Waiting}
-use Rattle.turnstile.specs.Steps.{seat_of}
+use Rattle.std.proofs.Common.{sym, ap, ◌∙◌, arith}
 use Rattle.turnstile.proofs.Allowed.{look_allowed}
 use Rattle.turnstile.proofs.steps.wait_for.Goals as goal
 

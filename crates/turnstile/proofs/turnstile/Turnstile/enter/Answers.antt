@@ -1,6 +1,6 @@
-use Rattle.std.proofs.Common.{◌≡◌, ◌++◌, sym, ap, ◌∙◌, subst}
+use Rattle.std.proofs.Common.{◌++◌, sym, ap, ◌∙◌}
 use Rattle.turnstile.specs.Passes.{entered}
-use Rattle.turnstile.specs.Entries.{BeginsWith, entries_of}
+use Rattle.turnstile.specs.Entries.{entries_of}
 use Rattle.turnstile.proofs.Calls.{member, away, view_of, holds_turn, turn_view}
 use Rattle.turnstile.proofs.turnstile.Turnstile.enter.Goals as goal
 
@@ -22,7 +22,7 @@ returns-clause-seen g c =
     let root = g.B.Counted.root c.pass.inside.origin.value.value.value in
     let me = c.pass.inside.seat.me in
     turn_view g.B.Counted.entries g.B.Counted.root c.take_turn-ticket.new.seat.table_id _ _ _ _ _ free turn
-        ∙ (ap (λ table. entered list (view_of table worker root me)) c.take_turn-ticket.ensures.table ∙ ap (λ p. entered list p) c.pass.view_is)
+    ∙ (ap (λ table. entered list (view_of table worker root me)) c.take_turn-ticket.ensures.table ∙ ap (λ p. entered list p) c.pass.view_is)
 
 pub returns-clause-begins : goal.returns-clause-begins
 returns-clause-begins g c =
