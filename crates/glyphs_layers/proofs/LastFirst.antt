@@ -37,10 +37,15 @@ pub turned_back : (items turned : List DrawnPoint) (len : ℕ) → len ≡ lengt
     → take len (turned ++ drop (length turned) items) ≡ last_first items
 turned_back items turned len e some is =
     let same : length turned ≡ len =
-        omega (
-          arith, e, some, ap length is, length-append (drop (length items - 1) items) (take (length items - 1) items),
-          length-drop (length items - 1) items, length-take (length items - 1) items,
-        ) in
+    omega (
+      arith,
+      e,
+      some,
+      ap length is,
+      length-append (drop (length items - 1) items) (take (length items - 1) items),
+      length-drop (length items - 1) items,
+      length-take (length items - 1) items,
+    ) in
     ap (λ (k : ℕ). take k (turned ++ drop (length turned) items)) (sym same)
     ∙ take-append_seam turned (drop (length turned) items)
     ∙ is

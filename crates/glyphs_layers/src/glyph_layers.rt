@@ -111,7 +111,13 @@ fn glyph_layers(
     ensures failures { OnOk result (first.new ≡ noted first.old (glyph_failures tree.now masters.now glyph)) }
 {
     optional(tree, glyph, b"layers", &Each(Dictionary(Entry)), first);
-    read_layers(alloc, tree, items_under(tree, glyph, b"layers"), masters, first)
+    read_layers(
+        alloc,
+        tree,
+        items_under(tree, glyph, b"layers"),
+        masters,
+        first,
+    )
 }
 
 /// The masters' locations.

@@ -144,8 +144,7 @@ fn put_last_first(points: &mut Vec<DrawnPoint>)
 /// Of a list with a last item, that goes first, and then come the others in their order. A law: the function does nothing.
 pub fn last_items_go_first()
     ensures { (front : List SeenPoint) (last : SeenPoint) → last_first (front ++ last ∷ []) ≡ last ∷ front }
-{
-}
+{}
 
 /// The points of these nodes, in their order.
 fn read_nodes(
@@ -230,8 +229,7 @@ fn read_coordinate(tree: &Tree, number: u32, first: &mut FirstFailure) -> Fixed
 fn note_type(tree: &Tree, node: u32, kind: u32, first: &mut FirstFailure)
     ensures { first.new ≡ noted first.old (type_failures tree.now node kind) }
 {
-    if is_line(tree, kind) {
-    } else if is_cubic(tree, kind) {
+    if is_line(tree, kind) {} else if is_cubic(tree, kind) {
         note_at(tree, node, Rule::CubicNode, first);
     } else if is_quadratic(tree, kind) {
         note_at(tree, node, Rule::WrongShape, first);
