@@ -1,3 +1,4 @@
-mod ReadLaws
+pub mod LastFirst
+pub mod ReadLaws
 mod Triangle
 mod WorkedRows

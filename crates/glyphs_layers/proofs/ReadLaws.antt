@@ -1,5 +1,5 @@
 -- What holds of each glyph whose layers are read: the limits that the readers above rely on.
-use Rattle.std.proofs.Common.{◌≡◌, ℕ, ◌<◌, ◌≤◌, Bool, true, false, ◌&&◌, List, [], ◌∷◌, ◌++◌, length, map, Option, Some, None, Result, Ok, Err, suc, not, ltb, refl, sym, ◌∙◌, ◌^◌, subst, arith, lit<}
+use Rattle.std.proofs.Common.{◌≡◌, ℕ, ◌<◌, ◌≤◌, Bool, true, false, ◌&&◌, List, [], ◌∷◌, ◌++◌, length, map, Option, Some, None, Result, Ok, Err, suc, not, ltb, cond, refl, sym, ap, ◌∙◌, ◌^◌, subst, arith, lit<}
 use Rattle.std.specs.Prelude.{◌*◌, codes, is_some, flat_map, pos, neg_ℤ, ◌≤ℤ◌, if◌then◌else◌, ◌==◌, slice_index, IfOk}
 use Rattle.std.specs.List.{All, AllByRecursion, count_by, list_all}
 use Rattle.std.specs.Option.{option_map_or}
@@ -16,9 +16,11 @@ use Rattle.font_ir.specs.declared.glyph.Shape.{Shape}
 use Rattle.font_ir.specs.declared.glyph.Shape.TheVariants.{Path, Component}
 use Rattle.font_ir.specs.declared.glyph.LayerIr.{LayerIr}
 use Rattle.font_ir.specs.declared.glyph.GlyphIr.{GlyphIr}
-use Rattle.font_ir.specs.FlatGlyphs.{IsSmall, IsSmallFixed, IsSmallPoint, AreGlyphPlaces}
+use Rattle.font_ir.specs.PlaceLaws.{origin_alone}
+use Rattle.font_ir.specs.FlatGlyphs.{IsSmall, IsSmallFixed, IsSmallPoint}
 use Rattle.font_ir.specs.ReadGlyphs.{IsReadGlyph, HasNoComponents, HasNoAnchors, HasPoints, IsInRange, is_component, IsPath}
 use Rattle.refusal_codes.specs.declared.errors.ReadError.{ReadError}
+use Rattle.refusal_codes.specs.declared.rule.Rule.TheVariants.{MissingLayer}
 use Rattle.refusal_codes.specs.declared.first.Failure.{Failure}
 use Rattle.refusal_codes.specs.First.{first_of, foremost, refusal_of}
 use Rattle.refusal_codes.specs.declared.job.TheConstants.{RAW}
@@ -144,14 +146,6 @@ no_components (Path contour ∷ shapes) h = omega (arith, no_components shapes h
 no_components (Component base at scale quarters ∷ shapes) h = absurd h.0
 
 -- ---- a glyph at one place
-
-origin_alone : AreGlyphPlaces ([] ∷ [])
-origin_alone = record {
-  few = omega arith;
-  one_length = λ i j d below within. absurd (omega arith);
-  different = λ i j d below within. absurd (omega arith);
-  origin = (0, [], omega arith, refl, λ k d within. absurd (omega arith));
-}
 
 -- what holds of a glyph that is read
 pub record Facts (given : ℕ) (glyph : GlyphIr) : Type 0 where
@@ -282,23 +276,44 @@ read_anchors number (Ok x) facts = facts.anchors
 -- ---- the masters' layers
 
 -- there are as many layers as masters exactly where each has one
+one_more : (t : Tree) (rest : List LayerIr) (k : ℕ) (o : Option ℕ) → length rest ≤ k
+    → length (option_map_or (λ n. layer_record t n ∷ []) o [] ++ rest) ≤ suc k
+one_more t rest k None le = omega (arith, le)
+one_more t rest k (Some n) le = omega (arith, le)
+
 layers_at_most : (t : Tree) (ns : List ℕ) (ms : List Master) → length (flat_map (master_layers t ns) ms) ≤ length ms
 layers_at_most t ns [] = omega arith
-layers_at_most t ns (m ∷ ms) = chosen (layer_of t ns m)
-  where
-    chosen : (o : Option ℕ)
-        → length (option_map_or (λ n. layer_record t n ∷ []) o [] ++ flat_map (master_layers t ns) ms) ≤ suc (length ms)
-    chosen None = omega (arith, layers_at_most t ns ms)
-    chosen (Some n) = omega (arith, layers_at_most t ns ms)
+layers_at_most t ns (m ∷ ms) = one_more t _ (length ms) (layer_of t ns m) (layers_at_most t ns ms)
 
-pub layers_there : (t : Tree) (ns : List ℕ) (ms : List Master)
+one_fewer : (t : Tree) (rest : List LayerIr) (k : ℕ) (o : Option ℕ) (all : Bool) → length rest ≤ k
+    → ltb (length rest) k ≡ not all
+    → ltb (length (option_map_or (λ n. layer_record t n ∷ []) o [] ++ rest)) (suc k) ≡ not (is_some o && all)
+one_fewer t rest k None all le e = grind (arith, nat_tests)
+one_fewer t rest k (Some n) all le e = same_test (length rest) k ∙ e
+  where
+    same_test : (a b : ℕ) → ltb (suc a) (suc b) ≡ ltb a b
+    same_test a b = grind (arith, nat_tests)
+
+layers_there : (t : Tree) (ns : List ℕ) (ms : List Master)
     → ltb (length (flat_map (master_layers t ns) ms)) (length ms)
     ≡ not (list_all (λ (m : Master). is_some (layer_of t ns m)) ms)
 layers_there t ns [] = refl
-layers_there t ns (m ∷ ms) = chosen (layer_of t ns m)
-  where
-    chosen : (o : Option ℕ)
-        → ltb (length (option_map_or (λ n. layer_record t n ∷ []) o [] ++ flat_map (master_layers t ns) ms)) (suc (length ms))
-        ≡ not (is_some o && list_all (λ (m : Master). is_some (layer_of t ns m)) ms)
-    chosen None = let few = layers_at_most t ns ms in grind (arith, nat_tests)
-    chosen (Some n) = layers_there t ns ms
+layers_there t ns (m ∷ ms) =
+    one_fewer t _ (length ms) (layer_of t ns m) (list_all (λ (m : Master). is_some (layer_of t ns m)) ms)
+    (layers_at_most t ns ms) (layers_there t ns ms)
+
+missing_by : (t : Tree) (g : ℕ) (b : Bool)
+    → cond (not b) (Some (record { rule = MissingLayer; place = place_at t g })) None
+    ≡ foremost (cond b [] (record { rule = MissingLayer; place = place_at t g } ∷ []))
+missing_by t g true = refl
+missing_by t g false = refl
+
+-- what is missing, by the number of layers
+pub missing_told : (t : Tree) (ms : List Master) (g : ℕ) (layers : List LayerIr) (b : Bool)
+    → layers ≡ flat_map (master_layers t (layer_numbers t g)) ms → ltb (length layers) (length ms) ≡ b
+    → cond b (Some (record { rule = MissingLayer; place = place_at t g })) None ≡ foremost (glyph_whole_failures t ms g)
+unfolding glyph_whole_failures
+missing_told t ms g layers b same e =
+    ap (λ (x : Bool). cond x (Some (record { rule = MissingLayer; place = place_at t g })) None)
+    (sym e ∙ ap (λ (ls : List LayerIr). ltb (length ls) (length ms)) same ∙ layers_there t (layer_numbers t g) ms)
+    ∙ missing_by t g (list_all (λ (m : Master). is_some (layer_of t (layer_numbers t g) m)) ms)

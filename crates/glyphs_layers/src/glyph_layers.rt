@@ -1,9 +1,9 @@
 ghost use Rattle.std.specs.Prelude.{◌≡◌, ◌<◌, ◌^◌, length, map, flat_map, slice_get, Ok, Err, IfOk, OnOk, IfSome, [], ◌∷◌, ◌++◌};
 ghost use Rattle.glyphs_source.specs.HeaderReading.{header_of};
 ghost use Rattle.font_ir.specs.ReadGlyphs.{IsReadGlyph, HasNoComponents, HasNoAnchors};
-ghost use Rattle.refusal_codes.specs.First.{noted};
+ghost use Rattle.refusal_codes.specs.First.{noted, foremost};
 ghost use Rattle.refusal_codes.specs.Gives.{Gives};
-ghost use Rattle.glyphs_layers.specs.LayerRules.{layer_numbers, glyph_failures};
+ghost use Rattle.glyphs_layers.specs.LayerRules.{layer_numbers, glyph_failures, glyph_whole_failures};
 ghost use Rattle.glyphs_layers.specs.LayerReading.{master_layers, glyph_of};
 
 use crate::layers::{Entry, read_layers};
@@ -52,7 +52,7 @@ pub fn raw_glyph(
 }
 
 /// The layers of the glyph with this name, number and dictionary.
-#[tactic(auto, unfolding(crate::specs::LayerReading::glyph_of, crate::specs::LayerReading::glyph_record, crate::specs::LayerRules::glyph_whole_failures))]
+#[tactic(auto, unfolding(crate::specs::LayerReading::glyph_of, crate::specs::LayerReading::glyph_record))]
 fn read_glyph(
     alloc: Global,
     tree: &Tree,
@@ -70,11 +70,7 @@ fn read_glyph(
     if let Some(failure) = first.get() {
         return Err(failure.refused(job::RAW, name.copy(alloc)?));
     }
-    if layers.len() < masters.len() {
-        let failure = Failure {
-            rule: Rule::MissingLayer,
-            place: place_at(tree, glyph),
-        };
+    if let Some(failure) = missing_layer(tree, masters, glyph, layers.as_slice()) {
         return Err(failure.refused(job::RAW, name.copy(alloc)?));
     }
     Ok(GlyphIr {
@@ -84,6 +80,22 @@ fn read_glyph(
         places: places(alloc, masters)?,
         layers: Sequence::from_vec(layers),
     })
+}
+
+/// The whole rule that a glyph's layers fail: that a master has none.
+fn missing_layer(tree: &Tree, masters: &[Master], glyph: u32, layers: &[LayerIr]) -> Option<Failure>
+    requires { layers.now ≡ flat_map (master_layers tree.now (layer_numbers tree.now glyph)) masters.now }
+    ensures { result ≡ foremost (glyph_whole_failures tree.now masters.now glyph) }
+{
+    let missing = layers.len() < masters.len();
+    if missing {
+        Some(Failure {
+            rule: Rule::MissingLayer,
+            place: place_at(tree, glyph),
+        })
+    } else {
+        None
+    }
 }
 
 /// The layers of the masters that have one, and what fails of the glyph's layers.
@@ -99,7 +111,13 @@ fn glyph_layers(
     ensures failures { OnOk result (first.new ≡ noted first.old (glyph_failures tree.now masters.now glyph)) }
 {
     optional(tree, glyph, b"layers", &Each(Dictionary(Entry)), first);
-    read_layers(alloc, tree, items_under(tree, glyph, b"layers"), masters, first)
+    read_layers(
+        alloc,
+        tree,
+        items_under(tree, glyph, b"layers"),
+        masters,
+        first,
+    )
 }
 
 /// The masters' locations.

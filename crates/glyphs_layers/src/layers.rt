@@ -96,7 +96,13 @@ fn read_layer(
     ensures layer { IfOk result (λ read. read ≡ layer_record tree.now layer) }
     ensures failures { OnOk result (first.new ≡ noted first.old (layer_failures tree.now layer)) }
 {
-    required(tree, layer, b"width", &Whole(Range::Natural(0, 32767)), first);
+    required(
+        tree,
+        layer,
+        b"width",
+        &Whole(Range::Natural(0, 32767)),
+        first,
+    );
     let shapes = read_shapes_under(alloc, tree, layer, first)?;
     optional(tree, layer, b"anchors", &EmptyList, first);
     Ok(LayerIr {

@@ -6,3 +6,4 @@ mod layers;
 mod paths;
 
 pub use glyph_layers::raw_glyph;
+pub use paths::last_items_go_first;

@@ -1,8 +1,9 @@
-ghost use Rattle.std.specs.Prelude.{◌≡◌, ◌++◌, map, flat_map, IfOk, OnOk};
+ghost use Rattle.std.specs.Prelude.{◌≡◌, ◌++◌, List, [], ◌∷◌, map, flat_map, IfOk, OnOk};
+ghost use Rattle.font_ir.specs.declared.glyph.DrawnPoint.{DrawnPoint as SeenPoint};
 ghost use Rattle.refusal_codes.specs.First.{noted};
 ghost use Rattle.source_values.specs.Asking.{optional, whole_failures};
 ghost use Rattle.glyphs_layers.specs.LayerRules.{is_line, is_cubic, is_quadratic, type_failures, node_parts_failures, node_failures, nodes_failures, closed_failures, other_shape_failures, shape_parts_failures, shape_failures};
-ghost use Rattle.glyphs_layers.specs.LayerReading.{coordinate_of, point_by, point_of, contour_of, paths_of, shapes_of};
+ghost use Rattle.glyphs_layers.specs.LayerReading.{coordinate_of, point_by, point_of, last_first, contour_of, paths_of, shapes_of};
 
 use fixed_math::Fixed;
 use font_ir::{Contour, DrawnPoint, Shape};
@@ -124,13 +125,26 @@ fn read_contour(
     ensures failures { OnOk result (first.new ≡ noted first.old (flat_map (node_failures tree.now) nodes.now)) }
 {
     let mut points = read_nodes(alloc, tree, nodes, first)?;
-    if !points.is_empty() {
-        points.as_mut_slice().rotate_right(1);
-    }
+    put_last_first(&mut points);
     Ok(Contour {
         points: Sequence::from_vec(points),
     })
 }
+
+/// Moves the last point to the front.
+#[tactic(auto, using(crate::proofs::LastFirst::rotated, crate::proofs::LastFirst::kept_empty))]
+fn put_last_first(points: &mut Vec<DrawnPoint>)
+    ensures { points.new.items ≡ last_first points.old.items }
+{
+    if !points.is_empty() {
+        points.as_mut_slice().rotate_right(1);
+    }
+}
+
+/// Of a list with a last item, that goes first, and then come the others in their order. A law: the function does nothing.
+pub fn last_items_go_first()
+    ensures { (front : List SeenPoint) (last : SeenPoint) → last_first (front ++ last ∷ []) ≡ last ∷ front }
+{}
 
 /// The points of these nodes, in their order.
 fn read_nodes(
@@ -215,8 +229,7 @@ fn read_coordinate(tree: &Tree, number: u32, first: &mut FirstFailure) -> Fixed
 fn note_type(tree: &Tree, node: u32, kind: u32, first: &mut FirstFailure)
     ensures { first.new ≡ noted first.old (type_failures tree.now node kind) }
 {
-    if is_line(tree, kind) {
-    } else if is_cubic(tree, kind) {
+    if is_line(tree, kind) {} else if is_cubic(tree, kind) {
         note_at(tree, node, Rule::CubicNode, first);
     } else if is_quadratic(tree, kind) {
         note_at(tree, node, Rule::WrongShape, first);

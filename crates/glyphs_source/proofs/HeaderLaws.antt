@@ -180,8 +180,8 @@ pub read_header : (t : Tree) (h : Header) → header_of t ≡ Ok h → IsReadHea
 unfolding header_of
 read_header t h e =
     let parts =
-        judged_ok (refusal_of HEADER []) (first_of (header_failures t)) (foremost (header_whole_failures t))
-        (header_record t) h e in
+    judged_ok (refusal_of HEADER []) (first_of (header_failures t)) (foremost (header_whole_failures t))
+    (header_record t) h e in
     subst IsReadHeader parts.2 (read_record t parts.0 parts.1)
 
 -- the same of what a call answers

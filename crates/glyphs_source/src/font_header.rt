@@ -30,8 +30,7 @@ pub fn header(alloc: Global, tree: &Tree) -> Result<Header, ReadError>
 /// nothing.
 pub fn headers_have_one_master()
     ensures { (tree : SeenTree) (header : SeenHeader) → header_of tree ≡ Ok header → IsReadHeader header }
-{
-}
+{}
 
 /// What `header` answers.
 #[tactic(auto, unfolding(crate::specs::HeaderReading::header_of))]

@@ -58,7 +58,7 @@ past_digits [] rest e = omega arith
 past_digits (d ∷ ds) rest e =
     let parts = both (is_ascii_digit d) (list_all is_ascii_digit ds) e in
     let k : position_or_len is_point (ds ++ rest) ≡ length ds + position_or_len is_point rest =
-        past_digits ds rest parts.1 in
+    past_digits ds rest parts.1 in
     ap (λ (b : Bool). cond (not b) (1 + position_or_len is_point (ds ++ rest)) 0) (digit_no_byte 46 d (omega arith) parts.0)
     ∙ omega (arith, k)
 
@@ -79,7 +79,7 @@ nowhere : (ds : List ℕ) → list_all is_ascii_digit ds ≡ true → position i
 nowhere ds e =
     let k : position_or_len is_point (ds ++ []) ≡ length ds + 0 = past_digits ds [] e in
     let same : position_or_len is_point (ds ++ []) ≡ position_or_len is_point ds =
-        ap (λ (xs : List ℕ). position_or_len is_point xs) (append-nil ds) in
+    ap (λ (xs : List ℕ). position_or_len is_point xs) (append-nil ds) in
     no_place _ _ (omega (arith, k, same))
 
 -- ---- behind the sign
@@ -114,20 +114,24 @@ rest_by : (negative : Bool) (text : List ℕ) (o : Option ℕ) (d : Decimal) →
     → unsigned_by negative text o ≡ Some d → IsRest negative text d
 unfolding fraction_of
 rest_by negative text None d at e =
-    let g = given (are_digits text) (number negative (digits_value text) 0) d e in
-    (
-      text, [], sym (append-nil text), g.0, refl,
+    let g = given (are_digits text) (number negative (digits_value text) 0) d e in (
+      text,
+      [],
+      sym (append-nil text),
+      g.0,
+      refl,
       g.1 ∙ ap (λ (n : ℕ). number negative (digits_value text) n) (sym no_billionths),
     )
 rest_by negative text (Some k) d at e =
     let front = take k text in
     let back = drop (k + 1) text in
     let g = given (are_digits front && are_digits back) (number negative (digits_value front) (billionths_of back)) d e in
-    let tests = both (are_digits front) (are_digits back) g.0 in
-    (
-      front, back,
+    let tests = both (are_digits front) (are_digits back) g.0 in (
+      front,
+      back,
       split_at_point text k at ∙ ap (λ (xs : List ℕ). front ++ xs) (sym (pointed back tests.1)),
-      tests.0, (some_digits back tests.1).1,
+      tests.0,
+      (some_digits back tests.1).1,
       g.1 ∙ ap (λ (n : ℕ). number negative (digits_value front) n) (nine back),
     )
 
@@ -215,7 +219,7 @@ back_sign false whole fraction o e k =
 pub given_back : (text : List ℕ) (d : Decimal) → Spells text d → decimal_of text ≡ Some d
 given_back text d s =
     let same : number d.negative (digits_value s.whole) (digits_value (nine_digits s.fraction)) ≡ d =
-        λ i. record { negative = d.negative; whole = sym s.whole_part i; billionths = sym s.billionths i } in
+    λ i. record { negative = d.negative; whole = sym s.whole_part i; billionths = sym s.billionths i } in
     ap decimal_of s.parts
     ∙ back_sign d.negative s.whole s.fraction (Some d) s.whole_digits
     (back_rest d.negative s.whole s.fraction s.whole_digits s.fraction_digits ∙ ap (λ (x : Decimal). Some x) same)

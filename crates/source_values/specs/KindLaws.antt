@@ -68,8 +68,7 @@ module _ {X : Type 0} (look : Tree → ℕ → Option X) where
     pub tested_by : Tells (here WrongShape there ++ here rule (passes test)) (λ t n. F t n (look t n))
     tested_by t n f =
         let same = written t n (look t n) in
-        let both = tested_one rule test t n f in
-        (
+        let both = tested_one rule test t n f in (
           λ p. both.0 (subst (λ (fs : List Failure). IsOneOf fs f) (sym same) p),
           λ p. subst (λ (fs : List Failure). IsOneOf fs f) same (both.1 p),
         )
@@ -138,7 +137,8 @@ module _ (range : Range) (t : Tree) (n : ℕ) (f : Failure) where
   three : Fails (whole_table range) t n f
       → (Fails (here WrongShape decimal_one) t n f ⊎ Fails (here NotWhole whole_one) t n f) ⊎ Fails (here (range_rule range) within_one) t n f
   three p = elim (rows_cases t n f (here WrongShape decimal_one ++ here NotWhole whole_one) (here (range_rule range) within_one) p) [
-    inl q ↦ inl (rows_cases t n f (here WrongShape decimal_one) (here NotWhole whole_one) q) | inr q ↦ inr q
+    | inl q ↦ inl (rows_cases t n f (here WrongShape decimal_one) (here NotWhole whole_one) q)
+    | inr q ↦ inr q
   ]
 
 pub whole_tells : (range : Range) → Tells (whole_table range) (whole_failures range)

@@ -35,7 +35,7 @@ module _ (g : ℕ → List Failure) (f : Failure) where
   of_items [] p = absurd p
   of_items (n ∷ ns) p =
       elim (among_cases f (g n) (flat_map g ns) (subst (λ (fs : List Failure). IsOneOf fs f) (flat_map-cons g n ns) p)) [
-        inl q ↦ (n, inl refl, q)
+        | inl q ↦ (n, inl refl, q)
         | inr q ↦ (let (m, is, r) = of_items ns q in (m, inr is, r))
       ]
 
@@ -85,11 +85,10 @@ module _ (t : Tree) (n : ℕ) (f : Failure) where
 
   pub of_itself : (rule : Rule) (holds : Tree → ℕ → Bool) → Fails (here rule holds) t n f
       → (holds t n ≡ false) × IsOneOf (fails rule t n) f
-  of_itself rule holds (inl (m, same, not, is)) =
-      (
-        subst (λ (k : ℕ). holds t k ≡ false) same not,
-        inl (is ∙ ap (λ (k : ℕ). record { rule = rule; place = place_at t k }) same),
-      )
+  of_itself rule holds (inl (m, same, not, is)) = (
+    subst (λ (k : ℕ). holds t k ≡ false) same not,
+    inl (is ∙ ap (λ (k : ℕ). record { rule = rule; place = place_at t k }) same),
+  )
   of_itself rule holds (inr p) = absurd p
 
 pub never : {A : Type 0} (b : Bool) → b ≡ true → b ≡ false → A
@@ -115,10 +114,12 @@ pub joined : (r s : List Row) (g h : Tree → ℕ → List Failure) → Tells r 
     → Tells (r ++ s) (λ t n. g t n ++ h t n)
 joined r s g h a b t n f = (
   λ p. elim (among_cases f (g t n) (h t n) p) [
-    inl q ↦ rows_left t n f r s ((a t n f).0 q) | inr q ↦ rows_right t n f r s ((b t n f).0 q)
+    | inl q ↦ rows_left t n f r s ((a t n f).0 q)
+    | inr q ↦ rows_right t n f r s ((b t n f).0 q)
   ],
   λ p. elim (rows_cases t n f r s p) [
-    inl q ↦ among_left f (g t n) (h t n) ((a t n f).1 q) | inr q ↦ among_right f (g t n) (h t n) ((b t n f).1 q)
+    | inl q ↦ among_left f (g t n) (h t n) ((a t n f).1 q)
+    | inr q ↦ among_right f (g t n) (h t n) ((b t n f).1 q)
   ],
 )
 

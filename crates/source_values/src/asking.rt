@@ -58,13 +58,7 @@ impl<A: Asked> Asked for Dictionary<A> {
 }
 
 /// Notes what fails of the value that a dictionary must have under a key.
-pub fn required<A: Asked>(
-    tree: &Tree,
-    pairs: u32,
-    key: &[u8],
-    asked: &A,
-    first: &mut FirstFailure,
-)
+pub fn required<A: Asked>(tree: &Tree, pairs: u32, key: &[u8], asked: &A, first: &mut FirstFailure)
     ensures { first.new ≡ noted first.old (required key.now (A.failures asked.now) tree.now pairs) }
 {
     match tree.find(pairs, key) {
@@ -74,13 +68,7 @@ pub fn required<A: Asked>(
 }
 
 /// Notes what fails of the value that a dictionary may have under a key.
-pub fn optional<A: Asked>(
-    tree: &Tree,
-    pairs: u32,
-    key: &[u8],
-    asked: &A,
-    first: &mut FirstFailure,
-)
+pub fn optional<A: Asked>(tree: &Tree, pairs: u32, key: &[u8], asked: &A, first: &mut FirstFailure)
     ensures { first.new ≡ noted first.old (optional key.now (A.failures asked.now) tree.now pairs) }
 {
     if let Some(number) = tree.find(pairs, key) {

@@ -20,8 +20,7 @@ pub struct Decimal {
 /// A law: the function does nothing.
 pub fn texts_spell_their_decimals()
     ensures { (text : List ℕ) (decimal : SeenDecimal) → (decimal_of text ≡ Some decimal) ↔ Spells text decimal }
-{
-}
+{}
 
 /// The bound to which the parts of a decimal are cut.
 const CUT_AT: u64 = 1_000_000_000;

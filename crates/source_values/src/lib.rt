@@ -10,6 +10,6 @@ pub use asking::{Asked, Dictionary, Each, optional, required};
 pub use decimals::{Decimal, texts_spell_their_decimals};
 pub use kinds::{AnyDictionary, EmptyDictionary, EmptyList, NameText, PlainText, Range, Whole};
 pub use values::{
-    copied, decimal_at, decimal_under, is_dictionary, is_list, is_text, items_at, items_under, natural_or, note_at, place_at,
-    text_at, text_under,
+    copied, decimal_at, decimal_under, is_dictionary, is_list, is_text, items_at, items_under,
+    natural_or, note_at, place_at, text_at, text_under,
 };
