@@ -1,4 +1,4 @@
--- The bytes of a tree of offsets (OpenType 1.9, "Font file", "Data types": an Offset16 or an Offset32 counts from the first byte of the
+-- The bytes of a tree of offsets (OpenType 1.9, "Data types": an Offset16 or an Offset32 counts from the first byte of the
 -- table that has it, and 0 is an offset to nothing). Which part stands where is fontc's own. The near part of a node is its fields,
 -- and behind them the near parts of the nodes that its offsets lead to, in the order of the fields; a node that is equal to an earlier
 -- such node of the same parent stands once. Behind the near part of the whole tree stand the layouts of the nodes that its far

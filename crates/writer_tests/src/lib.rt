@@ -4,6 +4,8 @@
 #[cfg(test)]
 mod assembly;
 #[cfg(test)]
+mod cmap_table;
+#[cfg(test)]
 mod glyf;
 #[cfg(test)]
 mod metrics;
