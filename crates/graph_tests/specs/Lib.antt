@@ -2,3 +2,4 @@
 pub mod Tables
 pub mod TableLaws
 pub mod Held
+pub mod Chains

@@ -1,5 +1,6 @@
 ghost use Rattle.std.specs.Prelude.{◌<◌};
 
+use crate::chain::Chain;
 use crate::hands::{Step, begun, calls, halt, played};
 use crate::table::{Table, refused, row};
 use access_context::Settled;
@@ -285,5 +286,20 @@ fn a_claimed_job_is_run_and_finished(rt: HostRuntime) -> Result<(), Fail> {
     assert_eq!(rt; outcome.added.len(), 2);
     assert!(rt; board.finish(rt.alloc(), 0, ticket, outcome).is_ok());
     assert_eq!(rt; value(&board, 0), Some(0));
+    Ok(())
+}
+
+#[test]
+fn a_chain_of_jobs_is_run_to_its_end(rt: HostRuntime) -> Result<(), Fail> {
+    let board = played(rt.alloc(), Chain { length: 40 }, 2, 0, 80)?;
+    assert_eq!(rt; board.result(), End::Ended);
+    assert_eq!(rt; board.events().len(), 80);
+    for id in 0..40 {
+        let Some(Settled::Done(value)) = board.get(&id) else {
+            panic!(rt; "a job has no value");
+        };
+        assert_eq!(rt; **value, id);
+    }
+    assert!(rt; board.get(&40).is_none());
     Ok(())
 }

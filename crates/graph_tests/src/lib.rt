@@ -4,6 +4,8 @@
 #[cfg(test)]
 mod boards;
 #[cfg(test)]
+mod chain;
+#[cfg(test)]
 mod contexts;
 #[cfg(test)]
 mod hands;

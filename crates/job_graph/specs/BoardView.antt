@@ -44,6 +44,6 @@ abbrev pub AreRanges : {Id V : Type 0} → (Id → Id → Bool) → Meaning Id V
 AreRanges {Id} {V} same plan state ranges =
     (length ranges ≡ length state.values)
     × ((place : ℕ) (value : Id × Plain V) (range : ℕ × ℕ)
-      → slice_get state.values place ≡ Some value
-      → slice_get ranges place ≡ Some range
-      → (range.0 ≤ range.1) × (range.1 ≤ length state.jobs) × IsAddedOf same plan value.0 (slice_range state.jobs range.0 range.1))
+    → slice_get state.values place ≡ Some value
+    → slice_get ranges place ≡ Some range
+    → (range.0 ≤ range.1) × (range.1 ≤ length state.jobs) × IsAddedOf same plan value.0 (slice_range state.jobs range.0 range.1))
