@@ -142,7 +142,7 @@ module _ {B E T : Type 0} (entries : B → List (ℕ × E)) (root : B → T) (pa
   held_le : {history : List (ℕ × E)} {served next : ℕ} (u : V) → Agrees history origin served next u → held u ≤ size u
   held_le u a = held_at_most u.stage (size u) a.alone
 
-  -- kind 2
+  -- a ticket is drawn
   pub draws : (s : St) (r : Rule s) (id : ℕ) (m : Member E T) → get_elem? s.views id ≡ some (seat_of Away m)
       → Rule record { words = set s.words 1 ((get_or s.words 1 0 + 1) % 2 ^ 64); homes = s.homes; views = set s.views id (seat_of (Waiting r.next) m) }
   draws s r id m at =
@@ -200,7 +200,7 @@ module _ {B E T : Type 0} (entries : B → List (ℕ × E)) (root : B → T) (pa
       absurd (subst (λ (u : V). IsServed u.stage) (same_view s.views o.seat id o.view (seat_of (Waiting t) m) o.there at e) o.served))
       r.slot
 
-  -- kind 3, where the ticket is served
+  -- a look finds the ticket served, and the slot is taken
   pub takes_it : (s : St) (r : Rule s) (id t : ℕ) (m : Member E T) → get_elem? s.views id ≡ some (seat_of (Waiting t) m) → r.served ≡ t → (h : IsHome entries root r.history origin s)
       → Rule record { words = set s.words 2 (get_or s.words 2 0); homes = set s.homes 0 none; views = set s.views id (seat_of (Served t) (after_seeing (entries h.value) m)) }
   takes_it s r id t m at turn h =
@@ -241,7 +241,7 @@ module _ {B E T : Type 0} (entries : B → List (ℕ × E)) (root : B → T) (pa
       (ap (λ (u : V). seen_of u.members) (sym is_it) ∙ o.seen, o.away))
       r.slot
 
-  -- kind 6
+  -- the number of entries is stored
   pub notes : (s : St) (r : Rule s) (id t count : ℕ) (m : Member E T) (list added : List (ℕ × E)) → get_elem? s.views id ≡ some (seat_of (Served t) m)
       → list ≡ m.seen ++ added → Added m.worker added → count ≡ length list
       → Rule record { words = set s.words 0 count; homes = s.homes; views = set s.views id (seat_of (Noted t) (after_adding list added m)) }
@@ -287,7 +287,7 @@ module _ {B E T : Type 0} (entries : B → List (ℕ × E)) (root : B → T) (pa
       (λ e. let one = one_le (times k) s.views id v at in let none_is = r.known k le in let here : times k v ≡ 1 = ap (λ n. times n v) (sym e) ∙ mine in absurd (omega arith)) own
       ∙ r.nobody_else k le))
 
-  -- kind 4
+  -- the slot and the ticket are given back
   pub gives_back : (s : St) (r : Rule s) (id t stored : ℕ) (m : Member E T) (value : B) → get_elem? s.views id ≡ some (seat_of (Noted t) m)
       → entries value ≡ m.seen → root value ≡ m.root → stored ≡ (t + 1) % 2 ^ 64
       → Rule record { words = set s.words 2 stored; homes = set s.homes 0 (some (Some value)); views = set s.views id (seat_of Away m) }
@@ -370,7 +370,7 @@ module _ {B E T : Type 0} (entries : B → List (ℕ × E)) (root : B → T) (pa
   agrees_away : {history : List (ℕ × E)} {served next : ℕ} (ms : List (Member E T)) → AllKnow history origin ms → Agrees history origin served next record { stage = Away; members = ms }
   agrees_away ms know = record { members = know; in_line = tt; alone = λ e. absurd (omega arith) }
 
-  -- kind 1
+  -- a pass is cut off
   pub splits : (s : St) (r : Rule s) (id : ℕ) (v : V) → get_elem? s.views id ≡ some v → v.stage ≡ Away
       → Rule record { words = s.words; homes = s.homes; views = set s.views id (without_pass v) ++ pass_of v ∷ [] }
   splits s r id v at away =
@@ -399,7 +399,7 @@ module _ {B E T : Type 0} (entries : B → List (ℕ × E)) (root : B → T) (pa
       (at_snoc (set s.views id left) right u j there))
       (slot_stays s r (set s.views id left ++ right ∷ []) others was)
 
-  -- kind 8
+  -- a pass is taken in
   pub joins : (s : St) (r : Rule s) (id other : ℕ) (v w : V) → get_elem? s.views id ≡ some v → other ≢ id → get_elem? (set s.views id (joined v w)) other ≡ some w
       → v.stage ≡ Away → w.stage ≡ Away
       → Rule record { words = s.words; homes = s.homes; views = set (set s.views id (joined v w)) other spent }
