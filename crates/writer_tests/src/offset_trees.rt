@@ -67,8 +67,8 @@ fn the_store_of_a_font_with_one_region(rt: HostRuntime) -> Result<(), Fail> {
     fields.push(Field::Off32(Node::new(rows)))?;
     let bytes = layout(alloc, &Node::new(fields))?;
     let expected = [
-        0, 1, 0, 0, 0, 12, 0, 1, 0, 0, 0, 22, 0, 1, 0, 1, 0, 0, 64, 0, 64, 0, 0, 2, 0, 1, 0, 1, 0, 0, 0,
-        0, 0, 20,
+        0, 1, 0, 0, 0, 12, 0, 1, 0, 0, 0, 22, 0, 1, 0, 1, 0, 0, 64, 0, 64, 0, 0, 2, 0, 1, 0, 1, 0,
+        0, 0, 0, 0, 20,
     ];
     assert_eq!(rt; bytes.as_slice(), expected.as_slice());
     Ok(())
