@@ -1,4 +1,4 @@
-use Rattle.std.proofs.Common.{◌+◌, ◌<◌, ◌≤◌, ap, length, arith}
+use Rattle.std.proofs.Common.{ℕ, ◌+◌, ◌<◌, ◌≤◌, ap, length, arith}
 use Rattle.std.proofs.lemmas.List.Elements.{All-push, All-weaker}
 use Rattle.std.proofs.lemmas.List.Quantifiers.{all_pairs_push}
 use Rattle.writer_tests.proofs.cmap_table.codes.Goals as goal
@@ -16,7 +16,7 @@ loop-glyph-preserved c =
     let before = c.loop-glyph.invariant in
     let items = c.loop-glyph.codes.items in
     let code = c.loop-glyph.code in
-    let one = (code, c.loop-glyph.glyph + 1) in
+    let one : ℕ × ℕ = (code, c.loop-glyph.glyph + 1) in
     let pushed = c.in_ok-push.ensures.items in
     record {
       are = record {
