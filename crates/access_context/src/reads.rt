@@ -1,4 +1,5 @@
-ghost use Rattle.std.specs.Prelude.{◌≡◌, ◌<◌, ℕ, Option, None, option_map, map, slice_get, IsSome, Some, IfOk, OnOk, length};
+ghost use Rattle.std.specs.Prelude.{◌≡◌, ◌<◌, ℕ, Option, None, option_map, map, slice_get, IsSome,
+    Some, IfOk, OnOk, length};
 ghost use Rattle.std.specs.BTreeMap as tree;
 ghost use Rattle.access_context.specs.Plain.{plain};
 ghost use Rattle.access_context.specs.Read.{plain_item, read_of, value_read, all_done};
@@ -13,7 +14,8 @@ use std::marker::Model;
 /// Up to so many items are looked through one by one; more are found by an index.
 const FEW: usize = 8;
 
-/// The items that a job reads, each settled. A contract sees them as the list of the ids with what came of them.
+/// The items that a job reads, each settled. A contract sees them as the list of the ids with what
+/// came of them.
 #[derive(Debug, Drop)]
 pub struct Reads<Id: Copy + Ord, V> {
     items: Vec<(Id, Settled<V>)>,
@@ -36,7 +38,8 @@ impl<Id: Copy + Ord, V> Model for Reads<Id, V> {
 }
 
 impl<Id: Copy + Ord, V> Reads<Id, V> {
-    /// These items and no others. An id is meant to stand once; where it stands again, its first item counts. It takes
+    /// These items and no others. An id is meant to stand once; where it stands again, its first
+    /// item counts. It takes
     /// no memory, and so it makes no index: `indexed` serves where there are many.
     pub fn of(items: Vec<(Id, Settled<V>)>) -> Self
         ensures { result ≡ map plain_item items.items }
@@ -49,7 +52,8 @@ impl<Id: Copy + Ord, V> Reads<Id, V> {
         }
     }
 
-    /// These items and no others, as `of` has them, with an index by which `get` and `done` find an item among many.
+    /// These items and no others, as `of` has them, with an index by which `get` and `done` find an
+    /// item among many.
     pub fn indexed(alloc: Global, items: Vec<(Id, Settled<V>)>) -> Result<Self, NoMemory>
     where
         V: Drop,
@@ -122,7 +126,8 @@ fn places_of<Id: Copy + Ord, V>(
     alloc: Global,
     items: &[(Id, Settled<V>)],
 ) -> Result<BTreeMap<Id, usize>, NoMemory>
-    ensures { IfOk result (λ places. (id : Id) → tree.get Id.cmp places id ≡ place_from Id.eq 0 items.now id) }
+    ensures { IfOk result (λ places. (id : Id)
+        → tree.get Id.cmp places id ≡ place_from Id.eq 0 items.now id) }
 {
     let mut places = BTreeMap::new(alloc);
     for place in (0..items.len()).rev() {
@@ -148,7 +153,8 @@ fn first_found<'a, Id: Copy + Ord, V>(
     items: &'a [(Id, Settled<V>)],
     id: &Id,
 ) -> Option<&'a Settled<V>>
-    ensures { option_map (λ s. plain s.now) result ≡ read_of Id.eq (map plain_item items.now) id.now }
+    ensures { option_map (λ s. plain s.now) result
+        ≡ read_of Id.eq (map plain_item items.now) id.now }
 {
     for item in items {
         if item.0 == *id {

@@ -7,7 +7,8 @@ use refusal_codes::{NoMemory, Refusal};
 use std::alloc::Global;
 use std::sync::Arc;
 
-/// What came of a job. Its value can be shared: clauses compare it by what the pointer leads to, as `plain` says.
+/// What came of a job. Its value can be shared: clauses compare it by what the pointer leads to, as
+/// `plain` says.
 #[derive(Debug, PartialEq, Eq, Drop)]
 pub enum Settled<V> {
     /// It made its value.

@@ -1,11 +1,16 @@
--- Pairs in their order: what the comparison says, that two lists in strict order with the same members are one, and that what
+-- Pairs in their order: what the comparison says, that two lists in strict order with the same
+-- members are one, and that what
 -- puts pairs in order keeps their members.
-use Rattle.std.proofs.Common.{◌≡◌, ◌≢◌, ◌⊎◌, inl, inr, arith, refl, sym, ap, subst, ◌∙◌, ℤ, ◌<ℤ◌, ◌≤ℤ◌, Bool, true, ◌&&◌, List, [], ◌∷◌}
+use Rattle.std.proofs.Common.{◌≡◌, ◌≢◌, ◌⊎◌, inl, inr, arith, refl, sym, ap, subst, ◌∙◌, ℤ, ◌<ℤ◌,
+    ◌≤ℤ◌, Bool, true, ◌&&◌, List, [], ◌∷◌}
 use Rattle.std.proofs.lemmas.Int.{ints}
-use Rattle.std.proofs.lemmas.Cmp.{int_ranked, int_cmp_total, on_total, then_total, tied_itself, and_equiv, on_equiv, int_eq_equiv}
-use Rattle.std.proofs.lemmas.List.Elements.{All-cons, All-nil, All-contains, Contains-append_right, Contains-append_cases}
+use Rattle.std.proofs.lemmas.Cmp.{int_ranked, int_cmp_total, on_total, then_total, tied_itself,
+    and_equiv, on_equiv, int_eq_equiv}
+use Rattle.std.proofs.lemmas.List.Elements.{All-cons, All-nil, All-contains, Contains-append_right,
+    Contains-append_cases}
 use Rattle.std.proofs.lemmas.List.Sorted.{IsPermutation-sym, Contains-permutation}
-use Rattle.std.proofs.lemmas.List.Kept.{IsStrictlySortedBy-dedup, Contains-dedup, Contains-from_dedup}
+use Rattle.std.proofs.lemmas.List.Kept.{IsStrictlySortedBy-dedup, Contains-dedup,
+    Contains-from_dedup}
 use Rattle.std.specs.Cmp.{IsTotalOrder, IsEquivalence, int_cmp_is, both_tied}
 use Rattle.std.specs.List.{Contains, AllByRecursion, dedup}
 use Rattle.std.specs.List.Sorted.{IsStrictlySortedBy, IsSorted, IsPermutation}
@@ -18,7 +23,8 @@ use Rattle.axis_space.specs.AxisPairs.{pair_cmp, placed_by, with_pair, in_order}
 -- the order
 
 pub pair_cmp_total : IsTotalOrder pair_cmp
-pair_cmp_total = then_total (on_total (λ (p : Pair). p.0.0) int_cmp_total) (on_total (λ (p : Pair). p.1.0) int_cmp_total)
+pair_cmp_total = then_total (on_total (λ (p : Pair). p.0.0) int_cmp_total)
+    (on_total (λ (p : Pair). p.1.0) int_cmp_total)
 
 pub same_pair : (p q : Pair) → p.0.0 ≡ q.0.0 → p.1.0 ≡ q.1.0 → p ≡ q
 same_pair p q e f = ap (λ x. pair x p.1.0) e ∙ ap (λ y. pair q.0.0 y) f
@@ -62,7 +68,8 @@ not_before_itself p q e same =
 
 -- what rises comes before
 pub before_from_rises : (p q : Pair) → Rises p q → pair_cmp p q ≡ Less
-before_from_rises p q r = ap (λ o. ordering_then o (int_cmp p.1.0 q.1.0)) (sym (int_cmp_is p.0.0 q.0.0 Less r.0))
+before_from_rises p q r = ap (λ o. ordering_then o (int_cmp p.1.0 q.1.0))
+    (sym (int_cmp_is p.0.0 q.0.0 Less r.0))
 
 -- membership
 
@@ -80,22 +87,30 @@ only_one x y h =
     let P : Pair → Type 0 = λ z. x ≡ z in
     All-contains P (x ∷ []) y (All-cons P x [] refl (All-nil P)) h
 
-pub contains_cases : (x : Pair) (xs : List Pair) (y : Pair) → Contains (x ∷ xs) y → (x ≡ y) ⊎ Contains xs y
+pub contains_cases : (x : Pair) (xs : List Pair) (y : Pair) → Contains (x ∷ xs) y
+    → (x ≡ y) ⊎ Contains xs y
 contains_cases x xs y h =
-    elim (Contains-append_cases (x ∷ []) xs y h) [ inl one ↦ inl (only_one x y one) | inr more ↦ inr more ]
+    elim (Contains-append_cases (x ∷ []) xs y h)
+        [ inl one ↦ inl (only_one x y one) | inr more ↦ inr more ]
 
-pub each_of : (P : Pair → Type 0) (xs : List Pair) (y : Pair) → AllByRecursion P xs → Contains xs y → P y
+pub each_of : (P : Pair → Type 0) (xs : List Pair) (y : Pair) → AllByRecursion P xs → Contains xs y
+    → P y
 each_of P [] y all h = absurd (contains_none y h)
 each_of P (x ∷ xs) y all h =
-    elim (contains_cases x xs y h) [ inl e ↦ subst P e all.0 | inr more ↦ each_of P xs y all.1 more ]
+    elim (contains_cases x xs y h) [ inl e ↦ subst P e all.0 | inr more ↦ each_of P xs y all.1 more
+        ]
 
-pub of_each : (P : Pair → Type 0) (xs : List Pair) → ((y : Pair) → Contains xs y → P y) → AllByRecursion P xs
+pub of_each : (P : Pair → Type 0) (xs : List Pair) → ((y : Pair) → Contains xs y → P y)
+    → AllByRecursion P xs
 of_each P [] f = tt
-of_each P (x ∷ xs) f = (f x (contains_head x xs), of_each P xs (λ y h. f y (contains_tail x xs y h)))
+of_each P (x ∷ xs) f = (f x (contains_head x xs), of_each P xs
+    (λ y h. f y (contains_tail x xs y h)))
 
 -- lists in strict order
 
-same_heads : (x y : Pair) (xs ys : List Pair) → AllByRecursion (λ z. pair_cmp x z ≡ Less) xs → AllByRecursion (λ z. pair_cmp y z ≡ Less) ys → (y ≡ x) ⊎ Contains ys x → (x ≡ y) ⊎ Contains xs y → x ≡ y
+same_heads : (x y : Pair) (xs ys : List Pair) → AllByRecursion (λ z. pair_cmp x z ≡ Less) xs
+    → AllByRecursion (λ z. pair_cmp y z ≡ Less) ys → (y ≡ x) ⊎ Contains ys x
+    → (x ≡ y) ⊎ Contains xs y → x ≡ y
 same_heads x y xs ys s t (inl e) g = sym e
 same_heads x y xs ys s t (inr h) (inl e) = e
 same_heads x y xs ys s t (inr h) (inr k) =
@@ -103,27 +118,37 @@ same_heads x y xs ys s t (inr h) (inr k) =
     let on : pair_cmp x y ≡ Less = each_of (λ z. pair_cmp x z ≡ Less) xs y s k in
     absurd (not_before_itself x x (pair_cmp_total.trans x y x on back) refl)
 
-tail_members : (x y : Pair) (xs ys : List Pair) → AllByRecursion (λ z. pair_cmp x z ≡ Less) xs → x ≡ y → ((p : Pair) → Contains (x ∷ xs) p → Contains (y ∷ ys) p) → (p : Pair) → Contains xs p → Contains ys p
+tail_members : (x y : Pair) (xs ys : List Pair) → AllByRecursion (λ z. pair_cmp x z ≡ Less) xs
+    → x ≡ y → ((p : Pair) → Contains (x ∷ xs) p → Contains (y ∷ ys) p) → (p : Pair) → Contains xs p
+    → Contains ys p
 tail_members x y xs ys s e into p h =
     elim (contains_cases y ys p (into p (contains_tail x xs p h))) [
-      | inl same ↦ absurd (not_before_itself x p (each_of (λ z. pair_cmp x z ≡ Less) xs p s h) (e ∙ same))
+      | inl same ↦ absurd (not_before_itself x p (each_of (λ z. pair_cmp x z ≡ Less) xs p s h)
+          (e ∙ same))
       | inr more ↦ more
     ]
 
 -- two of them with the same members are one
-pub same_list : (xs ys : List Pair) → IsStrictlySortedBy pair_cmp xs → IsStrictlySortedBy pair_cmp ys → ((p : Pair) → Contains xs p → Contains ys p) → ((p : Pair) → Contains ys p → Contains xs p) → xs ≡ ys
+pub same_list : (xs ys : List Pair) → IsStrictlySortedBy pair_cmp xs
+    → IsStrictlySortedBy pair_cmp ys → ((p : Pair) → Contains xs p → Contains ys p)
+    → ((p : Pair) → Contains ys p → Contains xs p) → xs ≡ ys
 unfolding IsStrictlySortedBy
 same_list [] [] s t into back = refl
 same_list [] (y ∷ ys) s t into back = absurd (contains_none y (back y (contains_head y ys)))
 same_list (x ∷ xs) [] s t into back = absurd (contains_none x (into x (contains_head x xs)))
 same_list (x ∷ xs) (y ∷ ys) s t into back =
-    let e : x ≡ y = same_heads x y xs ys s.0 t.0 (contains_cases y ys x (into x (contains_head x xs))) (contains_cases x xs y (back y (contains_head y ys))) in
-    let tails : xs ≡ ys = same_list xs ys s.1 t.1 (tail_members x y xs ys s.0 e into) (tail_members y x ys xs t.0 (sym e) back) in
+    let e : x ≡ y = same_heads x y xs ys s.0 t.0
+        (contains_cases y ys x (into x (contains_head x xs)))
+        (contains_cases x xs y (back y (contains_head y ys))) in
+    let tails : xs ≡ ys = same_list xs ys s.1 t.1 (tail_members x y xs ys s.0 e into)
+        (tail_members y x ys xs t.0 (sym e) back) in
     ap (λ z. z ∷ xs) e ∙ ap (λ zs. y ∷ zs) tails
 
 -- putting pairs in order
 
-placed_from : (o : Ordering) (p q : Pair) (qs further : List Pair) (r : Pair) → (Contains further r → (p ≡ r) ⊎ Contains qs r) → Contains (placed_by o p q qs further) r → (p ≡ r) ⊎ Contains (q ∷ qs) r
+placed_from : (o : Ordering) (p q : Pair) (qs further : List Pair) (r : Pair)
+    → (Contains further r → (p ≡ r) ⊎ Contains qs r) → Contains (placed_by o p q qs further) r
+    → (p ≡ r) ⊎ Contains (q ∷ qs) r
 placed_from Less p q qs further r f h = contains_cases p (q ∷ qs) r h
 placed_from Equal p q qs further r f h = inr h
 placed_from Greater p q qs further r f h =
@@ -132,11 +157,15 @@ placed_from Greater p q qs further r f h =
       | inr more ↦ elim (f more) [ inl e ↦ inl e | inr k ↦ inr (contains_tail q qs r k) ]
     ]
 
-pub with_pair_from : (p : Pair) (qs : List Pair) (r : Pair) → Contains (with_pair p qs) r → (p ≡ r) ⊎ Contains qs r
+pub with_pair_from : (p : Pair) (qs : List Pair) (r : Pair) → Contains (with_pair p qs) r
+    → (p ≡ r) ⊎ Contains qs r
 with_pair_from p [] r h = inl (only_one p r h)
-with_pair_from p (q ∷ qs) r h = placed_from (pair_cmp p q) p q qs (with_pair p qs) r (with_pair_from p qs r) h
+with_pair_from p (q ∷ qs) r h = placed_from (pair_cmp p q) p q qs (with_pair p qs) r
+    (with_pair_from p qs r) h
 
-placed_keeps : (o : Ordering) (p q : Pair) (qs further : List Pair) (r : Pair) → (Contains qs r → Contains further r) → Contains (q ∷ qs) r → Contains (placed_by o p q qs further) r
+placed_keeps : (o : Ordering) (p q : Pair) (qs further : List Pair) (r : Pair)
+    → (Contains qs r → Contains further r) → Contains (q ∷ qs) r
+    → Contains (placed_by o p q qs further) r
 placed_keeps Less p q qs further r f h = contains_tail p (q ∷ qs) r h
 placed_keeps Equal p q qs further r f h = h
 placed_keeps Greater p q qs further r f h =
@@ -145,23 +174,31 @@ placed_keeps Greater p q qs further r f h =
       | inr more ↦ contains_tail q further r (f more)
     ]
 
-pub with_pair_keeps : (p : Pair) (qs : List Pair) (r : Pair) → Contains qs r → Contains (with_pair p qs) r
+pub with_pair_keeps : (p : Pair) (qs : List Pair) (r : Pair) → Contains qs r
+    → Contains (with_pair p qs) r
 with_pair_keeps p [] r h = absurd (contains_none r h)
-with_pair_keeps p (q ∷ qs) r h = placed_keeps (pair_cmp p q) p q qs (with_pair p qs) r (with_pair_keeps p qs r) h
+with_pair_keeps p (q ∷ qs) r h = placed_keeps (pair_cmp p q) p q qs (with_pair p qs) r
+    (with_pair_keeps p qs r) h
 
-placed_has : (o : Ordering) (p q : Pair) (qs further : List Pair) → pair_cmp p q ≡ o → Contains further p → Contains (placed_by o p q qs further) p
+placed_has : (o : Ordering) (p q : Pair) (qs further : List Pair) → pair_cmp p q ≡ o
+    → Contains further p → Contains (placed_by o p q qs further) p
 placed_has Less p q qs further e h = contains_head p (q ∷ qs)
-placed_has Equal p q qs further e h = subst (Contains (q ∷ qs)) (sym (tied p q e)) (contains_head q qs)
+placed_has Equal p q qs further e h = subst (Contains (q ∷ qs)) (sym (tied p q e))
+    (contains_head q qs)
 placed_has Greater p q qs further e h = contains_tail q further p h
 
 pub with_pair_has : (p : Pair) (qs : List Pair) → Contains (with_pair p qs) p
 with_pair_has p [] = contains_head p []
-with_pair_has p (q ∷ qs) = placed_has (pair_cmp p q) p q qs (with_pair p qs) refl (with_pair_has p qs)
+with_pair_has p (q ∷ qs) = placed_has (pair_cmp p q) p q qs (with_pair p qs) refl
+    (with_pair_has p qs)
 
 reversed : (o : Ordering) (p q : Pair) → pair_cmp p q ≡ o → pair_cmp q p ≡ ordering_reverse o
 reversed o p q e = pair_cmp_total.antisymm q p ∙ ap ordering_reverse e
 
-placed_sorted : (o : Ordering) (p q : Pair) (qs further : List Pair) → pair_cmp p q ≡ o → IsStrictlySortedBy pair_cmp (q ∷ qs) → IsStrictlySortedBy pair_cmp further → ((r : Pair) → Contains further r → (p ≡ r) ⊎ Contains qs r) → IsStrictlySortedBy pair_cmp (placed_by o p q qs further)
+placed_sorted : (o : Ordering) (p q : Pair) (qs further : List Pair) → pair_cmp p q ≡ o
+    → IsStrictlySortedBy pair_cmp (q ∷ qs) → IsStrictlySortedBy pair_cmp further
+    → ((r : Pair) → Contains further r → (p ≡ r) ⊎ Contains qs r)
+    → IsStrictlySortedBy pair_cmp (placed_by o p q qs further)
 unfolding IsStrictlySortedBy
 placed_sorted Less p q qs further e s t f =
     let P : Pair → Type 0 = λ z. pair_cmp p z ≡ Less in (
@@ -181,11 +218,13 @@ placed_sorted Greater p q qs further e s t f =
       t,
     )
 
-pub with_pair_sorted : (p : Pair) (qs : List Pair) → IsStrictlySortedBy pair_cmp qs → IsStrictlySortedBy pair_cmp (with_pair p qs)
+pub with_pair_sorted : (p : Pair) (qs : List Pair) → IsStrictlySortedBy pair_cmp qs
+    → IsStrictlySortedBy pair_cmp (with_pair p qs)
 unfolding IsStrictlySortedBy
 with_pair_sorted p [] s = (tt, tt)
 with_pair_sorted p (q ∷ qs) s =
-    placed_sorted (pair_cmp p q) p q qs (with_pair p qs) refl s (with_pair_sorted p qs s.1) (with_pair_from p qs)
+    placed_sorted (pair_cmp p q) p q qs (with_pair p qs) refl s (with_pair_sorted p qs s.1)
+        (with_pair_from p qs)
 
 pub in_order_sorted : (ps : List Pair) → IsStrictlySortedBy pair_cmp (in_order ps)
 unfolding IsStrictlySortedBy
@@ -213,11 +252,13 @@ abbrev pub pair_eq : Pair → Pair → Bool
 pair_eq p q = int_eq p.0.0 q.0.0 && int_eq p.1.0 q.1.0
 
 pair_eq_equivalence : IsEquivalence pair_eq
-pair_eq_equivalence = and_equiv (on_equiv (λ (p : Pair). p.0.0) int_eq_equiv) (on_equiv (λ (p : Pair). p.1.0) int_eq_equiv)
+pair_eq_equivalence = and_equiv (on_equiv (λ (p : Pair). p.0.0) int_eq_equiv)
+    (on_equiv (λ (p : Pair). p.1.0) int_eq_equiv)
 
 pair_eq_ties : (p q : Pair) → pair_eq p q ≡ eq_by_cmp pair_cmp p q
 pair_eq_ties p q =
-    both_tied (int_eq p.0.0 q.0.0) (int_eq p.1.0 q.1.0) (int_cmp p.0.0 q.0.0) (int_cmp p.1.0 q.1.0) refl refl
+    both_tied (int_eq p.0.0 q.0.0) (int_eq p.1.0 q.1.0) (int_cmp p.0.0 q.0.0) (int_cmp p.1.0 q.1.0)
+        refl refl
 
 equal_from_is_eq : (o : Ordering) → is_eq o ≡ true → o ≡ Equal
 equal_from_is_eq Less e = cc
@@ -228,8 +269,12 @@ pair_eq_same : (p q : Pair) → pair_eq p q ≡ true → p ≡ q
 pair_eq_same p q e = tied p q (equal_from_is_eq (pair_cmp p q) (sym (pair_eq_ties p q) ∙ e))
 
 -- what a sort and `dedup` leave is the list in order
-pub sorted_is_in_order : (set sorted : List Pair) → IsPermutation set sorted → IsSorted pair_cmp sorted → dedup pair_eq sorted ≡ in_order set
+pub sorted_is_in_order : (set sorted : List Pair) → IsPermutation set sorted
+    → IsSorted pair_cmp sorted → dedup pair_eq sorted ≡ in_order set
 sorted_is_in_order set sorted moved rises =
-    same_list (dedup pair_eq sorted) (in_order set) (IsStrictlySortedBy-dedup pair_cmp_total pair_eq_ties sorted rises) (in_order_sorted set)
-    (λ p h. in_order_keeps set p (Contains-permutation sorted set p (IsPermutation-sym set sorted moved) (Contains-from_dedup pair_eq sorted p h)))
-    (λ p h. Contains-dedup pair_eq_equivalence pair_eq_same sorted p (Contains-permutation set sorted p moved (in_order_from set p h)))
+    same_list (dedup pair_eq sorted) (in_order set)
+        (IsStrictlySortedBy-dedup pair_cmp_total pair_eq_ties sorted rises) (in_order_sorted set)
+    (λ p h. in_order_keeps set p (Contains-permutation sorted set p
+        (IsPermutation-sym set sorted moved) (Contains-from_dedup pair_eq sorted p h)))
+    (λ p h. Contains-dedup pair_eq_equivalence pair_eq_same sorted p
+        (Contains-permutation set sorted p moved (in_order_from set p h)))

@@ -41,7 +41,8 @@ locations masters = map (normal_on Design 0 0 masters) masters
 -- masters at 400, 500 and 700
 abbrev thirds : List Master
 thirds =
-    master (pos 26214400) (pos 26214400) ∷ master (pos 32768000) (pos 32768000) ∷ master (pos 45875200) (pos 45875200) ∷ []
+    master (pos 26214400) (pos 26214400) ∷ master (pos 32768000) (pos 32768000)
+        ∷ master (pos 45875200) (pos 45875200) ∷ []
 
 thirds_locations : locations thirds ≡ number (pos 0) ∷ number (pos 5461) ∷ number (pos 16384) ∷ []
 thirds_locations = refl
@@ -49,13 +50,16 @@ thirds_locations = refl
 -- masters at 0, 10000, 10000.1 and 30000: the second and the third lie at one place
 abbrev near : List Master
 near =
-    master (pos 0) (pos 0) ∷ master (pos 655360000) (pos 655360000) ∷ master (pos 655366554) (pos 655366554) ∷ master (pos 1966080000) (pos 1966080000) ∷ []
+    master (pos 0) (pos 0) ∷ master (pos 655360000) (pos 655360000)
+        ∷ master (pos 655366554) (pos 655366554) ∷ master (pos 1966080000) (pos 1966080000) ∷ []
 
-near_locations : locations near ≡ number (pos 0) ∷ number (pos 5461) ∷ number (pos 5461) ∷ number (pos 16384) ∷ []
+near_locations : locations near ≡ number (pos 0) ∷ number (pos 5461) ∷ number (pos 5461)
+    ∷ number (pos 16384) ∷ []
 near_locations = refl
 
 -- their pairs are one pair
-near_pairs : avar_pairs near 0 0 ≡ Ok (pair (negsuc 16383) (negsuc 16383) ∷ pair (pos 0) (pos 0) ∷ pair (pos 5461) (pos 5461) ∷ pair (pos 16384) (pos 16384) ∷ [])
+near_pairs : avar_pairs near 0 0 ≡ Ok (pair (negsuc 16383) (negsuc 16383) ∷ pair (pos 0) (pos 0)
+    ∷ pair (pos 5461) (pos 5461) ∷ pair (pos 16384) (pos 16384) ∷ [])
 unfolding avar_pairs pairs_of
 near_pairs = refl
 
@@ -67,7 +71,8 @@ one_user_pairs : avar_pairs one_user 0 0 ≡ Err (number (pos 0))
 unfolding avar_pairs pairs_of
 one_user_pairs = refl
 
--- masters at 0, 50 and 100 with the user coordinates 0, 100 and 50: the pairs don't rise from a half to 1
+-- masters at 0, 50 and 100 with the user coordinates 0, 100 and 50: the pairs don't rise from a
+-- half to 1
 abbrev crossed : List Master
 crossed = master (pos 0) (pos 0) ∷ master (pos 50) (pos 100) ∷ master (pos 100) (pos 50) ∷ []
 
@@ -79,14 +84,17 @@ crossed_pairs = refl
 abbrev ends : List Master
 ends = master (pos 26214400) (pos 26214400) ∷ master (pos 45875200) (pos 45875200) ∷ []
 
-ends_pairs : avar_pairs ends 0 0 ≡ Ok (pair (negsuc 16383) (negsuc 16383) ∷ pair (pos 0) (pos 0) ∷ pair (pos 16384) (pos 16384) ∷ [])
+ends_pairs : avar_pairs ends 0 0 ≡ Ok (pair (negsuc 16383) (negsuc 16383) ∷ pair (pos 0) (pos 0)
+    ∷ pair (pos 16384) (pos 16384) ∷ [])
 unfolding avar_pairs pairs_of
 ends_pairs = refl
 
--- masters at 0, 50 and 100 with the user coordinates 100, 400 and 900, of which the second is the default
+-- masters at 0, 50 and 100 with the user coordinates 100, 400 and 900, of which the second is the
+-- default
 abbrev bent : List Master
 bent =
-    master (pos 0) (pos 6553600) ∷ master (pos 3276800) (pos 26214400) ∷ master (pos 6553600) (pos 58982400) ∷ []
+    master (pos 0) (pos 6553600) ∷ master (pos 3276800) (pos 26214400)
+        ∷ master (pos 6553600) (pos 58982400) ∷ []
 
 -- half the way to the second is 250, half the way on to the third is 650
 bent_low : user_at (points_of bent 0) (pos 1638400) ≡ pos 16384000
@@ -111,11 +119,13 @@ unfolding user_at
 bent_after = refl
 
 -- half a unit between two raw numbers that are neighbours goes up
-half_up : user_at (points_of (master (pos 0) (pos 7) ∷ master (pos 2) (pos 8) ∷ []) 0) (pos 1) ≡ pos 8
+half_up : user_at (points_of (master (pos 0) (pos 7) ∷ master (pos 2) (pos 8) ∷ []) 0) (pos 1)
+    ≡ pos 8
 unfolding user_at
 half_up = refl
 
 -- of two masters at one design coordinate the first counts
-first_counts : user_at (points_of (master (pos 5) (pos 7) ∷ master (pos 5) (pos 9) ∷ []) 0) (pos 5) ≡ pos 7
+first_counts : user_at (points_of (master (pos 5) (pos 7) ∷ master (pos 5) (pos 9) ∷ []) 0) (pos 5)
+    ≡ pos 7
 unfolding user_at
 first_counts = refl

@@ -1,6 +1,9 @@
--- The pairs of an axis in the table avar (OpenType 1.9, "avar"): from a normalised user coordinate to the normalised design
+-- The pairs of an axis in the table avar (OpenType 1.9, "avar"): from a normalised user coordinate
+-- to the normalised design
 -- coordinate. They are a set of which the table holds the rising list, where there is one.
-use Rattle.std.specs.Prelude.{◌≡◌, ◌≢◌, ℕ, Bool, ◌&&◌, if◌then◌else◌, List, [], ◌∷◌, ◌++◌, map, ℤ, pos, negsuc, ◌<ℤ◌, ◌≤ℤ◌, int_lt, Option, Some, None, Result, Ok, Err, Vec, Contains, AllPairs, ◌↔◌}
+use Rattle.std.specs.Prelude.{◌≡◌, ◌≢◌, ℕ, Bool, ◌&&◌, if◌then◌else◌, List, [], ◌∷◌, ◌++◌, map, ℤ,
+    pos, negsuc, ◌<ℤ◌, ◌≤ℤ◌, int_lt, Option, Some, None, Result, Ok, Err, Vec, Contains, AllPairs,
+    ◌↔◌}
 use Rattle.std.specs.Ordering.{int_cmp, ordering_then}
 use Rattle.std.specs.declared.cmp.Ordering.{Ordering}
 use Rattle.std.specs.declared.cmp.Ordering.TheVariants.{Less, Equal, Greater}
@@ -11,7 +14,8 @@ use Rattle.font_ir.specs.AxisMaps.{Pair, Rises, IsRisingList, pairs_of}
 use Rattle.axis_space.specs.declared.errors.MapError.{MapError}
 use Rattle.axis_space.specs.declared.errors.MapError.TheVariants as map_errors
 
--- two pairs of the set that don't rise, the second one being above the first or beside it by the first number
+-- two pairs of the set that don't rise, the second one being above the first or beside it by the
+-- first number
 pub record Falls (set : List Pair) (p q : Pair) : Type 0 where
   pub first : Contains set p
   pub second : Contains set q
@@ -24,10 +28,12 @@ pub record IsFirstFall (set : List Pair) (x : F2Dot14) : Type 0 where
   pub reached : (p : Pair) × (q : Pair) × Falls set p q × (q.0 ≡ x)
   pub least : (p q : Pair) → Falls set p q → x.0 ≤ℤ q.0.0
 
--- what is made of the set: its rising list, which is the only one; or where there is none, the number at which pairs first don't
+-- what is made of the set: its rising list, which is the only one; or where there is none, the
+-- number at which pairs first don't
 -- rise
 abbrev pub Orders : List Pair → Result (List Pair) F2Dot14 → Type 0
-Orders set (Ok pairs) = IsRisingList set pairs × ((others : List Pair) → IsRisingList set others → others ≡ pairs)
+Orders set (Ok pairs) = IsRisingList set pairs
+    × ((others : List Pair) → IsRisingList set others → others ≡ pairs)
 Orders set (Err x) = IsFirstFall set x × ((pairs : List Pair) → ¬ (IsRisingList set pairs))
 
 -- an answer is what is made of the set, unless memory ran out
@@ -39,7 +45,8 @@ abbrev pub OrdersPairs : Result (Vec Pair Global) MapError → List Pair → Typ
 OrdersPairs (Ok v) set = Orders set (Ok v.items)
 OrdersPairs (Err e) set = RefusesPairs e set
 
--- The same as a function: what it gives is what is made of the set. Pairs are compared by the first number and then by the
+-- The same as a function: what it gives is what is made of the set. Pairs are compared by the first
+-- number and then by the
 -- second.
 abbrev pub pair_cmp : Pair → Pair → Ordering
 pair_cmp p q = ordering_then (int_cmp p.0.0 q.0.0) (int_cmp p.1.0 q.1.0)

@@ -1,7 +1,10 @@
--- User coordinates from design coordinates, which is fontc's own: each master is a point, and of masters at one design
--- coordinate the first counts; between two neighbours the reading is linear, rounded to the nearest in 16.16, a tie going up;
+-- User coordinates from design coordinates, which is fontc's own: each master is a point, and of
+-- masters at one design
+-- coordinate the first counts; between two neighbours the reading is linear, rounded to the nearest
+-- in 16.16, a tie going up;
 -- past the ends it is that of the end.
-use Rattle.std.specs.Prelude.{◌≡◌, ℕ, List, [], ◌∷◌, map, ℤ, pos, ◌+ℤ◌, ◌-ℤ◌, ◌*ℤ◌, ◌≤ℤ◌, ◌<ℤ◌, ◌⊎◌, int_lt, int_le, if◌then◌else◌, Option, Some, None, All}
+use Rattle.std.specs.Prelude.{◌≡◌, ℕ, List, [], ◌∷◌, map, ℤ, pos, ◌+ℤ◌, ◌-ℤ◌, ◌*ℤ◌, ◌≤ℤ◌, ◌<ℤ◌, ◌⊎◌,
+    int_lt, int_le, if◌then◌else◌, Option, Some, None, All}
 use Rattle.std.specs.List.{find}
 use Rattle.std.specs.Ordering.{int_eq}
 use Rattle.font_ir.specs.declared.header.Master.{Master}
@@ -12,7 +15,8 @@ use Rattle.axis_space.specs.declared.points.Point.{Point}
 
 -- the points of an axis
 abbrev pub point_on : ℕ → Master → Point
-point_on axis master = record { design = coordinate_on Design axis master; user = coordinate_on User axis master }
+point_on axis master = record { design = coordinate_on Design axis master; user
+    = coordinate_on User axis master }
 
 abbrev pub points_of : List Master → ℕ → List Point
 points_of masters axis = map (point_on axis) masters
@@ -21,7 +25,8 @@ points_of masters axis = map (point_on axis) masters
 abbrev pub IsFirst : List Point → Point → Type 0
 IsFirst points p = find (λ q. int_eq q.design.0 p.design.0) points ≡ Some p
 
--- a point is the neighbour below a design coordinate, or at it: of the points that are not above it the greatest
+-- a point is the neighbour below a design coordinate, or at it: of the points that are not above it
+-- the greatest
 pub record IsBelow (points : List Point) (design : ℤ) (p : Point) : Type 0 where
   pub first : IsFirst points p
   pub at_most : p.design.0 ≤ℤ design
@@ -33,10 +38,13 @@ pub record IsAbove (points : List Point) (design : ℤ) (p : Point) : Type 0 whe
   pub at_least : design ≤ℤ p.design.0
   pub nearest : All (λ q. design ≤ℤ q.design.0 → p.design.0 ≤ℤ q.design.0) points
 
--- where a design coordinate lies among the points: between two neighbours, or before all of them, or after
+-- where a design coordinate lies among the points: between two neighbours, or before all of them,
+-- or after
 abbrev pub Places : List Point → ℤ → Type 0
 Places points design =
-    ((p : Point) × (q : Point) × IsBelow points design p × IsAbove points design q) ⊎ (((q : Point) × All (λ r. design <ℤ r.design.0) points × IsAbove points design q) ⊎ ((p : Point) × All (λ r. r.design.0 <ℤ design) points × IsBelow points design p))
+    ((p : Point) × (q : Point) × IsBelow points design p × IsAbove points design q)
+        ⊎ (((q : Point) × All (λ r. design <ℤ r.design.0) points × IsAbove points design q)
+        ⊎ ((p : Point) × All (λ r. r.design.0 <ℤ design) points × IsBelow points design p))
 
 -- The same as functions: of two points the nearer one, of two with one design coordinate the first.
 abbrev pub not_above : ℤ → Point → Option Point
@@ -66,7 +74,8 @@ above design (p ∷ ps) = lower (not_below design p) (above design ps)
 -- the reading on the line through two points, of which the second is not below the first
 abbrev pub between : Point → Point → ℤ → ℤ
 between p q design =
-    if int_lt p.design.0 q.design.0 then p.user.0 +ℤ nearest ((q.user.0 -ℤ p.user.0) *ℤ (design -ℤ p.design.0)) (q.design.0 -ℤ p.design.0)
+    if int_lt p.design.0 q.design.0 then p.user.0 +ℤ nearest
+        ((q.user.0 -ℤ p.user.0) *ℤ (design -ℤ p.design.0)) (q.design.0 -ℤ p.design.0)
     else p.user.0
 
 -- the reading at a design coordinate from its neighbours: past the ends that of the end
@@ -80,12 +89,17 @@ reading None None design = pos 0
 unfoldable pub user_at : List Point → ℤ → ℤ
 user_at points design = reading (below design points) (above design points) design
 
--- what a number is where it is read from the points: on the line between the neighbours, and past the ends that of the end. So
+-- what a number is where it is read from the points: on the line between the neighbours, and past
+-- the ends that of the end. So
 -- it is a point's own number at each point, and never outside the points' numbers
 pub record IsReading (points : List Point) (design user : ℤ) : Type 0 where
   pub placed : Places points design
-  pub inside : (p q : Point) → IsBelow points design p → IsAbove points design q → user ≡ between p q design
-  pub before : (q : Point) → All (λ r. design <ℤ r.design.0) points → IsAbove points design q → user ≡ q.user.0
-  pub after : (p : Point) → All (λ r. r.design.0 <ℤ design) points → IsBelow points design p → user ≡ p.user.0
+  pub inside : (p q : Point) → IsBelow points design p → IsAbove points design q
+      → user ≡ between p q design
+  pub before : (q : Point) → All (λ r. design <ℤ r.design.0) points → IsAbove points design q
+      → user ≡ q.user.0
+  pub after : (p : Point) → All (λ r. r.design.0 <ℤ design) points → IsBelow points design p
+      → user ≡ p.user.0
   pub at_point : (p : Point) → IsFirst points p → p.design.0 ≡ design → user ≡ p.user.0
-  pub within : (low high : ℤ) → All (λ r. (low ≤ℤ r.user.0) × (r.user.0 ≤ℤ high)) points → (low ≤ℤ user) × (user ≤ℤ high)
+  pub within : (low high : ℤ) → All (λ r. (low ≤ℤ r.user.0) × (r.user.0 ≤ℤ high)) points
+      → (low ≤ℤ user) × (user ≤ℤ high)

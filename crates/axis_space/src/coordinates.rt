@@ -51,7 +51,8 @@ pub fn scale_of(masters: &[Master], kind: CoordinateScale, origin: usize, axis: 
 /// The least of a number and the masters' coordinates.
 fn least(masters: &[Master], kind: CoordinateScale, axis: usize, from: Fixed) -> Fixed
     requires { All (HasAxis axis) masters.now }
-    ensures { result.0 ≡ fold (λ low m. int_min low (coordinate_on kind axis m).0) from.0 masters.now }
+    ensures { result.0 ≡ fold (λ low m. int_min low (coordinate_on kind axis m).0) from.0
+        masters.now }
 {
     let mut low = from.0;
     for master in masters {
@@ -63,7 +64,8 @@ fn least(masters: &[Master], kind: CoordinateScale, axis: usize, from: Fixed) ->
 /// The greatest of a number and the masters' coordinates.
 fn greatest(masters: &[Master], kind: CoordinateScale, axis: usize, from: Fixed) -> Fixed
     requires { All (HasAxis axis) masters.now }
-    ensures { result.0 ≡ fold (λ high m. int_max high (coordinate_on kind axis m).0) from.0 masters.now }
+    ensures { result.0 ≡ fold (λ high m. int_max high (coordinate_on kind axis m).0) from.0
+        masters.now }
 {
     let mut high = from.0;
     for master in masters {
@@ -79,7 +81,8 @@ pub fn normal(master: &Master, kind: CoordinateScale, axis: usize, scale: Scale)
     requires greatest { (coordinate_on kind axis master.now).0 ≤ℤ scale.greatest.0 }
     requires default_least { scale.least.0 ≤ℤ scale.default.0 }
     requires default_greatest { scale.default.0 ≤ℤ scale.greatest.0 }
-    ensures { result.0 ≡ normalised (coordinate_on kind axis master.now).0 scale.least.0 scale.default.0 scale.greatest.0 }
+    ensures { result.0 ≡ normalised (coordinate_on kind axis master.now).0 scale.least.0
+        scale.default.0 scale.greatest.0 }
 {
     let v = coordinate(master, kind, axis);
     normalise(v, scale.least, scale.default, scale.greatest)

@@ -1,7 +1,8 @@
 ghost use Rattle.std.specs.Prelude.{◌≡◌, ◌<◌, length, All, IfOk};
 ghost use Rattle.font_ir.specs.Coordinates.{HasAxis};
 ghost use Rattle.font_ir.specs.AxisMaps.{fixed_pairs, pairs_of};
-ghost use Rattle.axis_space.specs.AxisPairs.{GivesPairs, OrdersPairs, avar_pairs, in_order, first_fall as fall_of, fall_after as fall_from, rises};
+ghost use Rattle.axis_space.specs.AxisPairs.{GivesPairs, OrdersPairs, avar_pairs, in_order,
+    first_fall as fall_of, fall_after as fall_from, rises};
 
 use crate::coordinates::{normal, scale_of};
 use crate::errors::MapError;
@@ -12,9 +13,12 @@ use std::alloc::{AllocError, Global};
 /// A normalised user coordinate and the design coordinate there.
 type Pair = (F2Dot14, F2Dot14);
 
-/// The pairs of an axis in the table avar (OpenType 1.9, "avar"), in 2.14: from normalised user coordinates to normalised design
-/// coordinates. They are those of the ends, of the default and of each master, each once, in rising order. `origin` is the
-/// position of the default master. Where they don't rise strictly in both numbers, the error has the first user coordinate at
+/// The pairs of an axis in the table avar (OpenType 1.9, "avar"), in 2.14: from normalised user
+/// coordinates to normalised design
+/// coordinates. They are those of the ends, of the default and of each master, each once, in rising
+/// order. `origin` is the
+/// position of the default master. Where they don't rise strictly in both numbers, the error has
+/// the first user coordinate at
 /// which they don't. It costs a sort of the masters and is linear in them beside that.
 pub fn avar_map(
     alloc: Global,

@@ -1,4 +1,5 @@
-ghost use Rattle.std.specs.Prelude.{◌≡◌, ◌*ℤ◌, ◌≤ℤ◌, ◌<ℤ◌, ◌<◌, pos, negsuc, length, All, Some, IfSome};
+ghost use Rattle.std.specs.Prelude.{◌≡◌, ◌*ℤ◌, ◌≤ℤ◌, ◌<ℤ◌, ◌<◌, pos, negsuc, length, All, Some,
+    IfSome};
 ghost use Rattle.font_ir.specs.Normal.{nearest};
 ghost use Rattle.font_ir.specs.Coordinates.{HasAxis};
 ghost use Rattle.axis_space.specs.Points as spec;
@@ -15,8 +16,10 @@ pub struct Point {
     pub user: Fixed,
 }
 
-/// The user coordinate at a design coordinate, in 16.16, which is fontc's own: linear between the masters' coordinates on the
-/// axis, rounded to the nearest, a tie going up. Before the least and after the greatest design coordinate it is that of the
+/// The user coordinate at a design coordinate, in 16.16, which is fontc's own: linear between the
+/// masters' coordinates on the
+/// axis, rounded to the nearest, a tie going up. Before the least and after the greatest design
+/// coordinate it is that of the
 /// master there. Of masters with one design coordinate the first counts. It takes no memory.
 pub fn user_of(masters: &[Master], axis: u32, design: Fixed) -> Fixed
     requires master { 0 < length masters.now }
@@ -44,7 +47,8 @@ fn reading(below: Option<Point>, above: Option<Point>, design: Fixed) -> Fixed
     }
 }
 
-/// Of the masters that are not above a design coordinate the highest, and of those with one coordinate the first.
+/// Of the masters that are not above a design coordinate the highest, and of those with one
+/// coordinate the first.
 fn neighbour_below(masters: &[Master], axis: usize, design: Fixed) -> Option<Point>
     requires { All (HasAxis axis) masters.now }
     ensures { result ≡ spec.below design.0 (spec.points_of masters.now axis) }
@@ -59,7 +63,8 @@ fn neighbour_below(masters: &[Master], axis: usize, design: Fixed) -> Option<Poi
     nearest
 }
 
-/// Of the masters that are not below a design coordinate the lowest, and of those with one coordinate the first.
+/// Of the masters that are not below a design coordinate the lowest, and of those with one
+/// coordinate the first.
 fn neighbour_above(masters: &[Master], axis: usize, design: Fixed) -> Option<Point>
     requires { All (HasAxis axis) masters.now }
     ensures { result ≡ spec.above design.0 (spec.points_of masters.now axis) }
@@ -94,7 +99,8 @@ fn lower(nearest: Option<Point>, p: Point) -> Point
     }
 }
 
-/// The reading on the line through two points, of which one is not above the design coordinate and the other not below it.
+/// The reading on the line through two points, of which one is not above the design coordinate and
+/// the other not below it.
 fn between(p: Point, q: Point, design: Fixed) -> Fixed
     requires from { p.design.0 ≤ℤ design.0 }
     requires to { design.0 ≤ℤ q.design.0 }

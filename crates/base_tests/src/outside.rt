@@ -34,7 +34,8 @@ fn begins<F: Files>(files: &mut F, path: &str) -> bool {
     files.begin(path).is_ok()
 }
 
-/// Files with a source of 259 bytes in `in`, whose calls handle at most 100 bytes, and of which this one fails.
+/// Files with a source of 259 bytes in `in`, whose calls handle at most 100 bytes, and of which
+/// this one fails.
 pub(crate) fn listed(alloc: Global, call: u64) -> Result<MemFiles, NoMemory> {
     let mut files = MemFiles::with_room(alloc, 2, 1000)?;
     files.put(alloc, "in", &[7; 259])?;

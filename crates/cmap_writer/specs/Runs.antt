@@ -1,6 +1,8 @@
--- Runs of codes that follow each other and whose glyph numbers do too. They are what the segments of format 4 and the groups of
+-- Runs of codes that follow each other and whose glyph numbers do too. They are what the segments
+-- of format 4 and the groups of
 -- format 12 stand for (OpenType 1.9, "cmap"). That each run is as long as can be is fontc's own.
-use Rattle.std.specs.Prelude.{◌≡◌, ℕ, zero, suc, ◌+◌, Bool, ◌==◌, ◌&&◌, nat_le, if◌then◌else◌, List, [], ◌∷◌}
+use Rattle.std.specs.Prelude.{◌≡◌, ℕ, zero, suc, ◌+◌, Bool, ◌==◌, ◌&&◌, nat_le, if◌then◌else◌, List,
+    [], ◌∷◌}
 use Rattle.std.specs.List.{filter, flat_map}
 use Rattle.cmap_writer.specs.declared.runs.Run.{Run}
 
@@ -8,7 +10,8 @@ use Rattle.cmap_writer.specs.declared.runs.Run.{Run}
 abbrev pub Codes : Type 0
 Codes = List (ℕ × ℕ)
 
--- what a run stands for: its first code with that one's glyph number, and so many more, each one higher than the one before it
+-- what a run stands for: its first code with that one's glyph number, and so many more, each one
+-- higher than the one before it
 abbrev pub codes_from : ℕ → ℕ → ℕ → Codes
 codes_from code glyph zero = (code, glyph) ∷ []
 codes_from code glyph (suc more) = (code, glyph) ∷ codes_from (code + 1) (glyph + 1) more
@@ -18,7 +21,8 @@ codes_of run = codes_from run.first run.glyph run.more
 
 -- a run begins where another one ends
 abbrev pub Continues : Run → Run → Type 0
-Continues run next = (next.first ≡ run.first + run.more + 1) × (next.glyph ≡ run.glyph + run.more + 1)
+Continues run next = (next.first ≡ run.first + run.more + 1)
+    × (next.glyph ≡ run.glyph + run.more + 1)
 
 -- no two neighbours could be one run
 abbrev pub IsApart : Run → List Run → Type 0
@@ -34,12 +38,14 @@ pub record AreLongestRuns (codes : Codes) (runs : List Run) : Type 0 where
   pub whole : flat_map codes_of runs ≡ codes
   pub apart : AreApart runs
 
--- The same as a function: from the last code on, each one begins a run, and takes in the run after it where that one goes on.
+-- The same as a function: from the last code on, each one begins a run, and takes in the run after
+-- it where that one goes on.
 abbrev pub run_of : (ℕ × ℕ) → Run
 run_of code = record { first = code.0; glyph = code.1; more = 0 }
 
 abbrev pub continues : Run → Run → Bool
-continues run next = (next.first == run.first + run.more + 1) && (next.glyph == run.glyph + run.more + 1)
+continues run next = (next.first == run.first + run.more + 1)
+    && (next.glyph == run.glyph + run.more + 1)
 
 abbrev pub both : Run → Run → Run
 both run next = record { first = run.first; glyph = run.glyph; more = run.more + 1 + next.more }

@@ -8,7 +8,8 @@ use refusal_codes::NoMemory;
 use std::alloc::Global;
 use table_bytes::push_uint16;
 
-/// A segment of format 4 (OpenType 1.9, "cmap"): codes whose glyph numbers are these codes and idDelta, modulo 65536.
+/// A segment of format 4 (OpenType 1.9, "cmap"): codes whose glyph numbers are these codes and
+/// idDelta, modulo 65536.
 #[derive(Clone, Copy, Debug, PartialEq, Eq)]
 pub struct Segment {
     pub end_code: u16,
@@ -101,7 +102,8 @@ fn push_head(table: &mut Vec<u8>, count: u16) -> Result<(), NoMemory>
 
 /// Appends the last code of each segment.
 fn push_end_codes(table: &mut Vec<u8>, segments: &[Segment]) -> Result<(), NoMemory>
-    ensures { OnOk result (table.new.items ≡ table.old.items ++ flat_map uint16 (map (λ segment. segment.end_code) segments.now)) }
+    ensures { OnOk result (table.new.items
+        ≡ table.old.items ++ flat_map uint16 (map (λ segment. segment.end_code) segments.now)) }
 {
     for segment in segments {
         push_uint16(table, segment.end_code)?;
@@ -111,7 +113,8 @@ fn push_end_codes(table: &mut Vec<u8>, segments: &[Segment]) -> Result<(), NoMem
 
 /// Appends the first code of each segment.
 fn push_start_codes(table: &mut Vec<u8>, segments: &[Segment]) -> Result<(), NoMemory>
-    ensures { OnOk result (table.new.items ≡ table.old.items ++ flat_map uint16 (map (λ segment. segment.start_code) segments.now)) }
+    ensures { OnOk result (table.new.items
+        ≡ table.old.items ++ flat_map uint16 (map (λ segment. segment.start_code) segments.now)) }
 {
     for segment in segments {
         push_uint16(table, segment.start_code)?;
@@ -121,7 +124,8 @@ fn push_start_codes(table: &mut Vec<u8>, segments: &[Segment]) -> Result<(), NoM
 
 /// Appends what makes the glyph numbers of each segment's codes.
 fn push_id_deltas(table: &mut Vec<u8>, segments: &[Segment]) -> Result<(), NoMemory>
-    ensures { OnOk result (table.new.items ≡ table.old.items ++ flat_map uint16 (map (λ segment. segment.id_delta) segments.now)) }
+    ensures { OnOk result (table.new.items
+        ≡ table.old.items ++ flat_map uint16 (map (λ segment. segment.id_delta) segments.now)) }
 {
     for segment in segments {
         push_uint16(table, segment.id_delta)?;
@@ -131,7 +135,9 @@ fn push_id_deltas(table: &mut Vec<u8>, segments: &[Segment]) -> Result<(), NoMem
 
 /// Appends each segment's idRangeOffset.
 fn push_id_range_offsets(table: &mut Vec<u8>, segments: &[Segment]) -> Result<(), NoMemory>
-    ensures { OnOk result (table.new.items ≡ table.old.items ++ flat_map uint16 (map (λ segment. segment.id_range_offset) segments.now)) }
+    ensures { OnOk result (table.new.items
+        ≡ table.old.items ++ flat_map uint16
+        (map (λ segment. segment.id_range_offset) segments.now)) }
 {
     for segment in segments {
         push_uint16(table, segment.id_range_offset)?;

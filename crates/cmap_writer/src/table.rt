@@ -26,13 +26,16 @@ const WHOLE_ENCODING: u16 = 10;
 
 /// The table "cmap" (OpenType 1.9) of codes with their glyph numbers.
 ///
-/// The codes up to 65534 stand in a subtable of format 4, one segment for each longest run of codes that follow each other and
-/// whose glyph numbers do too. Where a code is above 65535, all codes stand in a subtable of format 12 as well. It costs a pass
+/// The codes up to 65534 stand in a subtable of format 4, one segment for each longest run of codes
+/// that follow each other and
+/// whose glyph numbers do too. Where a code is above 65535, all codes stand in a subtable of format
+/// 12 as well. It costs a pass
 /// over the codes for each subtable.
 ///
 /// # Errors
 ///
-/// `TooLarge` with the length of the subtable of format 4, exactly where that is more than 65,535 bytes, unless memory ran out.
+/// `TooLarge` with the length of the subtable of format 4, exactly where that is more than 65,535
+/// bytes, unless memory ran out.
 pub fn cmap(alloc: Global, order: &GlyphOrder, codes: &[(u32, u16)]) -> Result<Vec<u8>, CmapError>
     requires { spec.AreCodes codes.now }
     ensures { spec.BuildsCmap result codes.now }
@@ -79,7 +82,8 @@ fn table_of(alloc: Global, segments: &[Segment], codes: &[(u32, u16)]) -> Result
 
 /// Appends an encoding record.
 fn push_record(table: &mut Vec<u8>, encoding: u16, offset: u32) -> Result<(), NoMemory>
-    ensures { OnOk result (table.new.items ≡ table.old.items ++ (uint16 3 ++ uint16 encoding ++ uint32 offset)) }
+    ensures { OnOk result (table.new.items
+        ≡ table.old.items ++ (uint16 3 ++ uint16 encoding ++ uint32 offset)) }
 {
     push_uint16(table, PLATFORM)?;
     push_uint16(table, encoding)?;
@@ -92,7 +96,8 @@ fn push_record(table: &mut Vec<u8>, encoding: u16, offset: u32) -> Result<(), No
 fn short_table(alloc: Global, segments: &[Segment]) -> Result<Vec<u8>, NoMemory>
     requires few { length segments.now ≤ 8189 }
     requires some { 0 < length segments.now }
-    ensures { IfOk result (λ table. table.items ≡ spec.table_of (spec.short_encoding segments.now ∷ [])) }
+    ensures { IfOk result (λ table. table.items
+        ≡ spec.table_of (spec.short_encoding segments.now ∷ [])) }
 {
     let mut table = Vec::with_capacity(alloc, 28 + 8 * segments.len())?;
     push_uint16(&mut table, 0)?;
@@ -102,7 +107,8 @@ fn short_table(alloc: Global, segments: &[Segment]) -> Result<Vec<u8>, NoMemory>
     Ok(table)
 }
 
-/// Appends the header and the encoding records of two subtables, of which the first has so many bytes.
+/// Appends the header and the encoding records of two subtables, of which the first has so many
+/// bytes.
 fn push_two_records(table: &mut Vec<u8>, length: u32) -> Result<(), NoMemory>
     requires { length ≤ 65535 }
     ensures { OnOk result (table.new.items ≡ table.old.items ++ spec.two_records length) }

@@ -43,7 +43,8 @@ fn is_refused(alloc: Global, source: &[u8], rule: Rule, place: u64) -> Result<bo
     Ok(is_named && files.held("out") == Some(BEFORE) && files.held("in") == Some(source))
 }
 
-/// Whether a build of which this call fails ends with this exit status, and leaves this in the output.
+/// Whether a build of which this call fails ends with this exit status, and leaves this in the
+/// output.
 fn is_failed(alloc: Global, call: u64, code: u8, left: &[u8]) -> Result<bool, Fail> {
     let mut files = files_with(alloc, SOURCE)?;
     files.fail(alloc, call)?;

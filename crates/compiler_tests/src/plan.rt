@@ -63,7 +63,8 @@ fn notdef_is_the_first_glyph_and_hidden_ones_are_none(rt: HostRuntime) -> Result
     let built = compile_one(rt.alloc(), THREE_GLYPHS)?;
     let font = built.font.as_slice();
     assert!(rt; font.len() == 280);
-    // The table "hmtx" has two glyphs, of 600 and of 500 units; then come "loca", and "maxp", which counts two.
+    // The table "hmtx" has two glyphs, of 600 and of 500 units; then come "loca", and "maxp", which
+    // counts two.
     let expected = hex::decode(
         rt.alloc(),
         "0258000001f40000\

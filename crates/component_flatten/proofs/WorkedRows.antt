@@ -14,7 +14,8 @@ point x y = record { x = record { 0 = x }; y = record { 0 = y }; on = true }
 
 -- the triangle whose last corner is at x
 abbrev triangle_contour : ℤ → Contour
-triangle_contour x = record { points = point (pos 16384000) (pos 45875200) ∷ point (pos 0) (pos 0) ∷ point x (pos 0) ∷ [] }
+triangle_contour x = record { points = point (pos 16384000) (pos 45875200) ∷ point (pos 0) (pos 0)
+    ∷ point x (pos 0) ∷ [] }
 
 abbrev triangle : ℤ → GlyphIr
 triangle x = record {
@@ -37,21 +38,27 @@ flat_triangle x = record {
 }
 
 -- a triangle is drawn as it stands
-pub triangle-drawn : flat_of (codes "A") (triangle (pos 32768000)) ≡ Ok (flat_triangle (pos 32768000))
+pub triangle-drawn : flat_of (codes "A") (triangle (pos 32768000))
+    ≡ Ok (flat_triangle (pos 32768000))
 unfolding flat_of flat_record
 triangle-drawn = refl
 
 -- a point may be at 16383
-pub greatest-drawn : flat_of (codes "A") (triangle (pos 1073676288)) ≡ Ok (flat_triangle (pos 1073676288))
+pub greatest-drawn : flat_of (codes "A") (triangle (pos 1073676288))
+    ≡ Ok (flat_triangle (pos 1073676288))
 unfolding flat_of flat_record
 greatest-drawn = refl
 
 -- and not beyond it, at either side
-pub beyond-refused : flat_of (codes "A") (triangle (pos 1073676289)) ≡ Err (record { stratum = 1; kind = 4; name = codes "A"; rule = CoordinateTooLarge; place = 82 })
+pub beyond-refused : flat_of (codes "A") (triangle (pos 1073676289))
+    ≡ Err (record { stratum = 1; kind = 4; name = codes "A"; rule = CoordinateTooLarge; place
+    = 82 })
 unfolding flat_of flat_record
 beyond-refused = refl
 
-pub below-refused : flat_of (codes "A") (triangle (neg_ℤ (pos 1073676289))) ≡ Err (record { stratum = 1; kind = 4; name = codes "A"; rule = CoordinateTooLarge; place = 82 })
+pub below-refused : flat_of (codes "A") (triangle (neg_ℤ (pos 1073676289)))
+    ≡ Err (record { stratum = 1; kind = 4; name = codes "A"; rule = CoordinateTooLarge; place
+    = 82 })
 unfolding flat_of flat_record
 below-refused = refl
 
@@ -71,11 +78,13 @@ many n = record {
 -- 8,000 points are drawn
 pub most_points-drawn :
     flat_of (codes "A") (many 8000)
-    ≡ Ok (record { number = 0; place = 82; places = [] ∷ []; widths = pos 500 ∷ []; drawn = (many_points 8000 ∷ []) ∷ []; kept = []; anchors = [] })
+    ≡ Ok (record { number = 0; place = 82; places = [] ∷ []; widths = pos 500
+        ∷ []; drawn = (many_points 8000 ∷ []) ∷ []; kept = []; anchors = [] })
 unfolding flat_of flat_record
 most_points-drawn = refl
 
 -- and one more is refused at the glyph
-pub more_points-refused : flat_of (codes "A") (many 8001) ≡ Err (record { stratum = 1; kind = 4; name = codes "A"; rule = TooManyPoints; place = 82 })
+pub more_points-refused : flat_of (codes "A") (many 8001)
+    ≡ Err (record { stratum = 1; kind = 4; name = codes "A"; rule = TooManyPoints; place = 82 })
 unfolding flat_of flat_record
 more_points-refused = refl

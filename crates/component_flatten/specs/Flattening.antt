@@ -1,7 +1,11 @@
--- A glyph with its contours drawn (Glyphs file format, version 3; the limits are fontc's own). Components and anchors aren't
--- built, so these definitions are meant only for a glyph that has none, as long as `flatten` asks for that by `HasNoComponents`
--- and `HasNoAnchors`: its drawn contours at a place are the paths of its layer there, in their order.
-use Rattle.std.specs.Prelude.{ℕ, Bool, not, ◌&&◌, nat_lt, nat_le, List, [], ◌∷◌, ◌++◌, map, flat_map, None, Result, unsigned_abs, if◌then◌else◌}
+-- A glyph with its contours drawn (Glyphs file format, version 3; the limits are fontc's own).
+-- Components and anchors aren't
+-- built, so these definitions are meant only for a glyph that has none, as long as `flatten` asks
+-- for that by `HasNoComponents`
+-- and `HasNoAnchors`: its drawn contours at a place are the paths of its layer there, in their
+-- order.
+use Rattle.std.specs.Prelude.{ℕ, Bool, not, ◌&&◌, nat_lt, nat_le, List, [], ◌∷◌, ◌++◌, map,
+    flat_map, None, Result, unsigned_abs, if◌then◌else◌}
 use Rattle.std.specs.List.{list_any, list_all}
 use Rattle.fixed_math.specs.declared.Fixed.{Fixed}
 use Rattle.font_ir.specs.declared.glyph.DrawnPoint.{DrawnPoint}
@@ -41,7 +45,8 @@ flat_record glyph = record {
   anchors = [];
 }
 
--- ---- rules: at most 8,000 drawn points at each place, and then no coordinate beyond 16383 in size, which is 1073676288
+-- ---- rules: at most 8,000 drawn points at each place, and then no coordinate beyond 16383 in
+-- size, which is 1073676288
 -- in 16.16
 
 abbrev pub has_many_points : List Contour → Bool
@@ -71,4 +76,5 @@ limit_failures flat =
 -- what the job of a flat glyph answers, for the glyph with this name, which the job has too
 unfoldable pub flat_of : List ℕ → GlyphIr → Result FlatGlyph Refusal
 flat_of name glyph =
-    judged (refusal_of FLAT name) None (foremost (limit_failures (flat_record glyph))) (flat_record glyph)
+    judged (refusal_of FLAT name) None (foremost (limit_failures (flat_record glyph)))
+        (flat_record glyph)

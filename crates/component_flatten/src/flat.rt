@@ -16,11 +16,14 @@ use std::sync::Arc;
 
 /// The glyph with its contours drawn.
 ///
-/// Components and anchors aren't built, so the glyph must have none: these are the conditions `components` and `anchors`.
-/// `bases` are the flat glyphs of its components, and aren't looked at. `index` has the glyph's number, and gives the name that
+/// Components and anchors aren't built, so the glyph must have none: these are the conditions
+/// `components` and `anchors`.
+/// `bases` are the flat glyphs of its components, and aren't looked at. `index` has the glyph's
+/// number, and gives the name that
 /// a refusal tells.
 ///
-/// The error is that a place has more than 8,000 drawn points, else that a drawn coordinate is beyond 16383 in size; it stands
+/// The error is that a place has more than 8,000 drawn points, else that a drawn coordinate is
+/// beyond 16383 in size; it stands
 /// at the glyph. Or it is want of memory.
 pub fn flatten(
     alloc: Global,
@@ -32,7 +35,8 @@ pub fn flatten(
     requires read { IsReadGlyph glyph.now }
     requires components { HasNoComponents glyph.now }
     requires anchors { HasNoAnchors glyph.now }
-    ensures record { IfSome (slice_get index.now glyph.now.number) (λ entry. Gives (λ flat. flat) result (flat_of entry.0 glyph.now)) }
+    ensures record { IfSome (slice_get index.now glyph.now.number)
+        (λ entry. Gives (λ flat. flat) result (flat_of entry.0 glyph.now)) }
     ensures flat { IfOk result IsFlatGlyph }
     ensures places { IfOk result (λ flat. flat.places ≡ glyph.now.places) }
     ensures kept { IfOk result (λ flat. flat.kept ≡ []) }

@@ -2,7 +2,8 @@ ghost use Rattle.std.specs.Prelude.{◌≡◌, ◌≤◌, pos, ◌+ℤ◌, ◌-�
 ghost use Rattle.fixed_math.specs.FixedPoint.{floor_quotient};
 ghost use Rattle.std.specs.List.{list_all};
 ghost use Rattle.std.specs.Ordering.{int_eq};
-ghost use Rattle.delta_infer.specs.Inferred.{inferred_between, inferred_level, inferred_rising, mean};
+ghost use Rattle.delta_infer.specs.Inferred.{inferred_between, inferred_level, inferred_rising,
+    mean};
 ghost use Rattle.delta_infer.specs.Parts.{is_between, is_still};
 
 use crate::moved::{Move, MovedPoint};
@@ -52,7 +53,8 @@ fn gap(from: i32, to: i32) -> i64
     i64::from(to) - i64::from(from)
 }
 
-/// Whether the mean of two deltas, weighed by the point's distances, is the point's own delta, as it is rounded down in 16.16.
+/// Whether the mean of two deltas, weighed by the point's distances, is the point's own delta, as
+/// it is rounded down in 16.16.
 fn is_mean(low: Move, high: Move, point: Move) -> bool
     requires { low.at <ℤ high.at }
     ensures { result ≡ int_eq (mean low high point.at) (pos 65536 *ℤ point.delta) }

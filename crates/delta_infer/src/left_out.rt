@@ -1,4 +1,5 @@
-ghost use Rattle.std.specs.Prelude.{◌≡◌, ◌+◌, ◌<◌, ◌≤◌, ◌++◌, length, map, replicate, true, IfOk, OnOk};
+ghost use Rattle.std.specs.Prelude.{◌≡◌, ◌+◌, ◌<◌, ◌≤◌, ◌++◌, length, map, replicate, true, IfOk,
+    OnOk};
 ghost use Rattle.std.specs.List.{sum_by};
 ghost use Rattle.delta_infer.specs.Moved.{moved_points};
 ghost use Rattle.delta_infer.specs.Omitted.{contour_marks, omitted};
@@ -10,14 +11,20 @@ use crate::moved::{MovedPoint, moved_points};
 use refusal_codes::NoMemory;
 use std::alloc::Global;
 
-/// Which points can be left out: for each point of the contours, in order, whether its delta need not be named.
+/// Which points can be left out: for each point of the contours, in order, whether its delta need
+/// not be named.
 ///
-/// The coordinates and the deltas are in font units, and there is one delta per point, in order. In each contour the points are
-/// tried in order. A point is left out where, it and those that were left out before it being unnamed and all others of the
-/// contour named, the delta that a font's reader infers for every unnamed point of the contour is exactly its own (OpenType 1.9,
-/// "gvar", "Inferred deltas for un-referenced point numbers", in 16.16). Which points are left out is fontc's own.
+/// The coordinates and the deltas are in font units, and there is one delta per point, in order. In
+/// each contour the points are
+/// tried in order. A point is left out where, it and those that were left out before it being
+/// unnamed and all others of the
+/// contour named, the delta that a font's reader infers for every unnamed point of the contour is
+/// exactly its own (OpenType 1.9,
+/// "gvar", "Inferred deltas for un-referenced point numbers", in 16.16). Which points are left out
+/// is fontc's own.
 ///
-/// It takes time for at most the square of the number of points of each contour, and for their number alone where none moves.
+/// It takes time for at most the square of the number of points of each contour, and for their
+/// number alone where none moves.
 ///
 /// # Errors
 ///
@@ -28,8 +35,10 @@ pub fn omit(
     deltas: &[(i16, i16)],
 ) -> Result<Vec<bool>, NoMemory>
     requires { length deltas.now ≡ sum_by (λ contour. length contour.items) contours.now }
-    ensures marks { IfOk result (λ marks. marks.items ≡ omitted (map (λ contour. contour.items) contours.now) deltas.now) }
-    ensures laws { IfOk result (λ marks. AreMarks (map (λ contour. contour.items) contours.now) deltas.now marks.items) }
+    ensures marks { IfOk result (λ marks. marks.items
+        ≡ omitted (map (λ contour. contour.items) contours.now) deltas.now) }
+    ensures laws { IfOk result (λ marks. AreMarks (map (λ contour. contour.items) contours.now)
+        deltas.now marks.items) }
 {
     let mut marks = Vec::with_capacity(alloc, deltas.len())?;
     let mut from = 0;
@@ -49,7 +58,8 @@ fn push_marks(
     deltas: &[(i16, i16)],
 ) -> Result<(), NoMemory>
     requires { length deltas.now ≡ length contour.now }
-    ensures { OnOk result (marks.new.items ≡ marks.old.items ++ contour_marks (moved_points contour.now deltas.now)) }
+    ensures { OnOk result (marks.new.items
+        ≡ marks.old.items ++ contour_marks (moved_points contour.now deltas.now)) }
 {
     let points = moved_points(alloc, contour, deltas)?;
     if are_still(points.as_slice()) {
@@ -62,7 +72,8 @@ fn push_marks(
 /// Adds the marks of points that are all left out.
 #[tactic(auto, using(crate::proofs::Stills::filled))]
 fn push_all_left_out(marks: &mut Vec<bool>, points: &[MovedPoint]) -> Result<(), NoMemory>
-    ensures { OnOk result (marks.new.items ≡ marks.old.items ++ replicate (length points.now) true) }
+    ensures { OnOk result (marks.new.items ≡ marks.old.items ++ replicate (length points.now) true)
+        }
 {
     let len = marks.len() + points.len();
     marks.resize(len, true)?;
@@ -79,7 +90,8 @@ pub struct Run {
 }
 
 impl Run {
-    /// Whether the points from the run's start to `at` can be left out together, all after them being named. The last point of a
+    /// Whether the points from the run's start to `at` can be left out together, all after them
+    /// being named. The last point of a
     /// contour has after it those before the first named one.
     fn fits(self, points: &[MovedPoint], at: usize) -> bool
         requires within { at < length points.now }

@@ -1,3 +1,1 @@
-pub mod FloorLemmas
 pub mod CastLemmas
-pub mod ProductLemmas

@@ -1,1 +1,4 @@
 pub mod FixedPoint
+-- lemmas that the proofs of other crates need
+pub mod FloorLaws
+pub mod ProductLaws

@@ -1,6 +1,7 @@
 //! Fixed-point numbers, as OpenType stores them (OpenType 1.9, "Data types"), and their arithmetic.
 //!
-//! The conditions of the calls are those under which their answers and what they add up fit. No call takes memory.
+//! The conditions of the calls are those under which their answers and what they add up fit. No
+//! call takes memory.
 #![tactic(auto)]
 
 ghost use Rattle.std.specs.Prelude.{◌≡◌, pos, ◌+ℤ◌, ◌≤ℤ◌, ◌<ℤ◌, FitsSigned};

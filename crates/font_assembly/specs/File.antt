@@ -1,7 +1,10 @@
--- A font file: its directory, and its tables one after another (OpenType 1.9, "Organization of an OpenType Font" and
--- "head"). It is stated over the whole file: the file with 0 as its checksumAdjustment, whose checksum gives the
+-- A font file: its directory, and its tables one after another (OpenType 1.9, "Organization of an
+-- OpenType Font" and
+-- "head"). It is stated over the whole file: the file with 0 as its checksumAdjustment, whose
+-- checksum gives the
 -- checksumAdjustment that stands in its place.
-use Rattle.std.specs.Prelude.{◌≡◌, ℕ, zero, suc, ◌+◌, ◌-◌, ◌*◌, ◌%◌, ◌^◌, Bool, nat_eq, nat_le, not, ◌||◌, if◌then◌else◌, IsTrue, List, [], ◌∷◌, ◌++◌, length, take, drop, codes}
+use Rattle.std.specs.Prelude.{◌≡◌, ℕ, zero, suc, ◌+◌, ◌-◌, ◌*◌, ◌%◌, ◌^◌, Bool, nat_eq, nat_le, not,
+    ◌||◌, if◌then◌else◌, IsTrue, List, [], ◌∷◌, ◌++◌, length, take, drop, codes}
 use Rattle.std.specs.List.{flat_map, list_any, list_all}
 use Rattle.std.specs.Cmp.Lexicographic.{pointwise, slice_cmp}
 use Rattle.std.specs.Ordering.{nat_cmp}
@@ -60,7 +63,8 @@ directory_entry t offset =
 -- the records of tables that stand one after another from an offset on
 abbrev pub directory_entries : List Table → ℕ → List ℕ
 directory_entries [] offset = []
-directory_entries (t ∷ ts) offset = directory_entry t offset ++ directory_entries ts (offset + room_of t)
+directory_entries (t ∷ ts) offset = directory_entry t offset
+    ++ directory_entries ts (offset + room_of t)
 
 -- the padded tables, one after another
 abbrev pub bodies : List Table → List ℕ
@@ -79,7 +83,8 @@ head_offset (t ∷ ts) offset = if is_head t then offset else head_offset ts (of
 
 -- the file with 0 as its checksumAdjustment
 unfoldable pub unadjusted_file : List Table → List ℕ
-unadjusted_file ts = directory_head (length ts) ++ directory_entries ts (first_offset ts) ++ bodies ts
+unadjusted_file ts = directory_head (length ts) ++ directory_entries ts (first_offset ts)
+    ++ bodies ts
 
 -- what is missing from the file's checksum to 0xB1B0AFBA
 abbrev pub adjustment : List ℕ → ℕ
@@ -92,7 +97,8 @@ with_word bytes offset n = take offset bytes ++ uint32 n ++ drop (offset + 4) by
 -- the file: the file with 0, and the adjustment written into its place in 'head'
 unfoldable pub file : List Table → List ℕ
 file ts =
-    with_word (unadjusted_file ts) (head_offset ts (first_offset ts) + 8) (adjustment (unadjusted_file ts))
+    with_word (unadjusted_file ts) (head_offset ts (first_offset ts) + 8)
+        (adjustment (unadjusted_file ts))
 
 abbrev pub file_len : List Table → ℕ
 file_len ts = first_offset ts + room_of_all ts

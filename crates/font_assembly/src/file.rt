@@ -1,4 +1,5 @@
-ghost use Rattle.std.specs.Prelude.{◌≡◌, ◌+◌, ◌-◌, ◌*◌, ◌^◌, ◌<◌, ◌≤◌, ◌++◌, ℕ, List, length, min, OnOk, IsTrue};
+ghost use Rattle.std.specs.Prelude.{◌≡◌, ◌+◌, ◌-◌, ◌*◌, ◌^◌, ◌<◌, ◌≤◌, ◌++◌, ℕ, List, length, min,
+    OnOk, IsTrue};
 ghost use Rattle.std.specs.Vec.{vec_len};
 ghost use Rattle.std.specs.Arc.{arc_value};
 ghost use Rattle.table_bytes.specs.DataTypes.{padded};
@@ -51,7 +52,8 @@ fn file_len(tables: &[Table]) -> u64
 fn head_offset(tables: &[Table]) -> usize
     requires count { length tables.now ≤ 4095 }
     requires fits { files.file_len (tables_of tables.now) < 2 ^ 32 }
-    ensures { result ≡ files.head_offset (tables_of tables.now) (files.first_offset (tables_of tables.now)) }
+    ensures { result ≡ files.head_offset (tables_of tables.now)
+        (files.first_offset (tables_of tables.now)) }
 {
     let mut offset = 12 + 16 * tables.len() as u64;
     for table in tables {
@@ -69,7 +71,8 @@ fn adjustment_offset(tables: &[Table]) -> usize
     requires count { length tables.now ≤ 4095 }
     requires head { files.HasHead (tables_of tables.now) }
     requires fits { files.file_len (tables_of tables.now) < 2 ^ 32 }
-    ensures value { result ≡ files.head_offset (tables_of tables.now) (files.first_offset (tables_of tables.now)) + 8 }
+    ensures value { result ≡ files.head_offset (tables_of tables.now)
+        (files.first_offset (tables_of tables.now)) + 8 }
     ensures room { result + 46 ≤ files.file_len (tables_of tables.now) }
 {
     head_offset(tables) + ADJUSTMENT
@@ -122,7 +125,8 @@ fn table_checksum(table: &Table) -> u32
 fn push_entry(font: &mut Vec<u8>, table: &Table, offset: u32) -> Result<(), AllocError>
     requires head { IsTrue (files.fits_head (table_of table.now)) }
     requires fits { files.room_of (table_of table.now) < 2 ^ 32 }
-    ensures bytes { OnOk result (font.new.items ≡ font.old.items ++ files.directory_entry (table_of table.now) offset) }
+    ensures bytes { OnOk result (font.new.items
+        ≡ font.old.items ++ files.directory_entry (table_of table.now) offset) }
     ensures len { OnOk result (vec_len font.new ≡ vec_len font.old + 16) }
 {
     font.extend_from_slice(&table.0.0)?;
@@ -137,7 +141,9 @@ fn push_entries(font: &mut Vec<u8>, tables: &[Table]) -> Result<(), AllocError>
     requires count { length tables.now ≤ 4095 }
     requires head { files.HasHead (tables_of tables.now) }
     requires fits { files.file_len (tables_of tables.now) < 2 ^ 32 }
-    ensures bytes { OnOk result (font.new.items ≡ font.old.items ++ files.directory_entries (tables_of tables.now) (files.first_offset (tables_of tables.now))) }
+    ensures bytes { OnOk result (font.new.items
+        ≡ font.old.items ++ files.directory_entries (tables_of tables.now)
+        (files.first_offset (tables_of tables.now))) }
     ensures len { OnOk result (vec_len font.new ≡ vec_len font.old + 16 * length tables.now) }
 {
     let mut offset = 12 + 16 * tables.len() as u64;
@@ -151,8 +157,10 @@ fn push_entries(font: &mut Vec<u8>, tables: &[Table]) -> Result<(), AllocError>
 /// Appends a table's bytes, with 0 as the checksumAdjustment of 'head'.
 fn push_unadjusted(font: &mut Vec<u8>, table: &Table) -> Result<(), AllocError>
     requires { IsTrue (files.fits_head (table_of table.now)) }
-    ensures bytes { OnOk result (font.new.items ≡ font.old.items ++ files.unadjusted (table_of table.now)) }
-    ensures len { OnOk result (vec_len font.new ≡ vec_len font.old + length (arc_value table.now.1).items) }
+    ensures bytes { OnOk result (font.new.items
+        ≡ font.old.items ++ files.unadjusted (table_of table.now)) }
+    ensures len { OnOk result (vec_len font.new
+        ≡ vec_len font.old + length (arc_value table.now.1).items) }
 {
     let bytes = table.1.as_slice();
     if table.0 != HEAD {
@@ -167,8 +175,10 @@ fn push_unadjusted(font: &mut Vec<u8>, table: &Table) -> Result<(), AllocError>
 #[tactic(auto, using(crate::proofs::FileLemmas::length_unadjusted))]
 fn push_body(font: &mut Vec<u8>, table: &Table) -> Result<(), AllocError>
     requires { IsTrue (files.fits_head (table_of table.now)) }
-    ensures bytes { OnOk result (font.new.items ≡ font.old.items ++ padded (files.unadjusted (table_of table.now))) }
-    ensures len { OnOk result (vec_len font.new ≡ vec_len font.old + files.room_of (table_of table.now)) }
+    ensures bytes { OnOk result (font.new.items
+        ≡ font.old.items ++ padded (files.unadjusted (table_of table.now))) }
+    ensures len { OnOk result (vec_len font.new
+        ≡ vec_len font.old + files.room_of (table_of table.now)) }
 {
     push_unadjusted(font, table)?;
     push_zeros(font, padding(table.1.len()))?;
@@ -178,8 +188,10 @@ fn push_body(font: &mut Vec<u8>, table: &Table) -> Result<(), AllocError>
 /// Appends the tables.
 fn push_bodies(font: &mut Vec<u8>, tables: &[Table]) -> Result<(), AllocError>
     requires { files.HasHead (tables_of tables.now) }
-    ensures bytes { OnOk result (font.new.items ≡ font.old.items ++ files.bodies (tables_of tables.now)) }
-    ensures len { OnOk result (vec_len font.new ≡ vec_len font.old + files.room_of_all (tables_of tables.now)) }
+    ensures bytes { OnOk result (font.new.items
+        ≡ font.old.items ++ files.bodies (tables_of tables.now)) }
+    ensures len { OnOk result (vec_len font.new
+        ≡ vec_len font.old + files.room_of_all (tables_of tables.now)) }
 {
     for table in tables {
         push_body(font, table)?;
@@ -193,8 +205,10 @@ fn push_file(font: &mut Vec<u8>, tables: &[Table]) -> Result<(), AllocError>
     requires count { length tables.now ≤ 4095 }
     requires head { files.HasHead (tables_of tables.now) }
     requires fits { files.file_len (tables_of tables.now) < 2 ^ 32 }
-    ensures bytes { OnOk result (font.new.items ≡ font.old.items ++ files.unadjusted_file (tables_of tables.now)) }
-    ensures len { OnOk result (vec_len font.new ≡ vec_len font.old + files.file_len (tables_of tables.now)) }
+    ensures bytes { OnOk result (font.new.items
+        ≡ font.old.items ++ files.unadjusted_file (tables_of tables.now)) }
+    ensures len { OnOk result (vec_len font.new
+        ≡ vec_len font.old + files.file_len (tables_of tables.now)) }
 {
     push_directory_head(font, tables.len() as u16)?;
     push_entries(font, tables)?;
@@ -205,27 +219,33 @@ fn push_file(font: &mut Vec<u8>, tables: &[Table]) -> Result<(), AllocError>
 /// Writes the adjustment of a file's checksum at an offset.
 fn adjust(font: &mut Vec<u8>, offset: usize)
     requires { offset + 4 ≤ vec_len font.old }
-    ensures { font.new.items ≡ files.with_word font.old.items offset (files.adjustment font.old.items) }
+    ensures { font.new.items ≡ files.with_word font.old.items offset
+        (files.adjustment font.old.items) }
 {
     let adjustment = WHOLE.wrapping_sub(checksum(font));
     BigEndian::write_u32(&mut font[offset..offset + 4], adjustment);
 }
 
-/// The font file of tables (OpenType 1.9, "Organization of an OpenType Font"): the directory, and the tables in the
-/// order given, each padded with zeros to a multiple of four bytes. Whatever the checksumAdjustment of the 'head' that
-/// is handed in, the file has the one of OpenType 1.9, "head", over the whole file. What its directory says of each table, its
+/// The font file of tables (OpenType 1.9, "Organization of an OpenType Font"): the directory, and
+/// the tables in the
+/// order given, each padded with zeros to a multiple of four bytes. Whatever the checksumAdjustment
+/// of the 'head' that
+/// is handed in, the file has the one of OpenType 1.9, "head", over the whole file. What its
+/// directory says of each table, its
 /// checksum and its length are laws of `directory_leads_to_tables`.
 ///
 /// # Errors
 ///
-/// `TooLarge` with the file's length, or `u64::MAX` where it is longer, exactly where it has more than 4,294,967,295
+/// `TooLarge` with the file's length, or `u64::MAX` where it is longer, exactly where it has more
+/// than 4,294,967,295
 /// bytes. `NoMemory` comes only where it hasn't.
 #[tactic(auto, unfolding(crate::specs::File::file))]
 pub fn assemble(alloc: Global, tables: &[(Tag, Arc<Vec<u8>>)]) -> Result<Vec<u8>, TableError>
     requires count { length tables.now ≤ 4095 }
     requires tags { files.TagsRise (tables_of tables.now) }
     requires head { files.HasHead (tables_of tables.now) }
-    ensures { Builds {Y = List ℕ} (λ font. font.items) result (over_limit (files.file_len (tables_of tables.now))) (files.file (tables_of tables.now)) }
+    ensures { Builds {Y = List ℕ} (λ font. font.items) result
+        (over_limit (files.file_len (tables_of tables.now))) (files.file (tables_of tables.now)) }
 {
     let len = file_len(tables);
     if len > u64::from(u32::MAX) {

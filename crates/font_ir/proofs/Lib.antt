@@ -1,3 +1,2 @@
 mod Names
 pub mod NotdefLaws
-pub mod OutlineLemmas

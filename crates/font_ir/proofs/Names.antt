@@ -1,11 +1,14 @@
 -- The place of a name in a list that a set keeps.
-use Rattle.std.proofs.Common.{◌≡◌, ℕ, suc, ◌+◌, Bool, true, false, cond, not, ◌||◌, ◌&&◌, List, [], ◌∷◌, length, map, is_some, Option, Some, None, ltb, refl, ap, sym, ◌∙◌, arith}
-use Rattle.std.specs.List.{position, position_or_len, prefix_len, list_any, IsDistinct, AllByRecursion}
+use Rattle.std.proofs.Common.{◌≡◌, ℕ, suc, ◌+◌, Bool, true, false, cond, not, ◌||◌, ◌&&◌, List, [],
+    ◌∷◌, length, map, is_some, Option, Some, None, ltb, refl, ap, sym, ◌∙◌, arith}
+use Rattle.std.specs.List.{position, position_or_len, prefix_len, list_any, IsDistinct,
+    AllByRecursion}
 use Rattle.std.specs.Cmp.Lexicographic.{pointwise}
 use Rattle.std.proofs.lemmas.Bool.Decides.{nat_tests}
 use Rattle.std.proofs.lemmas.List.{length-map}
 
-prefix_len-map : {A B : Type 0} (p : B → Bool) (f : A → B) (xs : List A) → prefix_len p (map f xs) ≡ prefix_len (λ x. p (f x)) xs
+prefix_len-map : {A B : Type 0} (p : B → Bool) (f : A → B) (xs : List A)
+    → prefix_len p (map f xs) ≡ prefix_len (λ x. p (f x)) xs
 prefix_len-map p f [] = refl
 prefix_len-map p f (x ∷ xs) = ap (λ n. cond (p (f x)) (1 + n) 0) (prefix_len-map p f xs)
 
@@ -14,7 +17,8 @@ abbrev place_below : ℕ → ℕ → Option ℕ
 place_below n m = cond (ltb n m) (Some n) None
 
 -- to search what f makes of a list is to search the list by f
-pub position-map : {A B : Type 0} (p : B → Bool) (f : A → B) (xs : List A) → position p (map f xs) ≡ position (λ x. p (f x)) xs
+pub position-map : {A B : Type 0} (p : B → Bool) (f : A → B) (xs : List A)
+    → position p (map f xs) ≡ position (λ x. p (f x)) xs
 position-map p f xs =
     ap (λ n. place_below n (length (map f xs))) (prefix_len-map (λ y. not (p y)) f xs)
     ∙ ap (place_below (position_or_len (λ x. p (f x)) xs)) (length-map xs f)
@@ -23,34 +27,43 @@ step : (b : Bool) (n m : ℕ) → ltb (cond (not b) (1 + n) 0) (suc m) ≡ (b ||
 step true n m = grind (arith, nat_tests)
 step false n m = grind (arith, nat_tests)
 
-passes : {A : Type 0} (p : A → Bool) (xs : List A) → ltb (position_or_len p xs) (length xs) ≡ list_any p xs
+passes : {A : Type 0} (p : A → Bool) (xs : List A)
+    → ltb (position_or_len p xs) (length xs) ≡ list_any p xs
 passes p [] = refl
-passes p (x ∷ xs) = step (p x) (position_or_len p xs) (length xs) ∙ ap (λ found. p x || found) (passes p xs)
+passes p (x ∷ xs) = step (p x) (position_or_len p xs) (length xs)
+    ∙ ap (λ found. p x || found) (passes p xs)
 
 is_some-cond : (b : Bool) (n : ℕ) → is_some (cond b (Some n) None) ≡ b
 is_some-cond true n = refl
 is_some-cond false n = refl
 
 -- whether a search finds a place
-pub is_some-position : {A : Type 0} (p : A → Bool) (xs : List A) → is_some (position p xs) ≡ list_any p xs
-is_some-position p xs = is_some-cond (ltb (position_or_len p xs) (length xs)) (position_or_len p xs) ∙ passes p xs
+pub is_some-position : {A : Type 0} (p : A → Bool) (xs : List A)
+    → is_some (position p xs) ≡ list_any p xs
+is_some-position p xs = is_some-cond (ltb (position_or_len p xs) (length xs)) (position_or_len p xs)
+    ∙ passes p xs
 
 -- whether a name has a place, where the names are what f makes of a list
-pub is_some-position_map : {A B : Type 0} (p : B → Bool) (f : A → B) (xs : List A) → is_some (position p (map f xs)) ≡ list_any (λ x. p (f x)) xs
+pub is_some-position_map : {A B : Type 0} (p : B → Bool) (f : A → B) (xs : List A)
+    → is_some (position p (map f xs)) ≡ list_any (λ x. p (f x)) xs
 is_some-position_map p f xs = ap is_some (position-map p f xs) ∙ is_some-position (λ x. p (f x)) xs
 
-AllByRecursion-map : {A B : Type 0} (P : B → Type 0) (f : A → B) (xs : List A) → AllByRecursion (λ x. P (f x)) xs → AllByRecursion P (map f xs)
+AllByRecursion-map : {A B : Type 0} (P : B → Type 0) (f : A → B) (xs : List A)
+    → AllByRecursion (λ x. P (f x)) xs → AllByRecursion P (map f xs)
 AllByRecursion-map P f [] h = tt
 AllByRecursion-map P f (x ∷ xs) h = (h.0, AllByRecursion-map P f xs h.1)
 
 -- what differs by f is different under f
-pub IsDistinct-map : {A B : Type 0} (e : B → B → Bool) (f : A → B) (xs : List A) → IsDistinct (λ a b. e (f a) (f b)) xs → IsDistinct e (map f xs)
+pub IsDistinct-map : {A B : Type 0} (e : B → B → Bool) (f : A → B) (xs : List A)
+    → IsDistinct (λ a b. e (f a) (f b)) xs → IsDistinct e (map f xs)
 unfolding IsDistinct
 IsDistinct-map e f [] h = tt
-IsDistinct-map e f (x ∷ xs) h = (AllByRecursion-map (λ y. e (f x) y ≡ false) f xs h.0, IsDistinct-map e f xs h.1)
+IsDistinct-map e f (x ∷ xs) h = (AllByRecursion-map (λ y. e (f x) y ≡ false) f xs h.0,
+    IsDistinct-map e f xs h.1)
 
 -- to compare by f is to compare what f makes
-pub pointwise-map : {A B : Type 0} (e : B → B → Bool) (f : A → B) (xs ys : List A) → pointwise (λ a b. e (f a) (f b)) xs ys ≡ pointwise e (map f xs) (map f ys)
+pub pointwise-map : {A B : Type 0} (e : B → B → Bool) (f : A → B) (xs ys : List A)
+    → pointwise (λ a b. e (f a) (f b)) xs ys ≡ pointwise e (map f xs) (map f ys)
 pointwise-map e f [] [] = refl
 pointwise-map e f [] (y ∷ ys) = refl
 pointwise-map e f (x ∷ xs) [] = refl

@@ -1,4 +1,5 @@
--- The coordinates of the masters on an axis, and where they lie on the normalised scale (OpenType 1.9, "Coordinate scales and
+-- The coordinates of the masters on an axis, and where they lie on the normalised scale (OpenType
+-- 1.9, "Coordinate scales and
 -- normalization").
 use Rattle.std.specs.Prelude.{ℕ, ◌<◌, List, map, length, slice_index_or, ℤ, pos}
 use Rattle.fixed_math.specs.declared.F2Dot14.{F2Dot14}
@@ -27,14 +28,17 @@ coordinate_on scale axis master = coordinate_at (coordinates_of scale master) ax
 
 -- the coordinate of the default master, which is the one at origin
 abbrev pub default_on : CoordinateScale → ℕ → ℕ → List Master → ℤ
-default_on scale origin axis masters = (coordinate_at (map (coordinate_on scale axis) masters) origin).0
+default_on scale origin axis masters = (coordinate_at (map (coordinate_on scale axis) masters)
+    origin).0
 
 -- the masters' coordinates
 abbrev pub coordinates_on : CoordinateScale → ℕ → List Master → List ℤ
 coordinates_on scale axis masters = map (λ master. (coordinate_on scale axis master).0) masters
 
--- a master's normalised coordinate: where it lies between the least and the greatest one of the masters
+-- a master's normalised coordinate: where it lies between the least and the greatest one of the
+-- masters
 abbrev pub normal_on : CoordinateScale → ℕ → ℕ → List Master → Master → F2Dot14
 normal_on scale origin axis masters master =
     let all = coordinates_on scale axis masters in
-    record { 0 = normalised (coordinate_on scale axis master).0 (least all) (default_on scale origin axis masters) (greatest all) }
+    record { 0 = normalised (coordinate_on scale axis master).0 (least all)
+        (default_on scale origin axis masters) (greatest all) }

@@ -1,4 +1,5 @@
--- The least and the greatest of some numbers: members of them, and none of them is below the one or above the other.
+-- The least and the greatest of some numbers: members of them, and none of them is below the one or
+-- above the other.
 use Rattle.std.specs.Prelude.{ℤ, pos, ◌≤ℤ◌, List, [], ◌∷◌}
 use Rattle.std.specs.List.{All, Contains, fold}
 use Rattle.std.specs.Int.{int_min, int_max}

@@ -1,4 +1,5 @@
--- The flat glyphs that the compiler makes: what a glyph fulfils once its contours are drawn. The limits are fontc's own.
+-- The flat glyphs that the compiler makes: what a glyph fulfils once its contours are drawn. The
+-- limits are fontc's own.
 use Rattle.std.specs.Prelude.{◌≡◌, ℕ, ◌<◌, ◌≤◌, ℤ, pos, neg_ℤ, ◌≤ℤ◌, Bool, List, length, map}
 use Rattle.std.specs.List.{All, AllPairs, sum_by}
 use Rattle.std.specs.Arc.{arc_value}
@@ -41,11 +42,15 @@ pub record IsFlatGlyph (glyph : FlatGlyph) : Type 0 where
   pub offsets : All (λ kept. length kept.at ≡ length glyph.places) glyph.kept
   pub one_shape : AllPairs (λ a b. shape_of a ≡ shape_of b) glyph.drawn
   pub few_points : All (λ contours. point_count contours ≤ POINTS) glyph.drawn
-  pub no_empty_contour : All (λ contours. All (λ contour. 0 < length contour.points) contours) glyph.drawn
+  pub no_empty_contour : All (λ contours. All (λ contour. 0 < length contour.points) contours)
+      glyph.drawn
   pub few_kept : length glyph.kept ≤ COMPONENTS
-  pub small_points : All (λ contours. All (λ contour. All IsSmallPoint contour.points) contours) glyph.drawn
-  pub small_offsets : All (λ kept. All (λ offset. IsSmall offset.0 × IsSmall offset.1) kept.at) glyph.kept
-  pub small_anchors : All (λ anchor. All (λ position. IsSmall position.0 × IsSmall position.1) anchor.1) glyph.anchors
+  pub small_points : All (λ contours. All (λ contour. All IsSmallPoint contour.points) contours)
+      glyph.drawn
+  pub small_offsets : All (λ kept. All (λ offset. IsSmall offset.0 × IsSmall offset.1) kept.at)
+      glyph.kept
+  pub small_anchors : All (λ anchor. All (λ position. IsSmall position.0 × IsSmall position.1)
+      anchor.1) glyph.anchors
   pub width_range : All (λ width. (pos 0 ≤ℤ width) × (width ≤ℤ pos 32767)) glyph.widths
   -- the masters are the first places
   pub anchors : (masters : ℕ) × (masters ≤ length glyph.places) × HasAnchorsAt masters glyph

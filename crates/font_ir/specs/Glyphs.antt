@@ -6,7 +6,8 @@ use Rattle.std.specs.Cmp.{IsEquivalence, nat_eq_equiv, on_equiv, and_equiv}
 use Rattle.refusal_codes.specs.declared.limits.TheConstants.{GLYPHS}
 use Rattle.std.specs.Cmp.Lexicographic.{pointwise, lists_equiv, options_equiv, nat_list_eq_equiv}
 
--- each glyph's number in the source, None for a `.notdef` that the compiler made, and each glyph's name
+-- each glyph's number in the source, None for a `.notdef` that the compiler made, and each glyph's
+-- name
 pub record Glyphs : Type 0 where
   pub numbers : List (Option ℕ)
   pub names : List (List ℕ)
@@ -23,7 +24,8 @@ pub record IsGlyphOrder (order : Glyphs) : Type 0 where
 
 -- the test that two orders are the same
 abbrev pub orders_eq : Glyphs → Glyphs → Bool
-orders_eq a b = pointwise (option_eq nat_eq) a.numbers b.numbers && pointwise (pointwise nat_eq) a.names b.names
+orders_eq a b = pointwise (option_eq nat_eq) a.numbers b.numbers
+    && pointwise (pointwise nat_eq) a.names b.names
 
 numbers_equiv : IsEquivalence (λ (a b : Glyphs). pointwise (option_eq nat_eq) a.numbers b.numbers)
 numbers_equiv = on_equiv (λ order. order.numbers) (lists_equiv (options_equiv nat_eq_equiv))

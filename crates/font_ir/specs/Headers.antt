@@ -1,7 +1,10 @@
--- What a header fulfils: the ranges of its numbers, lengths and counts, as many coordinates as axes, masters that lie where
--- their coordinates say, no two of them at one place, and a map from user to design coordinates on each axis. The ranges are
+-- What a header fulfils: the ranges of its numbers, lengths and counts, as many coordinates as
+-- axes, masters that lie where
+-- their coordinates say, no two of them at one place, and a map from user to design coordinates on
+-- each axis. The ranges are
 -- fontc's own.
-use Rattle.std.specs.Prelude.{◌≡◌, ◌≢◌, ℕ, ◌<◌, ◌≤◌, ℤ, pos, neg_ℤ, ◌≤ℤ◌, List, length, map, slice_index_or}
+use Rattle.std.specs.Prelude.{◌≡◌, ◌≢◌, ℕ, ◌<◌, ◌≤◌, ℤ, pos, neg_ℤ, ◌≤ℤ◌, List, length, map,
+    slice_index_or}
 use Rattle.std.specs.List.{All, AllPairs}
 use Rattle.fixed_math.specs.declared.Fixed.{Fixed}
 use Rattle.fixed_math.specs.declared.F2Dot14.{F2Dot14}
@@ -20,7 +23,8 @@ use Rattle.font_ir.specs.AxisMaps.{Pair, pairs_of, IsRisingList}
 abbrev pub IsNameLong : List ℕ → Type 0
 IsNameLong name = (1 ≤ length name) × (length name ≤ NAME_BYTES)
 
--- a coordinate is from -32767 to 32767: in 16.16 its raw number is at most 32767 times 65536 in size
+-- a coordinate is from -32767 to 32767: in 16.16 its raw number is at most 32767 times 65536 in
+-- size
 abbrev pub IsAxisCoordinate : Fixed → Type 0
 IsAxisCoordinate f = (neg_ℤ (pos 2147418112) ≤ℤ f.0) × (f.0 ≤ℤ pos 2147418112)
 
@@ -48,14 +52,17 @@ AreOfTwoPairs a b = ¬ ((a.master ≡ b.master) × (a.first ≡ b.first) × (a.s
 abbrev pub location_at : ℕ → Master → F2Dot14
 location_at axis master = slice_index_or master.location axis (record { 0 = pos 0 })
 
--- on an axis each master lies where its design coordinate is between the least and the greatest one of the masters
+-- on an axis each master lies where its design coordinate is between the least and the greatest one
+-- of the masters
 abbrev pub LieWhereTheySay : Header → ℕ → Type 0
 LieWhereTheySay header axis =
-    All (λ master. location_at axis master ≡ normal_on Design header.origin axis header.masters master) header.masters
+    All (λ master. location_at axis master
+        ≡ normal_on Design header.origin axis header.masters master) header.masters
 
 -- an axis has a map from user to design coordinates
 abbrev pub HasMap : Header → ℕ → Type 0
-HasMap header axis = (pairs : List Pair) × IsRisingList (pairs_of header.masters header.origin axis) pairs
+HasMap header axis = (pairs : List Pair)
+    × IsRisingList (pairs_of header.masters header.origin axis) pairs
 
 pub record IsHeader (header : Header) : Type 0 where
   pub units : (16 ≤ header.upem) × (header.upem ≤ 16384)

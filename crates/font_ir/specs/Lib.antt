@@ -12,3 +12,4 @@ pub mod ReadGlyphs
 -- lemmas that the proofs of other crates need
 pub mod ExtremesLaws
 pub mod PlaceLaws
+pub mod OutlineLaws

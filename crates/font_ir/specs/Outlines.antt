@@ -1,4 +1,5 @@
--- A glyph's outline as a font stores it (OpenType 1.9, "glyf", "Glyph Headers" and "Simple Glyph Description"): its points in whole
+-- A glyph's outline as a font stores it (OpenType 1.9, "glyf", "Glyph Headers" and "Simple Glyph
+-- Description"): its points in whole
 -- font units, and their bounds. How a coordinate is rounded is fontc's own.
 use Rattle.std.specs.Prelude.{ℕ, ℤ, pos, List, [], ◌∷◌, map, slice_index_or, Option, None, Some}
 use Rattle.std.specs.List.{flat_map, fold}
@@ -27,7 +28,8 @@ all_points outline = flat_map (λ points. points) outline
 abbrev pub stored_points : List Contour → List StoredPoint
 stored_points contours = all_points (stored_contours contours)
 
--- what is drawn at a glyph's place, the outline that is stored of it, and the points of that outline
+-- what is drawn at a glyph's place, the outline that is stored of it, and the points of that
+-- outline
 abbrev pub contours_at : ℕ → FlatGlyph → List Contour
 contours_at place glyph = slice_index_or glyph.drawn place []
 
@@ -57,8 +59,10 @@ bounds_of (point ∷ points) = Some
 abbrev pub widened_by : Option (List ℤ) → StoredPoint → Option (List ℤ)
 widened_by None point = Some (point.x ∷ point.y ∷ point.x ∷ point.y ∷ [])
 widened_by (Some sides) point = Some
-    (int_min (slice_index_or sides 0 (pos 0)) point.x ∷ int_min (slice_index_or sides 1 (pos 0)) point.y
-    ∷ int_max (slice_index_or sides 2 (pos 0)) point.x ∷ int_max (slice_index_or sides 3 (pos 0)) point.y ∷ [])
+    (int_min (slice_index_or sides 0 (pos 0)) point.x
+        ∷ int_min (slice_index_or sides 1 (pos 0)) point.y
+    ∷ int_max (slice_index_or sides 2 (pos 0)) point.x
+        ∷ int_max (slice_index_or sides 3 (pos 0)) point.y ∷ [])
 
 abbrev pub widened_by_all : Option (List ℤ) → List StoredPoint → Option (List ℤ)
 widened_by_all bounds points = fold widened_by bounds points

@@ -1,4 +1,5 @@
--- The origin of a design space without axes is a list of places. For the proofs of other crates alone.
+-- The origin of a design space without axes is a list of places. For the proofs of other crates
+-- alone.
 use Rattle.std.proofs.Common.{◌≡◌, ℕ, zero, suc, ◌<◌, List, [], ◌∷◌, length, refl, arith}
 use Rattle.std.specs.Prelude.{slice_index_or}
 use Rattle.fixed_math.specs.declared.F2Dot14.{F2Dot14}

@@ -1,6 +1,8 @@
--- Places of a design space: lists of normalised coordinates, one per axis (OpenType 1.9, "Coordinate scales and
+-- Places of a design space: lists of normalised coordinates, one per axis (OpenType 1.9,
+-- "Coordinate scales and
 -- normalization").
-use Rattle.std.specs.Prelude.{◌≡◌, ◌≢◌, ℕ, ◌<◌, ◌≤◌, ◌^◌, List, [], length, replicate, slice_index_or, pos, Contains, EachIndex}
+use Rattle.std.specs.Prelude.{◌≡◌, ◌≢◌, ℕ, ◌<◌, ◌≤◌, ◌^◌, List, [], length, replicate,
+    slice_index_or, pos, Contains, EachIndex}
 use Rattle.fixed_math.specs.declared.F2Dot14.{F2Dot14}
 use Rattle.refusal_codes.specs.declared.limits.TheConstants.{PLACES}
 
@@ -15,7 +17,8 @@ place_at places i = slice_index_or places i []
 abbrev pub axis_count : List (List F2Dot14) → ℕ
 axis_count places = length (place_at places 0)
 
--- what the places of a model are: not too many to be counted, all of one length, all different, one of them zero
+-- what the places of a model are: not too many to be counted, all of one length, all different, one
+-- of them zero
 pub record ArePlaces (places : List (List F2Dot14)) : Type 0 where
   pub few : length places < 2 ^ 32
   pub one_length : EachIndex places (λ i. length (place_at places i) ≡ axis_count places)

@@ -1,5 +1,6 @@
 -- The glyphs that are read from a source: what their layers fulfil. The limits are fontc's own.
-use Rattle.std.specs.Prelude.{◌≡◌, ℕ, ◌<◌, ◌≤◌, pos, neg_ℤ, ◌≤ℤ◌, Bool, true, false, List, length, map}
+use Rattle.std.specs.Prelude.{◌≡◌, ℕ, ◌<◌, ◌≤◌, pos, neg_ℤ, ◌≤ℤ◌, Bool, true, false, List, length,
+    map}
 use Rattle.std.specs.List.{All, AllPairs, count_by}
 use Rattle.fixed_math.specs.declared.Fixed.{Fixed}
 use Rattle.font_ir.specs.declared.glyph.Shape.{Shape}
@@ -10,7 +11,8 @@ use Rattle.refusal_codes.specs.declared.limits.TheConstants.{COMPONENTS}
 use Rattle.font_ir.specs.Places.{AreGlyphPlaces}
 use Rattle.font_ir.specs.FlatGlyphs.{IsSmall, IsSmallFixed, IsSmallPoint}
 
--- what of a shape is the same at each place: which points of a path are on the curve, and the glyph of a component
+-- what of a shape is the same at each place: which points of a path are on the curve, and the glyph
+-- of a component
 pub data ShapeForm : Type 0 where
   path_form : List Bool → ShapeForm
   component_form : List ℕ → ShapeForm
@@ -32,7 +34,8 @@ HasPoints (Component base at scale quarters) = Unit {0}
 abbrev pub IsScale : Fixed → Type 0
 IsScale f = (neg_ℤ (pos 1048576) ≤ℤ f.0) × (f.0 ≤ℤ pos 1048576)
 
--- a shape's numbers are in their ranges: the coordinates of a path's points, or where a component is moved to, its scale and
+-- a shape's numbers are in their ranges: the coordinates of a path's points, or where a component
+-- is moved to, its scale and
 -- its quarter turns
 abbrev pub IsInRange : Shape → Type 0
 IsInRange (Path contour) = All IsSmallPoint contour.points
@@ -52,7 +55,8 @@ pub record IsReadGlyph (glyph : GlyphIr) : Type 0 where
   pub points : All (λ layer. All HasPoints layer.shapes) glyph.layers
   pub ranges : All (λ layer. All IsInRange layer.shapes) glyph.layers
   pub few_components : All (λ layer. count_by is_component layer.shapes ≤ COMPONENTS) glyph.layers
-  pub small_anchors : All (λ layer. All (λ anchor. IsSmall anchor.x × IsSmall anchor.y) layer.anchors) glyph.layers
+  pub small_anchors : All (λ layer. All (λ anchor. IsSmall anchor.x × IsSmall anchor.y)
+      layer.anchors) glyph.layers
 
 -- components aren't built: each shape is a path
 abbrev pub IsPath : Shape → Type 0

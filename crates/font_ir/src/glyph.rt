@@ -60,7 +60,8 @@ pub struct GlyphIr {
     pub layers: Sequence<LayerIr>,
 }
 
-/// A component that stays one: the glyph's name, and where it is moved to at each place, in font units.
+/// A component that stays one: the glyph's name, and where it is moved to at each place, in font
+/// units.
 #[derive(Debug, PartialEq, Eq, Drop)]
 pub struct Kept {
     pub base: Name,
@@ -70,7 +71,8 @@ pub struct Kept {
 /// A glyph with its contours drawn.
 #[derive(Debug, PartialEq, Eq, Drop)]
 pub struct FlatGlyph {
-    /// The glyph's place in the source's list of glyphs; 4294967295 for a `.notdef` that the compiler made.
+    /// The glyph's place in the source's list of glyphs; 4294967295 for a `.notdef` that the
+    /// compiler made.
     pub number: u32,
     /// The place of its dictionary in the source.
     pub place: u64,

@@ -11,7 +11,8 @@ use plain_lists::Sequence;
 use refusal_codes::NoMemory;
 use std::alloc::Global;
 
-/// The `.notdef` of a font whose source has none: without contours, half an em wide (rounded down) at every master.
+/// The `.notdef` of a font whose source has none: without contours, half an em wide (rounded down)
+/// at every master.
 ///
 /// Its number is 4294967295 and its place 0.
 pub fn made_notdef(alloc: Global, header: &Header) -> Result<FlatGlyph, NoMemory>

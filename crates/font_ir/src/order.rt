@@ -1,4 +1,5 @@
-ghost use Rattle.std.specs.Prelude.{◌≡◌, ◌≤◌, ◌<◌, ◌++◌, [], ◌∷◌, ℕ, length, map, not, is_some, slice_get, slice_index_or, IfOk, IfSome, OnErr, nat_eq, cond};
+ghost use Rattle.std.specs.Prelude.{◌≡◌, ◌≤◌, ◌<◌, ◌++◌, [], ◌∷◌, ℕ, length, map, not, is_some,
+    slice_get, slice_index_or, IfOk, IfSome, OnErr, nat_eq, cond};
 ghost use Rattle.std.specs.List.{list_any};
 ghost use Rattle.std.specs.Cmp.Lexicographic.{pointwise};
 ghost use Rattle.std.specs.Cmp.{partial_equiv_from_equiv};
@@ -9,9 +10,11 @@ use refusal_codes::NoMemory;
 use std::alloc::Global;
 use std::marker::Model;
 
-/// The glyphs of the font, in the order of their glyph numbers: at most 65,535, with different names.
+/// The glyphs of the font, in the order of their glyph numbers: at most 65,535, with different
+/// names.
 ///
-/// A glyph has its place in the source's list of glyphs as its number; `None` is a `.notdef` that the compiler made.
+/// A glyph has its place in the source's list of glyphs as its number; `None` is a `.notdef` that
+/// the compiler made.
 #[derive(Debug, Drop)]
 pub struct GlyphOrder {
     numbers: Vec<Option<u32>>,
@@ -24,9 +27,12 @@ impl Model for GlyphOrder {
 
     ghost Value = { Glyphs };
 
-    ghost view = { λ order. record { numbers = order.numbers.items; names = map (λ name. name.items) order.names.keys } };
+    ghost view = { λ order. record { numbers = order.numbers.items; names
+        = map (λ name. name.items) order.names.keys } };
 
-    ghost invariant = { λ order. IsGlyphOrder (record { numbers = order.numbers.items; names = map (λ name. name.items) order.names.keys }) };
+    ghost invariant = { λ order. IsGlyphOrder
+        (record { numbers = order.numbers.items; names
+        = map (λ name. name.items) order.names.keys }) };
 }
 
 impl GlyphOrder {
@@ -73,7 +79,8 @@ impl GlyphOrder {
         }
     }
 
-    /// Adds a glyph at the end, unless its name is there: then the answer is false and nothing changes. Nor does it where
+    /// Adds a glyph at the end, unless its name is there: then the answer is false and nothing
+    /// changes. Nor does it where
     /// memory runs out.
     pub fn push(
         &mut self,
@@ -82,8 +89,11 @@ impl GlyphOrder {
         name: &[u8],
     ) -> Result<bool, NoMemory>
         requires { length self.old.names < 65535 }
-        ensures added { IfOk result (λ added. added ≡ not (is_some (gid_of self.old.names name.now))) }
-        ensures ok { IfOk result (λ added. self.new ≡ (cond added (record { numbers = self.old.numbers ++ number ∷ []; names = self.old.names ++ name.now ∷ [] }) self.old)) }
+        ensures added { IfOk result (λ added. added
+            ≡ not (is_some (gid_of self.old.names name.now))) }
+        ensures ok { IfOk result (λ added. self.new
+            ≡ (cond added (record { numbers = self.old.numbers ++ number
+            ∷ []; names = self.old.names ++ name.now ∷ [] }) self.old)) }
         ensures err { OnErr result (self.new ≡ self.old) }
     {
         self.numbers.reserve(1)?;

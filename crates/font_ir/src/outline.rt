@@ -2,12 +2,14 @@ ghost use Rattle.std.specs.Prelude.{◌≡◌, map, IfSome};
 ghost use Rattle.std.specs.List.{All};
 ghost use Rattle.fixed_math.specs.FixedPoint.{half_up};
 ghost use Rattle.font_ir.specs.FlatGlyphs.{IsSmall, IsSmallFixed, IsSmallPoint};
-ghost use Rattle.font_ir.specs.Outlines.{stored_point, stored_points, bounds_of, widened_by, widened_by_all, AreBounds};
+ghost use Rattle.font_ir.specs.Outlines.{stored_point, stored_points, bounds_of, widened_by,
+    widened_by_all, AreBounds};
 
 use crate::glyph::{Contour, DrawnPoint};
 use fixed_math::{Fixed, round_half_up};
 
-/// A point of a contour as a font stores it (OpenType 1.9, "glyf", "Simple Glyph Description"), in whole font units.
+/// A point of a contour as a font stores it (OpenType 1.9, "glyf", "Simple Glyph Description"), in
+/// whole font units.
 #[derive(Clone, Copy, Debug, PartialEq, Eq)]
 pub struct StoredPoint {
     pub x: i16,
@@ -25,7 +27,8 @@ fn stored(coordinate: Fixed) -> i16
     round_half_up(i64::from(coordinate.0)) as i16
 }
 
-/// A point as a font stores it: each coordinate as the whole number of font units nearest to it, a tie going up.
+/// A point as a font stores it: each coordinate as the whole number of font units nearest to it, a
+/// tie going up.
 pub fn stored_point(point: DrawnPoint) -> StoredPoint
     requires { IsSmallPoint point }
     ensures stored { result ≡ stored_point point }
@@ -66,7 +69,8 @@ fn widened_by_points(bounds: Option<[i16; 4]>, points: &[DrawnPoint]) -> Option<
     widest
 }
 
-/// The bounds of an outline as it is stored, where it has a point: xMin, yMin, xMax and yMax in font units (OpenType 1.9, "glyf",
+/// The bounds of an outline as it is stored, where it has a point: xMin, yMin, xMax and yMax in
+/// font units (OpenType 1.9, "glyf",
 /// "Glyph Headers").
 pub fn bounds_of(contours: &[Contour]) -> Option<[i16; 4]>
     requires { All (λ contour. All IsSmallPoint contour.points) contours.now }

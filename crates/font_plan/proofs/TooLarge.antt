@@ -6,7 +6,8 @@ use Rattle.refusal_codes.specs.Gives.{◌>>=◌}
 use Rattle.plist_reader.specs.Reading.{read_of}
 use Rattle.font_plan.specs.Font.{font_of, source_too_large, tree_font}
 
-pub too_large_refused : (source : List ℕ) → 67108864 < length source → font_of source ≡ Err source_too_large
+pub too_large_refused : (source : List ℕ) → 67108864 < length source
+    → font_of source ≡ Err source_too_large
 unfolding font_of
 too_large_refused source long =
     let is : nat_lt 67108864 (length source) ≡ true = grind (arith, nat_tests) in

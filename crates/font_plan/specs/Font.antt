@@ -1,12 +1,16 @@
--- Which sources are accepted, and the font of each. fontc's own; the tables are those of OpenType 1.9.
+-- Which sources are accepted, and the font of each. fontc's own; the tables are those of OpenType
+-- 1.9.
 --
--- The parts are defined in the crates that read and write them. Here they are joined: each part is made of those before it, and
+-- The parts are defined in the crates that read and write them. Here they are joined: each part is
+-- made of those before it, and
 -- the first that refuses the source refuses it all.
-use Rattle.std.specs.Prelude.{ℕ, ◌+◌, Bool, false, not, ◌&&◌, List, [], ◌∷◌, ◌++◌, length, map, nat_lt, nat_eq, codes, Option, Some, None, Result, Ok, Err, if◌then◌else◌}
+use Rattle.std.specs.Prelude.{ℕ, ◌+◌, Bool, false, not, ◌&&◌, List, [], ◌∷◌, ◌++◌, length, map,
+    nat_lt, nat_eq, codes, Option, Some, None, Result, Ok, Err, if◌then◌else◌}
 use Rattle.std.specs.Option.{option_map}
 use Rattle.std.specs.Cmp.Lexicographic.{pointwise}
 use Rattle.refusal_codes.specs.declared.refusal.Refusal.{Refusal}
-use Rattle.refusal_codes.specs.declared.rule.Rule.TheVariants.{TooLarge, TooManyGlyphs, TableTooLarge}
+use Rattle.refusal_codes.specs.declared.rule.Rule.TheVariants.{TooLarge, TooManyGlyphs,
+    TableTooLarge}
 use Rattle.refusal_codes.specs.First.{refusal_of}
 use Rattle.refusal_codes.specs.Gives.{◌>>=◌}
 use Rattle.refusal_codes.specs.declared.job.TheConstants.{TREE, ORDER, TABLE, FONT}
@@ -65,24 +69,29 @@ is_other entry = entry.1.exported && not (is_notdef entry)
 abbrev pub others_from : ℕ → List Entry → List (ℕ × Entry)
 others_from number [] = []
 others_from number (entry ∷ entries) =
-    if is_other entry then (number, entry) ∷ others_from (number + 1) entries else others_from (number + 1) entries
+    if is_other entry then (number, entry)
+        ∷ others_from (number + 1) entries else others_from (number + 1) entries
 
 -- the first `.notdef` with its number, of entries numbered from this number on
 abbrev pub notdef_from : ℕ → List Entry → Option (ℕ × Entry)
 notdef_from number [] = None
-notdef_from number (entry ∷ entries) = if is_notdef entry then Some (number, entry) else notdef_from (number + 1) entries
+notdef_from number (entry ∷ entries) = if is_notdef entry then Some (number, entry) else notdef_from
+    (number + 1) entries
 
 -- a glyph, read and drawn
 unfoldable pub drawn_of : Tree → Header → ℕ × Entry → Result FlatGlyph Refusal
-drawn_of tree header glyph = glyph_of tree header.masters glyph.1.0 glyph.0 glyph.1.1.node >>= flat_of glyph.1.0
+drawn_of tree header glyph = glyph_of tree header.masters glyph.1.0 glyph.0 glyph.1.1.node >>=
+    flat_of glyph.1.0
 
 -- glyphs, and others behind them
-abbrev pub followed_by : List FlatGlyph → Result (List FlatGlyph) Refusal → Result (List FlatGlyph) Refusal
+abbrev pub followed_by : List FlatGlyph → Result (List FlatGlyph) Refusal
+    → Result (List FlatGlyph) Refusal
 followed_by flats others = others >>= λ more. Ok (flats ++ more)
 
 abbrev pub all_drawn : Tree → Header → List (ℕ × Entry) → Result (List FlatGlyph) Refusal
 all_drawn tree header [] = Ok []
-all_drawn tree header (glyph ∷ glyphs) = drawn_of tree header glyph >>= λ flat. followed_by (flat ∷ []) (all_drawn tree header glyphs)
+all_drawn tree header (glyph ∷ glyphs) = drawn_of tree header glyph >>= λ flat. followed_by
+    (flat ∷ []) (all_drawn tree header glyphs)
 
 -- the glyph `.notdef`: the source's, or else a made one
 abbrev pub notdef_of : Tree → Header → Option (ℕ × Entry) → Result FlatGlyph Refusal
@@ -92,12 +101,14 @@ notdef_of tree header (Some glyph) = drawn_of tree header glyph
 -- the glyphs of the font in its order: `.notdef`, and then the others in the order of the file
 unfoldable pub glyphs_in : Tree → Header → List Entry → Result (List FlatGlyph) Refusal
 glyphs_in tree header index =
-    notdef_of tree header (notdef_from 0 index) >>= λ notdef. followed_by (notdef ∷ []) (all_drawn tree header (others_from 0 index))
+    notdef_of tree header (notdef_from 0 index) >>= λ notdef. followed_by (notdef ∷ [])
+        (all_drawn tree header (others_from 0 index))
 
 -- that order
 abbrev pub order_in : List Entry → Glyphs
 order_in index = record {
-  numbers = option_map (λ glyph. glyph.0) (notdef_from 0 index) ∷ map (λ glyph. Some glyph.0) (others_from 0 index);
+  numbers = option_map (λ glyph. glyph.0) (notdef_from 0 index)
+      ∷ map (λ glyph. Some glyph.0) (others_from 0 index);
   names = codes ".notdef" ∷ map (λ glyph. glyph.1.0) (others_from 0 index);
 }
 
@@ -118,10 +129,12 @@ tables_with header measures glyf loca =
 
 abbrev pub tables_of : Header → List FlatGlyph → List Table
 tables_of header glyphs =
-    tables_with header (measures_of header glyphs) (outlines.glyf_bytes (parts_of header glyphs)) (outlines.loca_bytes (parts_of header glyphs))
+    tables_with header (measures_of header glyphs) (outlines.glyf_bytes (parts_of header glyphs))
+        (outlines.loca_bytes (parts_of header glyphs))
 
 -- an answer, unless a length is too large, which is refused so
-abbrev pub unless_too_large : (ℕ → Refusal) → Option ℕ → Result (List ℕ) Refusal → Result (List ℕ) Refusal
+abbrev pub unless_too_large : (ℕ → Refusal) → Option ℕ → Result (List ℕ) Refusal
+    → Result (List ℕ) Refusal
 unless_too_large refused (Some length) answer = Err (refused length)
 unless_too_large refused None answer = answer
 
@@ -131,17 +144,21 @@ filed tables = unless_too_large font_too_large (over_limit (file_len tables)) (O
 
 -- and where none of them is
 unfoldable pub written : Header → List FlatGlyph → Result (List ℕ) Refusal
-written header glyphs = unless_too_large (table_too_large (codes "glyf")) (outlines.too_large (parts_of header glyphs)) (filed (tables_of header glyphs))
+written header glyphs = unless_too_large (table_too_large (codes "glyf"))
+    (outlines.too_large (parts_of header glyphs)) (filed (tables_of header glyphs))
 
 -- a font has at most 65,535 glyphs
 abbrev pub glyphs_font : Header → List FlatGlyph → Result (List ℕ) Refusal
-glyphs_font header glyphs = if nat_lt GLYPHS (length glyphs) then Err (too_many_glyphs (length glyphs)) else written header glyphs
+glyphs_font header glyphs = if nat_lt GLYPHS (length glyphs) then Err
+    (too_many_glyphs (length glyphs)) else written header glyphs
 
 -- ---- the whole
 
 unfoldable pub tree_font : Tree → Result (List ℕ) Refusal
-tree_font tree = header_of tree >>= λ header. (index_of tree >>= λ index. (glyphs_in tree header index >>= glyphs_font header))
+tree_font tree = header_of tree >>= λ header.
+    (index_of tree >>= λ index. (glyphs_in tree header index >>= glyphs_font header))
 
 -- the font of a source, where the source is accepted
 unfoldable pub font_of : List ℕ → Result (List ℕ) Refusal
-font_of source = if nat_lt SOURCE_BYTES (length source) then Err source_too_large else (read_of source >>= tree_font)
+font_of source = if nat_lt SOURCE_BYTES (length source) then Err source_too_large else
+    (read_of source >>= tree_font)

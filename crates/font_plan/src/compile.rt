@@ -6,7 +6,8 @@ ghost use Rattle.refusal_codes.specs.declared.limits.TheConstants.{SOURCE_BYTES}
 ghost use Rattle.glyphs_source.specs.HeaderReading.{IsReadHeader};
 ghost use Rattle.font_ir.specs.FlatGlyphs.{glyphs_of};
 ghost use Rattle.font_plan.specs.Drawn.{IsDrawn};
-ghost use Rattle.font_plan.specs.Font.{font_of, tree_font, too_many_glyphs, glyphs_font, written, order_in};
+ghost use Rattle.font_plan.specs.Font.{font_of, tree_font, too_many_glyphs, glyphs_font, written,
+    order_in};
 
 use crate::glyphs::glyphs_in;
 use crate::order::order_in;
@@ -29,9 +30,12 @@ pub struct Built {
 
 /// Compiles a source of at most 67,108,864 bytes.
 ///
-/// It answers the font of an accepted source, and a refusal for every other one. Of several rules that a source fails it
-/// names the one that its parts meet first: the property list, the header, the index, then glyph by glyph, and last the font.
-/// `NoMemory` comes only where an allocation fails; it may come for any source, and says nothing of it.
+/// It answers the font of an accepted source, and a refusal for every other one. Of several rules
+/// that a source fails it
+/// names the one that its parts meet first: the property list, the header, the index, then glyph by
+/// glyph, and last the font.
+/// `NoMemory` comes only where an allocation fails; it may come for any source, and says nothing of
+/// it.
 #[tactic(auto, unfolding(crate::specs::Font::font_of))]
 pub fn compile_one(alloc: Global, source: &[u8]) -> Result<Built, CompileError>
     requires { length source.now ≤ SOURCE_BYTES }

@@ -1,13 +1,15 @@
 //! The glyphs of the font, read and drawn.
 
-ghost use Rattle.std.specs.Prelude.{◌≡◌, ◌<◌, ◌^◌, ◌++◌, ◌∷◌, [], length, map, Ok, IfOk, OnOk, IfSome, slice_get, drop, false};
+ghost use Rattle.std.specs.Prelude.{◌≡◌, ◌<◌, ◌^◌, ◌++◌, ◌∷◌, [], length, map, Ok, IfOk, OnOk,
+    IfSome, slice_get, drop, false};
 ghost use Rattle.std.specs.List.{All};
 ghost use Rattle.std.specs.Option.{option_map_or};
 ghost use Rattle.refusal_codes.specs.Gives.{Gives};
 ghost use Rattle.glyphs_source.specs.HeaderReading.{header_of, IsReadHeader};
 ghost use Rattle.font_ir.specs.FlatGlyphs.{glyphs_of};
 ghost use Rattle.font_plan.specs.Drawn.{IsDrawn};
-ghost use Rattle.font_plan.specs.Font.{drawn_of, all_drawn, followed_by, others_from, notdef_from, notdef_of, glyphs_in};
+ghost use Rattle.font_plan.specs.Font.{drawn_of, all_drawn, followed_by, others_from, notdef_from,
+    notdef_of, glyphs_in};
 
 use crate::order::{entry_at, is_other, notdef_number};
 use component_flatten::flatten;
@@ -19,7 +21,8 @@ use refusal_codes::ReadError;
 use std::alloc::Global;
 use std::sync::Arc;
 
-/// The glyphs of the font in its order: `.notdef`, and then the others that are exported, in the order of the file.
+/// The glyphs of the font in its order: `.notdef`, and then the others that are exported, in the
+/// order of the file.
 #[tactic(auto, unfolding(crate::specs::Font::glyphs_in))]
 pub fn glyphs_in(
     alloc: Global,
@@ -30,7 +33,8 @@ pub fn glyphs_in(
     requires header { header_of tree.now ≡ Ok header.now }
     requires read { IsReadHeader header.now }
     requires few { length index.now < 2 ^ 32 }
-    ensures glyphs { Gives (λ glyphs. glyphs_of glyphs.items) result (glyphs_in tree.now header.now index.now) }
+    ensures glyphs { Gives (λ glyphs. glyphs_of glyphs.items) result
+        (glyphs_in tree.now header.now index.now) }
     ensures drawn { IfOk result (λ glyphs. All (IsDrawn header.now) (glyphs_of glyphs.items)) }
 {
     let notdef = notdef(alloc, tree, header, index)?;
@@ -50,7 +54,8 @@ fn notdef(
     requires header { header_of tree.now ≡ Ok header.now }
     requires read { IsReadHeader header.now }
     requires few { length index.now < 2 ^ 32 }
-    ensures glyph { Gives (λ glyph. glyph) result (notdef_of tree.now header.now (notdef_from 0 index.now)) }
+    ensures glyph { Gives (λ glyph. glyph) result
+        (notdef_of tree.now header.now (notdef_from 0 index.now)) }
     ensures drawn { IfOk result (IsDrawn header.now) }
 {
     match notdef_number(index) {
@@ -97,7 +102,8 @@ fn push_drawn(
     requires header { header_of tree.now ≡ Ok header.now }
     requires number { number < length index.now }
     requires drawn { All (IsDrawn header.now) (glyphs_of glyphs.old.items) }
-    ensures glyphs { IfSome (slice_get index.now number) (λ entry. Gives (λ _. glyphs_of glyphs.new.items) result
+    ensures glyphs { IfSome (slice_get index.now number)
+        (λ entry. Gives (λ _. glyphs_of glyphs.new.items) result
         (followed_by (glyphs_of glyphs.old.items) (all_drawn tree.now header.now ((number, entry) ∷ [])))) }
     ensures drawn { OnOk result (All (IsDrawn header.now) (glyphs_of glyphs.new.items)) }
 {
@@ -117,7 +123,8 @@ fn drawn(
 ) -> Result<FlatGlyph, ReadError>
     requires header { header_of tree.now ≡ Ok header.now }
     requires number { number < length index.now }
-    ensures glyph { IfSome (slice_get index.now number) (λ entry. Gives (λ glyph. glyph) result (drawn_of tree.now header.now (number, entry))) }
+    ensures glyph { IfSome (slice_get index.now number)
+        (λ entry. Gives (λ glyph. glyph) result (drawn_of tree.now header.now (number, entry))) }
     ensures drawn { IfOk result (IsDrawn header.now) }
 {
     let glyph = raw_glyph(alloc, tree, header, index, number)?;

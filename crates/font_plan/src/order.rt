@@ -1,6 +1,7 @@
 //! The order of the font's glyphs.
 
-ghost use Rattle.std.specs.Prelude.{◌≡◌, ◌<◌, ◌≤◌, ◌^◌, ◌+◌, ◌++◌, ◌∷◌, [], length, map, IfOk, OnOk, IfSome, Some, is_some, slice_get, false, codes, nat_eq};
+ghost use Rattle.std.specs.Prelude.{◌≡◌, ◌<◌, ◌≤◌, ◌^◌, ◌+◌, ◌++◌, ◌∷◌, [], length, map, IfOk, OnOk,
+    IfSome, Some, is_some, slice_get, false, codes, nat_eq};
 ghost use Rattle.std.specs.List.{IsDistinct};
 ghost use Rattle.std.specs.Option.{option_map};
 ghost use Rattle.std.specs.Cmp.Lexicographic.{pointwise};
@@ -15,7 +16,8 @@ use std::alloc::Global;
 /// The name of the glyph that stands for a character that the font hasn't.
 const NOTDEF: &[u8] = b".notdef";
 
-/// The order of the font's glyphs: `.notdef`, and then the others that are exported, in the order of the file.
+/// The order of the font's glyphs: `.notdef`, and then the others that are exported, in the order
+/// of the file.
 pub fn order_in(alloc: Global, index: &GlyphIndex) -> Result<GlyphOrder, NoMemory>
     requires few { length index.now < 2 ^ 32 }
     requires glyphs { length (order_in index.now).names ≤ 65535 }
@@ -32,7 +34,9 @@ pub fn order_in(alloc: Global, index: &GlyphIndex) -> Result<GlyphOrder, NoMemor
 pub fn notdef_number(index: &GlyphIndex) -> Option<u32>
     requires { length index.now < 2 ^ 32 }
     ensures number { result ≡ option_map (λ glyph. glyph.0) (notdef_from 0 index.now) }
-    ensures entry { IfSome result (λ number. (entry : Entry) × (slice_get index.now number ≡ Some entry) × (notdef_from 0 index.now ≡ Some (number, entry))) }
+    ensures entry { IfSome result (λ number. (entry : Entry)
+        × (slice_get index.now number ≡ Some entry)
+        × (notdef_from 0 index.now ≡ Some (number, entry))) }
 {
     for number in 0..index.len() as u32 {
         let (name, _) = entry_at(index, number);
@@ -47,9 +51,12 @@ pub fn notdef_number(index: &GlyphIndex) -> Option<u32>
 fn push_others(alloc: Global, index: &GlyphIndex, order: &mut GlyphOrder) -> Result<(), NoMemory>
     requires few { length index.now < 2 ^ 32 }
     requires glyphs { length order.old.names + length (others_from 0 index.now) ≤ 65535 }
-    requires different { IsDistinct (pointwise nat_eq) (order.old.names ++ map (λ glyph. glyph.1.0) (others_from 0 index.now)) }
-    ensures numbers { OnOk result (order.new.numbers ≡ order.old.numbers ++ map (λ glyph. Some glyph.0) (others_from 0 index.now)) }
-    ensures names { OnOk result (order.new.names ≡ order.old.names ++ map (λ glyph. glyph.1.0) (others_from 0 index.now)) }
+    requires different { IsDistinct (pointwise nat_eq)
+        (order.old.names ++ map (λ glyph. glyph.1.0) (others_from 0 index.now)) }
+    ensures numbers { OnOk result (order.new.numbers
+        ≡ order.old.numbers ++ map (λ glyph. Some glyph.0) (others_from 0 index.now)) }
+    ensures names { OnOk result (order.new.names
+        ≡ order.old.names ++ map (λ glyph. glyph.1.0) (others_from 0 index.now)) }
 {
     for number in 0..index.len() as u32 {
         let (name, entry) = entry_at(index, number);

@@ -12,7 +12,8 @@ ghost use Rattle.metrics_tables.specs.Tables.{AreMeasures};
 ghost use Rattle.font_assembly.specs.File.{TagsRise, HasHead};
 ghost use Rattle.font_assembly.specs.Assembled as assembled;
 ghost use Rattle.font_plan.specs.Drawn.{IsDrawn};
-ghost use Rattle.font_plan.specs.Font.{written, filed, tables_with, parts_of, table_too_large, font_too_large};
+ghost use Rattle.font_plan.specs.Font.{written, filed, tables_with, parts_of, table_too_large,
+    font_too_large};
 
 use font_assembly::assemble;
 use font_ir::{FlatGlyph, GlyphOrder, Header, Tag};
@@ -58,7 +59,8 @@ fn parts_of(
 ) -> Result<Vec<Arc<Vec<u8>>>, NoMemory>
     requires header { IsReadHeader header.now }
     requires drawn { All (IsDrawn header.now) (glyphs_of glyphs.now) }
-    ensures { IfOk result (λ parts. map (λ part. part.value.items) parts.items ≡ parts_of header.now (glyphs_of glyphs.now)) }
+    ensures { IfOk result (λ parts. map (λ part. part.value.items) parts.items
+        ≡ parts_of header.now (glyphs_of glyphs.now)) }
 {
     all_parts(alloc, header, glyphs)
 }
@@ -71,7 +73,8 @@ fn all_parts(
 ) -> Result<Vec<Arc<Vec<u8>>>, NoMemory>
     requires header { IsReadHeader header.now }
     requires drawn { All (λ glyph. IsDrawn header.now glyph.value) glyphs.now }
-    ensures { IfOk result (λ parts. map (λ part. part.value.items) parts.items ≡ map (λ glyph. simple_data false (outline_at header.now.origin glyph.value)) glyphs.now) }
+    ensures { IfOk result (λ parts. map (λ part. part.value.items) parts.items
+        ≡ map (λ glyph. simple_data false (outline_at header.now.origin glyph.value)) glyphs.now) }
 {
     let mut parts = Vec::with_capacity(alloc, glyphs.len())?;
     for glyph in glyphs {
@@ -89,7 +92,9 @@ fn push_part(
 ) -> Result<(), NoMemory>
     requires header { IsReadHeader header.now }
     requires drawn { IsDrawn header.now glyph.now }
-    ensures { OnOk result (map (λ part. part.value.items) parts.new.items ≡ map (λ part. part.value.items) parts.old.items ++ simple_data false (outline_at header.now.origin glyph.now) ∷ []) }
+    ensures { OnOk result (map (λ part. part.value.items) parts.new.items
+        ≡ map (λ part. part.value.items) parts.old.items
+        ++ simple_data false (outline_at header.now.origin glyph.now) ∷ []) }
 {
     let bytes = simple_bytes(alloc, glyph, header.origin, false)?;
     parts.push(Arc::new(alloc, bytes)?)?;
@@ -106,7 +111,8 @@ fn measured(
     requires header { IsReadHeader header.now }
     requires drawn { All (IsDrawn header.now) (glyphs_of glyphs.now) }
     requires order { length glyphs.now ≡ length order.now.names }
-    ensures record { IfOk result (λ measures. measures ≡ measures_of header.now (glyphs_of glyphs.now)) }
+    ensures record { IfOk result (λ measures. measures
+        ≡ measures_of header.now (glyphs_of glyphs.now)) }
     ensures measures { IfOk result AreMeasures }
 {
     match measure(alloc, header, order, glyphs) {
@@ -127,7 +133,8 @@ fn write_tables(
 ) -> Result<Vec<u8>, CompileError>
     requires header { IsReadHeader header.now }
     requires measures { AreMeasures measures.now }
-    ensures { Compiles (λ font. font.items) result (filed (tables_with header.now measures.now glyf.items loca.items)) }
+    ensures { Compiles (λ font. font.items) result
+        (filed (tables_with header.now measures.now glyf.items loca.items)) }
 {
     let tables = [
         table(alloc, *b"glyf", glyf)?,
@@ -142,7 +149,8 @@ fn write_tables(
 
 /// A table with this tag.
 fn table(alloc: Global, tag: [u8; 4], bytes: Vec<u8>) -> Result<(Tag, Arc<Vec<u8>>), NoMemory>
-    ensures { IfOk result (λ table. assembled.table_of table ≡ record { tag = tag; bytes = bytes.items }) }
+    ensures { IfOk result (λ table. assembled.table_of table
+        ≡ record { tag = tag; bytes = bytes.items }) }
 {
     Ok((Tag(tag), Arc::new(alloc, bytes)?))
 }

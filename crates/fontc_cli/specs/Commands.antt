@@ -3,7 +3,8 @@
 --     build IN OUT
 --
 -- A path is any word that doesn't begin with a hyphen.
-use Rattle.std.specs.Prelude.{ℕ, List, [], ◌∷◌, Bool, true, not, ◌==◌, ◌&&◌, Option, Some, None, codes, nat_eq, if◌then◌else◌}
+use Rattle.std.specs.Prelude.{ℕ, List, [], ◌∷◌, Bool, true, not, ◌==◌, ◌&&◌, Option, Some, None,
+    codes, nat_eq, if◌then◌else◌}
 use Rattle.std.specs.Cmp.Lexicographic.{pointwise}
 
 -- `build IN OUT`: the path of the source, and that of the font
@@ -18,7 +19,8 @@ is_path (byte ∷ bytes) = not (byte == 45)
 
 -- whether three words are this command
 unfoldable pub is_build : List ℕ → List ℕ → List ℕ → Bool
-is_build word source output = pointwise nat_eq word (codes "build") && (is_path source && is_path output)
+is_build word source output = pointwise nat_eq word (codes "build")
+    && (is_path source && is_path output)
 
 abbrev pub command_of : List (List ℕ) → Option Build
 command_of [] = None

@@ -1,10 +1,12 @@
--- The exit status of each way in which a run can end. fontc's own: 3 and 6 are kept for faults of a font that is inspected
+-- The exit status of each way in which a run can end. fontc's own: 3 and 6 are kept for faults of a
+-- font that is inspected
 -- and of the console.
 use Rattle.std.specs.Prelude.{◌≡◌, ℕ}
 use Rattle.std.specs.Process.{exit_status}
 use Rattle.std.specs.declared.process.ExitCode.{ExitCode}
 use Rattle.fontc_cli.specs.declared.status.Status.{Status}
-use Rattle.fontc_cli.specs.declared.status.Status.TheVariants.{Done, Usage, Refused, ReadFault, WriteFault, NoMemory}
+use Rattle.fontc_cli.specs.declared.status.Status.TheVariants.{Done, Usage, Refused, ReadFault,
+    WriteFault, NoMemory}
 
 abbrev pub exit_code : Status → ℕ
 exit_code Done = 0

@@ -23,7 +23,8 @@ pub fn read_command(words: &[String]) -> Option<BuildCommand<'_>>
 
 #[tactic(auto, unfolding(crate::specs::Commands::is_build))]
 fn build_command<'a>(word: &str, source: &'a str, output: &'a str) -> Option<BuildCommand<'a>>
-    ensures { option_map shown result ≡ command_of (word.now ∷ source.entry.now ∷ output.entry.now ∷ []) }
+    ensures { option_map shown result ≡ command_of
+        (word.now ∷ source.entry.now ∷ output.entry.now ∷ []) }
 {
     if word == "build" && is_path(source) && is_path(output) {
         Some(BuildCommand { source, output })

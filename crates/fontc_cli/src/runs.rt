@@ -19,8 +19,10 @@ use whole_files::{ReadWholeError, read_whole, write_whole};
 
 /// Runs the command that the words are, over these files and this console.
 ///
-/// The words are those behind the program's name: `build IN OUT`. The report says how the run ended: the font of what IN held
-/// stands in OUT; or the words are no command, the source is refused, a read of IN or a write of OUT failed, or memory ran out.
+/// The words are those behind the program's name: `build IN OUT`. The report says how the run
+/// ended: the font of what IN held
+/// stands in OUT; or the words are no command, the source is refused, a read of IN or a write of
+/// OUT failed, or memory ran out.
 /// Only a font that is whole in memory is begun to be written. Nothing is printed yet.
 pub fn run<F: Files, C: Console, G: Gate + Sync>(
     alloc: Global,
@@ -29,14 +31,17 @@ pub fn run<F: Files, C: Console, G: Gate + Sync>(
     console: &mut C,
     _gate: &G,
 ) -> Report
-    ensures ends { Between (RunEnds (command_of (map string_bytes words.now)) result.status) F.holds F.failed_reads F.failed_writes files.old files.new }
-    ensures complete { Between (IsComplete (command_of (map string_bytes words.now)) result.status) F.holds F.failed_reads F.failed_writes files.old files.new }
+    ensures ends { Between (RunEnds (command_of (map string_bytes words.now)) result.status) F.holds
+        F.failed_reads F.failed_writes files.old files.new }
+    ensures complete { Between (IsComplete (command_of (map string_bytes words.now)) result.status)
+        F.holds F.failed_reads F.failed_writes files.old files.new }
     ensures silent { console.new ≡ console.old }
 {
     run_alone(alloc, words, files, console)
 }
 
-/// Runs the command that the words are, as `run` does, and answers what the program ends with: the exit status of a status by
+/// Runs the command that the words are, as `run` does, and answers what the program ends with: the
+/// exit status of a status by
 /// which such a run can end.
 pub fn run_program<F: Files, C: Console, G: Gate + Sync>(
     alloc: Global,
@@ -45,9 +50,11 @@ pub fn run_program<F: Files, C: Console, G: Gate + Sync>(
     console: &mut C,
     gate: &G,
 ) -> ExitCode
-    ensures ends { ExitsBy (λ status. Between (RunEnds (command_of (map string_bytes words.now)) status)
+    ensures ends { ExitsBy (λ status. Between
+        (RunEnds (command_of (map string_bytes words.now)) status)
         F.holds F.failed_reads F.failed_writes files.old files.new) result }
-    ensures complete { ExitsBy (λ status. Between (IsComplete (command_of (map string_bytes words.now)) status)
+    ensures complete { ExitsBy (λ status. Between
+        (IsComplete (command_of (map string_bytes words.now)) status)
         F.holds F.failed_reads F.failed_writes files.old files.new) result }
     ensures silent { console.new ≡ console.old }
 {
@@ -61,8 +68,10 @@ pub fn run_alone<F: Files, C: Console>(
     files: &mut F,
     _console: &mut C,
 ) -> Report
-    ensures ends { Between (RunEnds (command_of (map string_bytes words.now)) result.status) F.holds F.failed_reads F.failed_writes files.old files.new }
-    ensures complete { Between (IsComplete (command_of (map string_bytes words.now)) result.status) F.holds F.failed_reads F.failed_writes files.old files.new }
+    ensures ends { Between (RunEnds (command_of (map string_bytes words.now)) result.status) F.holds
+        F.failed_reads F.failed_writes files.old files.new }
+    ensures complete { Between (IsComplete (command_of (map string_bytes words.now)) result.status)
+        F.holds F.failed_reads F.failed_writes files.old files.new }
     ensures silent { _console.new ≡ _console.old }
 {
     let status = match read_command(words) {
@@ -74,7 +83,8 @@ pub fn run_alone<F: Files, C: Console>(
 
 /// Compiles the source at one path and writes its font to another.
 fn build<F: Files>(alloc: Global, command: BuildCommand<'_>, files: &mut F) -> Status
-    ensures { Between (BuildEnds (shown command.entry) result) F.holds F.failed_reads F.failed_writes files.old files.new }
+    ensures { Between (BuildEnds (shown command.entry) result) F.holds F.failed_reads
+        F.failed_writes files.old files.new }
 {
     match read_whole(alloc, files, command.source, SOURCE_BYTES) {
         Ok(source) => build_source(alloc, command, files, source.as_slice()),
@@ -92,8 +102,10 @@ fn build_source<F: Files>(
     source: &[u8],
 ) -> Status
     requires fits { length source.now ≤ SOURCE_BYTES }
-    requires read { IfSome (told_bytes (F.holds files.old command.source.now)) (λ bytes. source.now ≡ bytes) }
-    ensures { Between (BuildEnds (shown command.entry) result) F.holds F.failed_reads F.failed_writes files.old files.new }
+    requires read { IfSome (told_bytes (F.holds files.old command.source.now))
+        (λ bytes. source.now ≡ bytes) }
+    ensures { Between (BuildEnds (shown command.entry) result) F.holds F.failed_reads
+        F.failed_writes files.old files.new }
 {
     match compile_one(alloc, source) {
         Ok(built) => match write_whole(files, command.output, built.font.as_slice()) {

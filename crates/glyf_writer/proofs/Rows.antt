@@ -13,25 +13,34 @@ abbrev triangle : List StoredPoint
 triangle = point (pos 250) (pos 700) ∷ point (pos 0) (pos 0) ∷ point (pos 500) (pos 0) ∷ []
 
 abbrev triangle_bytes : List ℕ
-triangle_bytes = 0 ∷ 1 ∷ 0 ∷ 0 ∷ 0 ∷ 0 ∷ 1 ∷ 244 ∷ 2 ∷ 188 ∷ 0 ∷ 2 ∷ 0 ∷ 0 ∷ 19 ∷ 3 ∷ 33 ∷ 250 ∷ 250 ∷ 1 ∷ 244 ∷ 2 ∷ 188 ∷ 253 ∷ 68 ∷ 0 ∷ 0 ∷ 0 ∷ []
+triangle_bytes = 0 ∷ 1 ∷ 0 ∷ 0 ∷ 0 ∷ 0 ∷ 1 ∷ 244 ∷ 2 ∷ 188 ∷ 0 ∷ 2 ∷ 0 ∷ 0 ∷ 19 ∷ 3 ∷ 33 ∷ 250 ∷ 250
+    ∷ 1 ∷ 244 ∷ 2 ∷ 188 ∷ 253 ∷ 68 ∷ 0 ∷ 0 ∷ 0 ∷ []
 
 pub triangle_row : simple_data false (triangle ∷ []) ≡ triangle_bytes
 triangle_row = refl
 
 -- in a font with axes its first flag is 0x53
-pub variable_row : simple_data true (triangle ∷ []) ≡ 0 ∷ 1 ∷ 0 ∷ 0 ∷ 0 ∷ 0 ∷ 1 ∷ 244 ∷ 2 ∷ 188 ∷ 0 ∷ 2 ∷ 0 ∷ 0 ∷ 83 ∷ 3 ∷ 33 ∷ 250 ∷ 250 ∷ 1 ∷ 244 ∷ 2 ∷ 188 ∷ 253 ∷ 68 ∷ 0 ∷ 0 ∷ 0 ∷ []
+pub variable_row : simple_data true (triangle ∷ [])
+    ≡ 0 ∷ 1 ∷ 0 ∷ 0 ∷ 0 ∷ 0 ∷ 1 ∷ 244 ∷ 2 ∷ 188 ∷ 0 ∷ 2 ∷ 0 ∷ 0 ∷ 83 ∷ 3 ∷ 33 ∷ 250 ∷ 250 ∷ 1 ∷ 244
+    ∷ 2 ∷ 188 ∷ 253 ∷ 68 ∷ 0 ∷ 0 ∷ 0 ∷ []
 variable_row = refl
 
 -- "loca" of a glyph without data and the triangle
-pub loca_row : loca_bytes ([] ∷ triangle_bytes ∷ []) ≡ 0 ∷ 0 ∷ 0 ∷ 0 ∷ 0 ∷ 0 ∷ 0 ∷ 0 ∷ 0 ∷ 0 ∷ 0 ∷ 28 ∷ []
+pub loca_row : loca_bytes ([] ∷ triangle_bytes ∷ [])
+    ≡ 0 ∷ 0 ∷ 0 ∷ 0 ∷ 0 ∷ 0 ∷ 0 ∷ 0 ∷ 0 ∷ 0 ∷ 0 ∷ 28 ∷ []
 loca_row = refl
 
 -- two contours: the bounds are of all points, and two flags in a row are equal nowhere
-pub two_contours_row : simple_data false (triangle ∷ (point (pos 256) (pos 0) ∷ point (pos 0) (pos 0) ∷ point (pos 0) (pos 255) ∷ point (pos 256) (pos 255) ∷ []) ∷ []) ≡ 0 ∷ 2 ∷ 0 ∷ 0 ∷ 0 ∷ 0 ∷ 1 ∷ 244 ∷ 2 ∷ 188 ∷ 0 ∷ 2 ∷ 0 ∷ 6 ∷ 0 ∷ 0 ∷ 19 ∷ 3 ∷ 33 ∷ 35 ∷ 33 ∷ 53 ∷ 33 ∷ 250 ∷ 250 ∷ 1 ∷ 244 ∷ 244 ∷ 255 ∷ 0 ∷ 1 ∷ 0 ∷ 2 ∷ 188 ∷ 253 ∷ 68 ∷ 255 ∷ 0 ∷ 0 ∷ 0 ∷ []
+pub two_contours_row : simple_data false
+    (triangle ∷ (point (pos 256) (pos 0) ∷ point (pos 0) (pos 0) ∷ point (pos 0) (pos 255)
+    ∷ point (pos 256) (pos 255) ∷ []) ∷ [])
+    ≡ 0 ∷ 2 ∷ 0 ∷ 0 ∷ 0 ∷ 0 ∷ 1 ∷ 244 ∷ 2 ∷ 188 ∷ 0 ∷ 2 ∷ 0 ∷ 6 ∷ 0 ∷ 0 ∷ 19 ∷ 3 ∷ 33 ∷ 35 ∷ 33 ∷ 53
+    ∷ 33 ∷ 250 ∷ 250 ∷ 1 ∷ 244 ∷ 244 ∷ 255 ∷ 0 ∷ 1 ∷ 0 ∷ 2 ∷ 188 ∷ 253 ∷ 68 ∷ 255 ∷ 0 ∷ 0 ∷ 0 ∷ []
 two_contours_row = refl
 
 -- a run of 256 equal flags and one of a single flag more, a run of two, and one of none
-pub runs_row : with_repeats (replicate 257 51 ++ (5 ∷ 23 ∷ 23 ∷ [])) ≡ 59 ∷ 255 ∷ 51 ∷ 5 ∷ 31 ∷ 1 ∷ []
+pub runs_row : with_repeats (replicate 257 51 ++ (5 ∷ 23 ∷ 23 ∷ []))
+    ≡ 59 ∷ 255 ∷ 51 ∷ 5 ∷ 31 ∷ 1 ∷ []
 runs_row = refl
 
 pub no_points_row : simple_data true [] ≡ []

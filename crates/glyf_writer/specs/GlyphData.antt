@@ -1,7 +1,10 @@
--- The bytes of a simple glyph (OpenType 1.9, "glyf", "Glyph Headers" and "Simple Glyph Description"). Which of the many spellings
--- of an outline is written, and the padding, are fontc's own: each coordinate takes as few bytes as it can, and each run of equal
+-- The bytes of a simple glyph (OpenType 1.9, "glyf", "Glyph Headers" and "Simple Glyph
+-- Description"). Which of the many spellings
+-- of an outline is written, and the padding, are fontc's own: each coordinate takes as few bytes as
+-- it can, and each run of equal
 -- flags is written as a repeat.
-use Rattle.std.specs.Prelude.{ℕ, ◌+◌, ◌-◌, ◌/◌, ◌%◌, ℤ, pos, Bool, List, [], ◌∷◌, ◌++◌, map, length, replicate, nat_lt, ◌==◌, if◌then◌else◌, unsigned_abs, int_lt, bit_or}
+use Rattle.std.specs.Prelude.{ℕ, ◌+◌, ◌-◌, ◌/◌, ◌%◌, ℤ, pos, Bool, List, [], ◌∷◌, ◌++◌, map, length,
+    replicate, nat_lt, ◌==◌, if◌then◌else◌, unsigned_abs, int_lt, bit_or}
 use Rattle.std.specs.List.{flat_map}
 use Rattle.font_ir.specs.declared.outline.StoredPoint.{StoredPoint}
 use Rattle.table_bytes.specs.DataTypes.{uint16, int16, padded}
@@ -12,15 +15,18 @@ use Rattle.glyf_writer.specs.Outlines.{steps_of, end_points}
 
 -- ---- flags
 
--- Of a flag, the bits of one coordinate: `short` says that the difference takes one byte, and `same` that it is 0 and takes none
+-- Of a flag, the bits of one coordinate: `short` says that the difference takes one byte, and
+-- `same` that it is 0 and takes none
 -- or, beside `short`, that it is above 0.
 abbrev pub coordinate_flag : ℕ → ℕ → ℤ → ℕ
 coordinate_flag short same z =
-    if unsigned_abs z == 0 then same else (if nat_lt 255 (unsigned_abs z) then 0 else (if int_lt z (pos 0) then short else bit_or short same))
+    if unsigned_abs z == 0 then same else (if nat_lt 255 (unsigned_abs z) then 0 else
+        (if int_lt z (pos 0) then short else bit_or short same))
 
 -- bit 0: on the curve; bits 1 and 4: short and same of x; bits 2 and 5: those of y
 abbrev pub flag_of : Step → ℕ
-flag_of step = bit_or (bit_or (if step.on then 1 else 0) (coordinate_flag 2 16 step.dx)) (coordinate_flag 4 32 step.dy)
+flag_of step = bit_or (bit_or (if step.on then 1 else 0) (coordinate_flag 2 16 step.dx))
+    (coordinate_flag 4 32 step.dy)
 
 -- in a font with axes bit 6 (contours may overlap) is set in the first flag
 abbrev pub marked : Bool → List ℕ → List ℕ
@@ -41,9 +47,11 @@ longest_runs (x ∷ xs) = onto_runs x (longest_runs xs)
 
 -- a run, cut after each 256
 abbrev pub cut_at_256 : (ℕ × ℕ) → List (ℕ × ℕ)
-cut_at_256 run = replicate (run.1 / 256) (run.0, 256) ++ (if run.1 % 256 == 0 then [] else (run.0, run.1 % 256) ∷ [])
+cut_at_256 run = replicate (run.1 / 256) (run.0, 256)
+    ++ (if run.1 % 256 == 0 then [] else (run.0, run.1 % 256) ∷ [])
 
--- a flag that stands once is written as it is; one that stands more often with bit 3 set, and then how many more follow
+-- a flag that stands once is written as it is; one that stands more often with bit 3 set, and then
+-- how many more follow
 abbrev pub flag_bytes : (ℕ × ℕ) → List ℕ
 flag_bytes piece = if piece.1 == 1 then piece.0 ∷ [] else bit_or piece.0 8 ∷ (piece.1 - 1) ∷ []
 
@@ -52,10 +60,12 @@ with_repeats flags = flat_map (λ run. flat_map flag_bytes (cut_at_256 run)) (lo
 
 -- ---- coordinates
 
--- a difference of 0 takes no byte, one of up to 255 in size that size as a byte, and any other an int16
+-- a difference of 0 takes no byte, one of up to 255 in size that size as a byte, and any other an
+-- int16
 abbrev pub coordinate_bytes : ℤ → List ℕ
 coordinate_bytes z =
-    if unsigned_abs z == 0 then [] else (if nat_lt 255 (unsigned_abs z) then int16 z else unsigned_abs z ∷ [])
+    if unsigned_abs z == 0 then [] else (if nat_lt 255 (unsigned_abs z) then int16 z else
+        unsigned_abs z ∷ [])
 
 -- ---- the whole
 
@@ -96,6 +106,8 @@ glyph_bytes glyph =
     ++ flat_map coordinate_bytes glyph.x_differences
     ++ flat_map coordinate_bytes glyph.y_differences
 
--- what is stored of an outline, with zeros up to a multiple of four bytes; nothing where it has no point
+-- what is stored of an outline, with zeros up to a multiple of four bytes; nothing where it has no
+-- point
 abbrev pub simple_data : Bool → List (List StoredPoint) → List ℕ
-simple_data variable outline = if length (all_points outline) == 0 then [] else padded (glyph_bytes (glyph_of variable outline))
+simple_data variable outline = if length (all_points outline) == 0 then [] else padded
+    (glyph_bytes (glyph_of variable outline))

@@ -1,4 +1,5 @@
--- The tables "glyf" and "loca" (OpenType 1.9) of the data of each glyph, in the order of the glyph numbers. "loca" is in its long
+-- The tables "glyf" and "loca" (OpenType 1.9) of the data of each glyph, in the order of the glyph
+-- numbers. "loca" is in its long
 -- format.
 use Rattle.std.specs.Prelude.{ℕ, ◌+◌, List, [], ◌∷◌, map, length, Option, nat_lt, if◌then◌else◌}
 use Rattle.std.specs.List.{concat, flat_map}
@@ -21,4 +22,5 @@ loca_bytes parts = flat_map uint32 (offsets parts)
 -- the length of "glyf" where that is too large, or else of "loca" where that is
 abbrev pub too_large : List (List ℕ) → Option ℕ
 too_large parts =
-    if nat_lt 4294967295 (length (glyf_bytes parts)) then over_limit (length (glyf_bytes parts)) else over_limit (length (loca_bytes parts))
+    if nat_lt 4294967295 (length (glyf_bytes parts)) then over_limit (length (glyf_bytes parts))
+        else over_limit (length (loca_bytes parts))

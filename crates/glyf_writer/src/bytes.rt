@@ -12,7 +12,9 @@ use table_bytes::{padding, push_int16, push_uint16, push_zeros};
 
 /// Writes the bounds xMin, yMin, xMax and yMax.
 pub fn push_bounds(bytes: &mut Vec<u8>, bounds: [i16; 4]) -> Result<(), NoMemory>
-    ensures { OnOk result (bytes.new.items ≡ bytes.old.items ++ int16 (slice_index_or bounds 0 (pos 0)) ++ int16 (slice_index_or bounds 1 (pos 0))
+    ensures { OnOk result (bytes.new.items
+        ≡ bytes.old.items ++ int16 (slice_index_or bounds 0 (pos 0))
+        ++ int16 (slice_index_or bounds 1 (pos 0))
         ++ int16 (slice_index_or bounds 2 (pos 0)) ++ int16 (slice_index_or bounds 3 (pos 0))) }
 {
     push_int16(bytes, bounds[0])?;
@@ -26,7 +28,9 @@ pub fn push_bounds(bytes: &mut Vec<u8>, bounds: [i16; 4]) -> Result<(), NoMemory
 pub fn push_end_points(bytes: &mut Vec<u8>, contours: &[Contour]) -> Result<(), NoMemory>
     requires few { point_count contours.now ≤ 8000 }
     requires none_empty { All (λ contour. 0 < length contour.points) contours.now }
-    ensures { OnOk result (bytes.new.items ≡ bytes.old.items ++ flat_map uint16 (end_points (map (λ contour. length contour.points) contours.now))) }
+    ensures { OnOk result (bytes.new.items
+        ≡ bytes.old.items ++ flat_map uint16
+        (end_points (map (λ contour. length contour.points) contours.now))) }
 {
     let mut count: usize = 0;
     for contour in contours {
@@ -53,7 +57,8 @@ fn push_coordinate(bytes: &mut Vec<u8>, difference: i16) -> Result<(), NoMemory>
 
 /// Writes the differences of x.
 pub fn push_x_coordinates(bytes: &mut Vec<u8>, steps: &[Step]) -> Result<(), NoMemory>
-    ensures { OnOk result (bytes.new.items ≡ bytes.old.items ++ flat_map coordinate_bytes (map (λ step. step.dx) steps.now)) }
+    ensures { OnOk result (bytes.new.items
+        ≡ bytes.old.items ++ flat_map coordinate_bytes (map (λ step. step.dx) steps.now)) }
 {
     for step in steps {
         push_coordinate(bytes, step.dx)?;
@@ -63,7 +68,8 @@ pub fn push_x_coordinates(bytes: &mut Vec<u8>, steps: &[Step]) -> Result<(), NoM
 
 /// Writes the differences of y.
 pub fn push_y_coordinates(bytes: &mut Vec<u8>, steps: &[Step]) -> Result<(), NoMemory>
-    ensures { OnOk result (bytes.new.items ≡ bytes.old.items ++ flat_map coordinate_bytes (map (λ step. step.dy) steps.now)) }
+    ensures { OnOk result (bytes.new.items
+        ≡ bytes.old.items ++ flat_map coordinate_bytes (map (λ step. step.dy) steps.now)) }
 {
     for step in steps {
         push_coordinate(bytes, step.dy)?;

@@ -1,5 +1,7 @@
-ghost use Rattle.std.specs.Prelude.{◌≡◌, ◌<◌, ◌≤◌, ◌++◌, ◌≢◌, ℕ, length, map, take, replicate, slice_index, IfOk, OnOk};
-ghost use Rattle.glyf_writer.specs.GlyphData.{coordinate_flag, flag_of, flags_of, flag_bytes, with_repeats};
+ghost use Rattle.std.specs.Prelude.{◌≡◌, ◌<◌, ◌≤◌, ◌++◌, ◌≢◌, ℕ, length, map, take, replicate,
+    slice_index, IfOk, OnOk};
+ghost use Rattle.glyf_writer.specs.GlyphData.{coordinate_flag, flag_of, flags_of, flag_bytes,
+    with_repeats};
 
 use crate::outline::Step;
 use refusal_codes::NoMemory;
@@ -77,7 +79,8 @@ fn front_run(flags: &[u8]) -> usize
     ensures few { result ≤ 256 }
     ensures within { result ≤ length flags.now }
     ensures equal { take result flags.now ≡ replicate result (slice_index flags.now 0) }
-    ensures longest { result < 256 → result < length flags.now → slice_index flags.now result ≢ slice_index flags.now 0 }
+    ensures longest { result < 256 → result < length flags.now
+        → slice_index flags.now result ≢ slice_index flags.now 0 }
 {
     let first = flags[0];
     let mut count = 1;

@@ -1,4 +1,5 @@
-//! The tables "glyf" and "loca" (OpenType 1.9): the outlines of a font's glyphs, and where each one's data stand.
+//! The tables "glyf" and "loca" (OpenType 1.9): the outlines of a font's glyphs, and where each
+//! one's data stand.
 #![tactic(auto)]
 
 mod bytes;

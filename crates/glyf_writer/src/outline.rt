@@ -20,8 +20,10 @@ pub struct Step {
 /// Adds the points of one contour.
 fn push_points(stored_points: &mut Vec<StoredPoint>, points: &[DrawnPoint]) -> Result<(), NoMemory>
     requires { All IsSmallPoint points.now }
-    ensures ok { OnOk result (stored_points.new.items ≡ stored_points.old.items ++ map stored_point points.now) }
-    ensures small { AreSmall stored_points.old.items → OnOk result (AreSmall stored_points.new.items) }
+    ensures ok { OnOk result (stored_points.new.items
+        ≡ stored_points.old.items ++ map stored_point points.now) }
+    ensures small { AreSmall stored_points.old.items
+        → OnOk result (AreSmall stored_points.new.items) }
 {
     for point in points {
         stored_points.push(stored_point(*point))?;

@@ -13,9 +13,11 @@ use refusal_codes::NoMemory;
 use std::alloc::Global;
 use table_bytes::push_uint16;
 
-/// The data of a simple glyph in the table "glyf" (OpenType 1.9, "Simple Glyph Description"), padded to four bytes.
+/// The data of a simple glyph in the table "glyf" (OpenType 1.9, "Simple Glyph Description"),
+/// padded to four bytes.
 ///
-/// The outline is that at the place `origin`, of the glyph's list of places. `variable` says whether the font has axes. A glyph
+/// The outline is that at the place `origin`, of the glyph's list of places. `variable` says
+/// whether the font has axes. A glyph
 /// without points has no bytes.
 ///
 /// # Errors
@@ -30,7 +32,8 @@ pub fn simple_bytes(
     requires flat { IsFlatGlyph glyph.now }
     requires origin { origin < length glyph.now.places }
     requires simple { glyph.now.kept ≡ [] }
-    ensures { IfOk result (λ bytes. bytes.items ≡ simple_data variable (outline_at origin glyph.now)) }
+    ensures { IfOk result (λ bytes. bytes.items
+        ≡ simple_data variable (outline_at origin glyph.now)) }
 {
     let contours = glyph.drawn.as_slice()[origin as usize].as_slice();
     let Some(bounds) = bounds_of(contours) else {
@@ -65,7 +68,8 @@ fn push_glyph(
     requires few { point_count contours.now ≤ 8000 }
     requires none_empty { All (λ contour. 0 < length contour.points) contours.now }
     requires empty { bytes.old.items ≡ [] }
-    ensures { OnOk result (bytes.new.items ≡ glyph_bytes (glyph_of variable (stored_contours contours.now))) }
+    ensures { OnOk result (bytes.new.items
+        ≡ glyph_bytes (glyph_of variable (stored_contours contours.now))) }
 {
     let steps = steps_of(alloc, points)?;
     let flags = flags_of(alloc, steps.as_slice(), variable)?;

@@ -11,13 +11,15 @@ use table_bytes::{TableError, push_uint32};
 /// The greatest length that four bytes can say.
 const LONGEST_TABLE: u64 = 4_294_967_295;
 
-/// The tables "glyf" and "loca" (OpenType 1.9) of each glyph's data, in the order of the glyph numbers.
+/// The tables "glyf" and "loca" (OpenType 1.9) of each glyph's data, in the order of the glyph
+/// numbers.
 ///
 /// The offsets are long.
 ///
 /// # Errors
 ///
-/// `TooLarge` with the length of "glyf", or `u64::MAX` where it is longer, exactly where that is more than 4,294,967,295 bytes, or
+/// `TooLarge` with the length of "glyf", or `u64::MAX` where it is longer, exactly where that is
+/// more than 4,294,967,295 bytes, or
 /// else that of "loca" exactly where that is. `NoMemory` comes only where neither is.
 pub fn glyf_loca(alloc: Global, parts: &[Arc<Vec<u8>>]) -> Result<(Vec<u8>, Vec<u8>), TableError>
     ensures { Builds {Y = List ℕ × List ℕ} (λ tables. (tables.0.items, tables.1.items)) result
@@ -37,7 +39,8 @@ pub fn glyf_loca(alloc: Global, parts: &[Arc<Vec<u8>>]) -> Result<(Vec<u8>, Vec<
 
 /// How many bytes all parts have, at most the greatest number of 64 bits.
 fn total_length(parts: &[Arc<Vec<u8>>]) -> u64
-    ensures { result ≡ min (length (concat (map (λ part. part.value.items) parts.now))) 18446744073709551615 }
+    ensures { result ≡ min (length (concat (map (λ part. part.value.items) parts.now)))
+        18446744073709551615 }
 {
     let mut total: u64 = 0;
     for part in parts {
@@ -50,8 +53,10 @@ fn total_length(parts: &[Arc<Vec<u8>>]) -> u64
 fn short_tables(alloc: Global, parts: &[Arc<Vec<u8>>]) -> Result<(Vec<u8>, Vec<u8>), NoMemory>
     requires glyf { length (concat (map (λ part. part.value.items) parts.now)) ≤ 4294967295 }
     requires loca { 4 * (length parts.now + 1) ≤ 4294967295 }
-    ensures glyf { IfOk result (λ tables. tables.0.items ≡ glyf_bytes (map (λ part. part.value.items) parts.now)) }
-    ensures loca { IfOk result (λ tables. tables.1.items ≡ loca_bytes (map (λ part. part.value.items) parts.now)) }
+    ensures glyf { IfOk result (λ tables. tables.0.items
+        ≡ glyf_bytes (map (λ part. part.value.items) parts.now)) }
+    ensures loca { IfOk result (λ tables. tables.1.items
+        ≡ loca_bytes (map (λ part. part.value.items) parts.now)) }
 {
     Ok((joined(alloc, parts)?, loca_of(alloc, parts)?))
 }
@@ -59,7 +64,8 @@ fn short_tables(alloc: Global, parts: &[Arc<Vec<u8>>]) -> Result<(Vec<u8>, Vec<u
 /// The parts, one after another.
 fn joined(alloc: Global, parts: &[Arc<Vec<u8>>]) -> Result<Vec<u8>, NoMemory>
     requires { length (concat (map (λ part. part.value.items) parts.now)) ≤ 4294967295 }
-    ensures { IfOk result (λ glyf. glyf.items ≡ glyf_bytes (map (λ part. part.value.items) parts.now)) }
+    ensures { IfOk result (λ glyf. glyf.items
+        ≡ glyf_bytes (map (λ part. part.value.items) parts.now)) }
 {
     let mut glyf = Vec::with_capacity(alloc, total_length(parts) as usize)?;
     for part in parts {
@@ -72,7 +78,8 @@ fn joined(alloc: Global, parts: &[Arc<Vec<u8>>]) -> Result<Vec<u8>, NoMemory>
 fn loca_of(alloc: Global, parts: &[Arc<Vec<u8>>]) -> Result<Vec<u8>, NoMemory>
     requires glyf { length (concat (map (λ part. part.value.items) parts.now)) ≤ 4294967295 }
     requires loca { 4 * (length parts.now + 1) ≤ 4294967295 }
-    ensures { IfOk result (λ loca. loca.items ≡ loca_bytes (map (λ part. part.value.items) parts.now)) }
+    ensures { IfOk result (λ loca. loca.items
+        ≡ loca_bytes (map (λ part. part.value.items) parts.now)) }
 {
     let mut loca = Vec::with_capacity(alloc, 4 * (parts.len() + 1))?;
     let mut offset: u32 = 0;

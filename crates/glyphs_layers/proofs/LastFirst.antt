@@ -1,11 +1,13 @@
 -- Turning a list by one item to the right puts the last item first.
-use Rattle.std.proofs.Common.{◌≡◌, ℕ, zero, suc, ◌+◌, ◌-◌, ◌<◌, List, [], ◌∷◌, ◌++◌, length, take, drop, refl, sym, ap, ◌∙◌, arith}
+use Rattle.std.proofs.Common.{◌≡◌, ℕ, zero, suc, ◌+◌, ◌-◌, ◌<◌, List, [], ◌∷◌, ◌++◌, length, take,
+    drop, refl, sym, ap, ◌∙◌, arith}
 use Rattle.std.proofs.lemmas.List.{length-append, length-drop, length-take}
 use Rattle.std.proofs.Math.Seq.{take-append_seam}
 use Rattle.font_ir.specs.declared.glyph.DrawnPoint.{DrawnPoint}
 use Rattle.glyphs_layers.specs.LayerReading.{behind_first, last_first}
 
-one_before : (x : DrawnPoint) (last front : List DrawnPoint) → length last ≡ 1 → last ++ x ∷ front ≡ behind_first x (last ++ front)
+one_before : (x : DrawnPoint) (last front : List DrawnPoint) → length last ≡ 1
+    → last ++ x ∷ front ≡ behind_first x (last ++ front)
 one_before x [] front e = absurd (omega (arith, e))
 one_before x (y ∷ []) front e = refl
 one_before x (y ∷ z ∷ zs) front e = absurd (omega (arith, e))
@@ -19,7 +21,8 @@ turned (x ∷ y ∷ ys) (suc n) e =
     one_before x (drop n (y ∷ ys)) (take n (y ∷ ys)) (omega (arith, e, length-drop n (y ∷ ys)))
     ∙ ap (behind_first x) (turned (y ∷ ys) n (omega (arith, e)))
 
-pub rotated : (xs : List DrawnPoint) → 0 < length xs → drop (length xs - 1) xs ++ take (length xs - 1) xs ≡ last_first xs
+pub rotated : (xs : List DrawnPoint) → 0 < length xs
+    → drop (length xs - 1) xs ++ take (length xs - 1) xs ≡ last_first xs
 rotated xs some = turned xs (length xs - 1) (omega (arith, some))
 
 pub kept_empty : (xs : List DrawnPoint) → length xs ≡ 0 → xs ≡ last_first xs

@@ -1,4 +1,5 @@
--- A source with one triangle, and variants of it, as property lists that were read: the values in the order in which they
+-- A source with one triangle, and variants of it, as property lists that were read: the values in
+-- the order in which they
 -- end, each with its place.
 use Rattle.std.specs.Prelude.{ℕ, ◌+◌, List, [], ◌∷◌, ◌++◌, length, codes, pos, neg_ℤ}
 use Rattle.plist_reader.specs.declared.tree.Tree.{Tree}
@@ -45,8 +46,10 @@ value_from place end value = record { place = place; end = end; value = value }
 --     unitsPerEm = 1000;
 --     }
 --
--- with another `closed`, another text for the coordinate 500, which is longer by d, another type of the last node, and in
--- place of the layer's width other keys: their nodes, their numbers in the layer's dictionary, and where the layer's `}` and
+-- with another `closed`, another text for the coordinate 500, which is longer by d, another type of
+-- the last node, and in
+-- place of the layer's width other keys: their nodes, their numbers in the layer's dictionary, and
+-- where the layer's `}` and
 -- what follows stand, by the number of bytes.
 abbrev pub triangle_with : List ℕ → List ℕ → ℕ → List ℕ → List TreeNode → List (ℕ × ℕ) → ℕ → Tree
 triangle_with closed x d kind values keys e =
@@ -96,14 +99,16 @@ triangle_with closed x d kind values keys e =
           ∷ value_from 80 (e + 223) (Items ((n + 4) ∷ []))
           ∷ value_from (e + 225) (e + 235) (Text (codes "unitsPerEm"))
           ∷ value_from (e + 238) (e + 242) (Text (codes "1000"))
-          ∷ value_from 0 (e + 245) (Pairs ((0, 1) ∷ (2, 3) ∷ (4, 8) ∷ (9, n + 5) ∷ (n + 6, n + 7) ∷ []))
+          ∷ value_from 0 (e + 245) (Pairs ((0, 1) ∷ (2, 3) ∷ (4, 8) ∷ (9, n + 5) ∷ (n + 6, n + 7)
+              ∷ []))
           ∷ [];
       top = n + 8;
     }
 
 -- the values of the layer's width, which stands so many bytes behind its place in the property list
 abbrev pub width_at : ℕ → List TreeNode
-width_at d = value_from (d + 201) (d + 206) (Text (codes "width")) ∷ value_from (d + 209) (d + 212) (Text (codes "500")) ∷ []
+width_at d = value_from (d + 201) (d + 206) (Text (codes "width"))
+    ∷ value_from (d + 209) (d + 212) (Text (codes "500")) ∷ []
 
 -- with the layer's width, where the glyph's dictionary is the value 40
 abbrev pub triangle : List ℕ → List ℕ → ℕ → List ℕ → Tree
@@ -146,7 +151,8 @@ triangle_with_attributes =
 
 -- a master with this id, at no axis
 abbrev master_named : List ℕ → Master
-master_named id = record { id = id; design = []; user = []; location = []; ascender = pos 800; descender = neg_ℤ (pos 200); cap = pos 0; xheight = pos 0; place = 55 }
+master_named id = record { id = id; design = []; user = []; location = []; ascender
+    = pos 800; descender = neg_ℤ (pos 200); cap = pos 0; xheight = pos 0; place = 55 }
 
 -- its masters: one
 abbrev pub triangle_masters : List Master

@@ -1,6 +1,8 @@
--- What a glyph's layers say (Glyphs file format, version 3; that the last node stored is where a contour starts is fontc's
+-- What a glyph's layers say (Glyphs file format, version 3; that the last node stored is where a
+-- contour starts is fontc's
 -- own reading).
-use Rattle.std.specs.Prelude.{ℕ, ◌*◌, ◌&&◌, true, List, [], ◌∷◌, length, map, flat_map, slice_index, codes, Option, Some, None, Result, ℤ, pos, neg_ℤ, if◌then◌else◌}
+use Rattle.std.specs.Prelude.{ℕ, ◌*◌, ◌&&◌, true, List, [], ◌∷◌, length, map, flat_map, slice_index,
+    codes, Option, Some, None, Result, ℤ, pos, neg_ℤ, if◌then◌else◌}
 use Rattle.std.specs.Option.{option_map_or}
 use Rattle.plist_reader.specs.declared.tree.Tree.{Tree}
 use Rattle.plist_reader.specs.Tree.{find_in}
@@ -18,8 +20,10 @@ use Rattle.refusal_codes.specs.declared.job.TheConstants.{RAW}
 use Rattle.source_values.specs.declared.decimals.Decimal.{Decimal}
 use Rattle.source_values.specs.declared.kinds.Range.TheVariants.{Coordinate}
 use Rattle.source_values.specs.Decimals.{is_whole}
-use Rattle.source_values.specs.Values.{place_at, items_at, decimal_at, in_range, natural_or, items_under}
-use Rattle.glyphs_layers.specs.LayerRules.{is_node, layer_numbers, layer_of, glyph_failures, glyph_whole_failures}
+use Rattle.source_values.specs.Values.{place_at, items_at, decimal_at, in_range, natural_or,
+    items_under}
+use Rattle.glyphs_layers.specs.LayerRules.{is_node, layer_numbers, layer_of, glyph_failures,
+    glyph_whole_failures}
 
 -- a coordinate in 16.16: the whole number times 65536, 0 where the value is no coordinate
 abbrev pub coordinate_by : Option Decimal → ℤ
@@ -47,7 +51,8 @@ node_point t (Some parts) =
 unfoldable pub point_of : Tree → ℕ → DrawnPoint
 point_of t n = node_point t (items_at t n)
 
--- the last item first, and then the others in their order: each item but the last one stands behind the last of
+-- the last item first, and then the others in their order: each item but the last one stands behind
+-- the last of
 -- those that follow it
 abbrev pub behind_first : {X : Type 0} → X → List X → List X
 behind_first x [] = x ∷ []
@@ -97,7 +102,8 @@ glyph_record t masters number glyph = record {
   layers = flat_map (master_layers t (layer_numbers t glyph)) masters;
 }
 
--- what the job of a glyph's layers answers, for the glyph with this name, number and dictionary; the job has the
+-- what the job of a glyph's layers answers, for the glyph with this name, number and dictionary;
+-- the job has the
 -- glyph's name
 unfoldable pub glyph_of : Tree → List Master → List ℕ → ℕ → ℕ → Result GlyphIr Refusal
 glyph_of t masters name number glyph =

@@ -1,24 +1,31 @@
--- The rules that a glyph's layers may fail (Glyphs file format, version 3; the rules are fontc's own). A glyph has a list
--- of layers, and each master's layer is the first one that names the master. Each layer must be a dictionary, and its
--- `layerId` a text where it has one; all else that a layer of no master holds is ignored. A form that isn't built is of a
+-- The rules that a glyph's layers may fail (Glyphs file format, version 3; the rules are fontc's
+-- own). A glyph has a list
+-- of layers, and each master's layer is the first one that names the master. Each layer must be a
+-- dictionary, and its
+-- `layerId` a text where it has one; all else that a layer of no master holds is ignored. A form
+-- that isn't built is of a
 -- wrong shape, and a value of a wrong shape isn't looked into further.
-use Rattle.std.specs.Prelude.{ℕ, Bool, ◌||◌, ◌==◌, is_some, List, [], ◌++◌, length, slice_index, flat_map, codes, Option, Some, None, if◌then◌else◌}
+use Rattle.std.specs.Prelude.{ℕ, Bool, ◌||◌, ◌==◌, is_some, List, [], ◌++◌, length, slice_index,
+    flat_map, codes, Option, Some, None, if◌then◌else◌}
 use Rattle.std.specs.Option.{option_map_or}
 use Rattle.std.specs.List.{find, list_all}
 use Rattle.plist_reader.specs.declared.tree.Tree.{Tree}
 use Rattle.plist_reader.specs.Tree.{find_in, spells, is_key}
 use Rattle.font_ir.specs.declared.header.Master.{Master}
-use Rattle.refusal_codes.specs.declared.rule.Rule.TheVariants.{WrongShape, MissingKey, NotWhole, MissingLayer, CubicNode, OpenContour}
+use Rattle.refusal_codes.specs.declared.rule.Rule.TheVariants.{WrongShape, MissingKey, NotWhole,
+    MissingLayer, CubicNode, OpenContour}
 use Rattle.refusal_codes.specs.declared.first.Failure.{Failure}
 use Rattle.source_values.specs.declared.decimals.Decimal.{Decimal}
 use Rattle.source_values.specs.declared.kinds.Range.TheVariants.{Natural, Coordinate}
 use Rattle.source_values.specs.Decimals.{is_whole}
 use Rattle.source_values.specs.Values.{items_at, decimal_at, items_under, text_under}
-use Rattle.source_values.specs.Asking.{fails, whole_failures, text_failures, empty_list_failures, each, dictionary, required, optional}
+use Rattle.source_values.specs.Asking.{fails, whole_failures, text_failures, empty_list_failures,
+    each, dictionary, required, optional}
 
 -- ---- nodes: a list of x, y and a type, and maybe a fourth value, which is ignored
 
--- whether a node's type is one of those of a straight line, of a cubic curve, and of a quadratic curve. A final `s` says
+-- whether a node's type is one of those of a straight line, of a cubic curve, and of a quadratic
+-- curve. A final `s` says
 -- that the node is smooth
 abbrev pub is_line : Tree → ℕ → Bool
 is_line t n = is_key t (codes "l") n || is_key t (codes "ls") n
@@ -33,7 +40,8 @@ is_quadratic t n =
     || is_key t (codes "o") n
     || is_key t (codes "os") n
 
--- a node's type: only straight lines are built. A type of a quadratic curve fails at the node, one that is no type at the
+-- a node's type: only straight lines are built. A type of a quadratic curve fails at the node, one
+-- that is no type at the
 -- type's value
 unfoldable pub type_failures : Tree → ℕ → ℕ → List Failure
 type_failures t node kind =
@@ -68,18 +76,21 @@ nodes_failures = each node_failures
 
 -- ---- paths and other shapes
 
--- `closed` is a whole number, and a path whose `closed` is 0 isn't built. The place is the path, whether it has nodes or not
+-- `closed` is a whole number, and a path whose `closed` is 0 isn't built. The place is the path,
+-- whether it has nodes or not
 abbrev pub closed_failures_by : Tree → ℕ → ℕ → Option Decimal → List Failure
 closed_failures_by t path n None = fails WrongShape t n
 closed_failures_by t path n (Some d) =
-    if is_whole d then (if d.whole == 0 then fails OpenContour t path else []) else fails NotWhole t n
+    if is_whole d then (if d.whole == 0 then fails OpenContour t path else []) else fails NotWhole t
+        n
 
 unfoldable pub closed_failures : ℕ → Tree → ℕ → List Failure
 closed_failures path t n = closed_failures_by t path n (decimal_at t n)
 
 -- a shape without nodes: a component isn't built, and a shape must be one of the two
 unfoldable pub other_shape_failures : Tree → ℕ → List Failure
-other_shape_failures t n = if is_some (find_in t n (codes "ref")) then fails WrongShape t n else fails MissingKey t n
+other_shape_failures t n = if is_some (find_in t n (codes "ref")) then fails WrongShape t n else
+    fails MissingKey t n
 
 abbrev pub shape_failures_by : Tree → ℕ → Option ℕ → List Failure
 shape_failures_by t n None = other_shape_failures t n

@@ -1,9 +1,11 @@
-ghost use Rattle.std.specs.Prelude.{◌≡◌, ◌<◌, ◌^◌, length, map, flat_map, slice_get, Ok, Err, IfOk, OnOk, IfSome, [], ◌∷◌, ◌++◌};
+ghost use Rattle.std.specs.Prelude.{◌≡◌, ◌<◌, ◌^◌, length, map, flat_map, slice_get, Ok, Err, IfOk,
+    OnOk, IfSome, [], ◌∷◌, ◌++◌};
 ghost use Rattle.glyphs_source.specs.HeaderReading.{header_of};
 ghost use Rattle.font_ir.specs.ReadGlyphs.{IsReadGlyph, HasNoComponents, HasNoAnchors};
 ghost use Rattle.refusal_codes.specs.First.{noted, foremost};
 ghost use Rattle.refusal_codes.specs.Gives.{Gives};
-ghost use Rattle.glyphs_layers.specs.LayerRules.{layer_numbers, glyph_failures, glyph_whole_failures};
+ghost use Rattle.glyphs_layers.specs.LayerRules.{layer_numbers, glyph_failures,
+    glyph_whole_failures};
 ghost use Rattle.glyphs_layers.specs.LayerReading.{master_layers, glyph_of};
 
 use crate::layers::{Entry, read_layers};
@@ -17,10 +19,12 @@ use std::alloc::{AllocError, Global};
 
 /// The layers of the glyph with this number in the index: one per master.
 ///
-/// The header and the index are those of the tree: the header is what `header` answers for it, and the glyph's dictionary is
+/// The header and the index are those of the tree: the header is what `header` answers for it, and
+/// the glyph's dictionary is
 /// the one that its entry in the index names, so an index of another tree names another value.
 ///
-/// The error is the least failure by place, then by rule, of the rules of single values; where none of them fails, it is
+/// The error is the least failure by place, then by rule, of the rules of single values; where none
+/// of them fails, it is
 /// that a master has no layer, and stands at the glyph. Or it is want of memory.
 pub fn raw_glyph(
     alloc: Global,
@@ -34,7 +38,8 @@ pub fn raw_glyph(
     ensures record { IfSome (slice_get index.now number)
         (λ entry. Gives (λ glyph. glyph) result (glyph_of tree.now header.now.masters entry.0 number entry.1.node)) }
     ensures number { IfOk result (λ glyph. glyph.number ≡ number) }
-    ensures places { IfOk result (λ glyph. glyph.places ≡ map (λ master. master.location) header.now.masters) }
+    ensures places { IfOk result (λ glyph. glyph.places
+        ≡ map (λ master. master.location) header.now.masters) }
     ensures read { IfOk result IsReadGlyph }
     ensures components { IfOk result HasNoComponents }
     ensures anchors { IfOk result HasNoAnchors }
@@ -52,7 +57,8 @@ pub fn raw_glyph(
 }
 
 /// The layers of the glyph with this name, number and dictionary.
-#[tactic(auto, unfolding(crate::specs::LayerReading::glyph_of, crate::specs::LayerReading::glyph_record))]
+#[tactic(auto, unfolding(crate::specs::LayerReading::glyph_of,
+    crate::specs::LayerReading::glyph_record))]
 fn read_glyph(
     alloc: Global,
     tree: &Tree,
@@ -62,8 +68,10 @@ fn read_glyph(
     glyph: u32,
 ) -> Result<GlyphIr, ReadError>
     requires { length masters.now < 2 ^ 32 }
-    ensures record { Gives (λ glyph. glyph) result (glyph_of tree.now masters.now name.now number glyph) }
-    ensures places { IfOk result (λ read. read.places ≡ map (λ master. master.location) masters.now) }
+    ensures record { Gives (λ glyph. glyph) result
+        (glyph_of tree.now masters.now name.now number glyph) }
+    ensures places { IfOk result (λ read. read.places ≡ map (λ master. master.location) masters.now)
+        }
 {
     let mut first = FirstFailure::new();
     let layers = glyph_layers(alloc, tree, masters, glyph, &mut first)?;
@@ -84,7 +92,8 @@ fn read_glyph(
 
 /// The whole rule that a glyph's layers fail: that a master has none.
 fn missing_layer(tree: &Tree, masters: &[Master], glyph: u32, layers: &[LayerIr]) -> Option<Failure>
-    requires { layers.now ≡ flat_map (master_layers tree.now (layer_numbers tree.now glyph)) masters.now }
+    requires { layers.now ≡ flat_map (master_layers tree.now (layer_numbers tree.now glyph))
+        masters.now }
     ensures { result ≡ foremost (glyph_whole_failures tree.now masters.now glyph) }
 {
     let missing = layers.len() < masters.len();
@@ -99,7 +108,9 @@ fn missing_layer(tree: &Tree, masters: &[Master], glyph: u32, layers: &[LayerIr]
 }
 
 /// The layers of the masters that have one, and what fails of the glyph's layers.
-#[tactic(auto, using(refusal_codes::proofs::FirstLaws::noting), unfolding(crate::specs::LayerRules::glyph_failures, crate::specs::LayerRules::entries_failures, crate::specs::LayerRules::layer_numbers))]
+#[tactic(auto, using(refusal_codes::specs::FirstLaws::noting),
+    unfolding(crate::specs::LayerRules::glyph_failures, crate::specs::LayerRules::entries_failures,
+    crate::specs::LayerRules::layer_numbers))]
 fn glyph_layers(
     alloc: Global,
     tree: &Tree,
@@ -107,8 +118,10 @@ fn glyph_layers(
     glyph: u32,
     first: &mut FirstFailure,
 ) -> Result<Vec<LayerIr>, AllocError>
-    ensures layers { IfOk result (λ layers. layers.items ≡ flat_map (master_layers tree.now (layer_numbers tree.now glyph)) masters.now) }
-    ensures failures { OnOk result (first.new ≡ noted first.old (glyph_failures tree.now masters.now glyph)) }
+    ensures layers { IfOk result (λ layers. layers.items
+        ≡ flat_map (master_layers tree.now (layer_numbers tree.now glyph)) masters.now) }
+    ensures failures { OnOk result (first.new
+        ≡ noted first.old (glyph_failures tree.now masters.now glyph)) }
 {
     optional(tree, glyph, b"layers", &Each(Dictionary(Entry)), first);
     read_layers(

@@ -2,8 +2,10 @@ ghost use Rattle.std.specs.Prelude.{◌≡◌, ◌++◌, flat_map, IfOk, OnOk};
 ghost use Rattle.std.specs.List.{find};
 ghost use Rattle.refusal_codes.specs.First.{noted};
 ghost use Rattle.source_values.specs.Values.{items_under};
-ghost use Rattle.glyphs_layers.specs.LayerRules.{shape_failures, shapes_failures, layer_failures, entry_failures, is_layer_of, layer_of, master_failures};
-ghost use Rattle.glyphs_layers.specs.LayerReading.{shapes_of, all_shapes, layer_record, master_layers};
+ghost use Rattle.glyphs_layers.specs.LayerRules.{shape_failures, shapes_failures, layer_failures,
+    entry_failures, is_layer_of, layer_of, master_failures};
+ghost use Rattle.glyphs_layers.specs.LayerReading.{shapes_of, all_shapes, layer_record,
+    master_layers};
 
 use crate::paths::read_shape;
 use font_ir::{LayerIr, Master, Shape};
@@ -37,8 +39,10 @@ pub fn read_layers(
     masters: &[Master],
     first: &mut FirstFailure,
 ) -> Result<Vec<LayerIr>, AllocError>
-    ensures layers { IfOk result (λ layers. layers.items ≡ flat_map (master_layers tree.now numbers.now) masters.now) }
-    ensures failures { OnOk result (first.new ≡ noted first.old (flat_map (master_failures tree.now numbers.now) masters.now)) }
+    ensures layers { IfOk result (λ layers. layers.items
+        ≡ flat_map (master_layers tree.now numbers.now) masters.now) }
+    ensures failures { OnOk result (first.new
+        ≡ noted first.old (flat_map (master_failures tree.now numbers.now) masters.now)) }
 {
     let mut layers = Vec::with_capacity(alloc, masters.len())?;
     for master in masters {
@@ -56,8 +60,10 @@ fn push_layer(
     layers: &mut Vec<LayerIr>,
     first: &mut FirstFailure,
 ) -> Result<(), AllocError>
-    ensures layers { OnOk result (layers.new.items ≡ layers.old.items ++ master_layers tree.now numbers.now master.now) }
-    ensures failures { OnOk result (first.new ≡ noted first.old (master_failures tree.now numbers.now master.now)) }
+    ensures layers { OnOk result (layers.new.items
+        ≡ layers.old.items ++ master_layers tree.now numbers.now master.now) }
+    ensures failures { OnOk result (first.new
+        ≡ noted first.old (master_failures tree.now numbers.now master.now)) }
 {
     if let Some(layer) = layer_of(tree, numbers, master) {
         layers.push(read_layer(alloc, tree, layer, first)?)?;
@@ -86,7 +92,8 @@ fn is_layer_of(tree: &Tree, id: &[u8], layer: u32) -> bool
     }
 }
 
-#[tactic(auto, using(refusal_codes::proofs::FirstLaws::noting), unfolding(crate::specs::LayerRules::layer_failures, crate::specs::LayerReading::layer_record))]
+#[tactic(auto, using(refusal_codes::specs::FirstLaws::noting),
+    unfolding(crate::specs::LayerRules::layer_failures, crate::specs::LayerReading::layer_record))]
 fn read_layer(
     alloc: Global,
     tree: &Tree,
@@ -142,7 +149,8 @@ fn read_shapes(
     first: &mut FirstFailure,
 ) -> Result<Sequence<Shape>, AllocError>
     ensures shapes { IfOk result (λ shapes. shapes ≡ flat_map (shapes_of tree.now) numbers.now) }
-    ensures failures { OnOk result (first.new ≡ noted first.old (flat_map (shape_failures tree.now) numbers.now)) }
+    ensures failures { OnOk result (first.new
+        ≡ noted first.old (flat_map (shape_failures tree.now) numbers.now)) }
 {
     let mut shapes = Vec::with_capacity(alloc, numbers.len())?;
     for number in numbers {

@@ -2,8 +2,11 @@ ghost use Rattle.std.specs.Prelude.{◌≡◌, ◌++◌, List, [], ◌∷◌, ma
 ghost use Rattle.font_ir.specs.declared.glyph.DrawnPoint.{DrawnPoint as SeenPoint};
 ghost use Rattle.refusal_codes.specs.First.{noted};
 ghost use Rattle.source_values.specs.Asking.{optional, whole_failures};
-ghost use Rattle.glyphs_layers.specs.LayerRules.{is_line, is_cubic, is_quadratic, type_failures, node_parts_failures, node_failures, nodes_failures, closed_failures, other_shape_failures, shape_parts_failures, shape_failures};
-ghost use Rattle.glyphs_layers.specs.LayerReading.{coordinate_of, point_by, point_of, last_first, contour_of, paths_of, shapes_of};
+ghost use Rattle.glyphs_layers.specs.LayerRules.{is_line, is_cubic, is_quadratic, type_failures,
+    node_parts_failures, node_failures, nodes_failures, closed_failures, other_shape_failures,
+    shape_parts_failures, shape_failures};
+ghost use Rattle.glyphs_layers.specs.LayerReading.{coordinate_of, point_by, point_of, last_first,
+    contour_of, paths_of, shapes_of};
 
 use fixed_math::Fixed;
 use font_ir::{Contour, DrawnPoint, Shape};
@@ -16,7 +19,8 @@ use source_values::{
 use std::alloc::{AllocError, Global};
 
 /// Adds a path, unless it has no nodes, and notes what fails of the shape.
-#[tactic(auto, unfolding(crate::specs::LayerRules::shape_failures, crate::specs::LayerReading::shapes_of))]
+#[tactic(auto, unfolding(crate::specs::LayerRules::shape_failures,
+    crate::specs::LayerReading::shapes_of))]
 pub fn read_shape(
     alloc: Global,
     tree: &Tree,
@@ -35,7 +39,9 @@ pub fn read_shape(
     }
 }
 
-#[tactic(auto, using(refusal_codes::proofs::FirstLaws::noting), unfolding(crate::specs::LayerRules::shape_parts_failures, crate::specs::LayerReading::shapes_of))]
+#[tactic(auto, using(refusal_codes::specs::FirstLaws::noting),
+    unfolding(crate::specs::LayerRules::shape_parts_failures,
+    crate::specs::LayerReading::shapes_of))]
 fn read_shape_parts(
     alloc: Global,
     tree: &Tree,
@@ -44,7 +50,8 @@ fn read_shape_parts(
     first: &mut FirstFailure,
 ) -> Result<(), AllocError>
     ensures shapes { OnOk result (shapes.new.items ≡ shapes.old.items ++ shapes_of tree.now shape) }
-    ensures failures { OnOk result (first.new ≡ noted first.old (shape_parts_failures tree.now shape)) }
+    ensures failures { OnOk result (first.new
+        ≡ noted first.old (shape_parts_failures tree.now shape)) }
 {
     match tree.find(shape, b"nodes") {
         None => {
@@ -122,7 +129,8 @@ fn read_contour(
     first: &mut FirstFailure,
 ) -> Result<Contour, AllocError>
     ensures contour { IfOk result (λ contour. contour ≡ contour_of tree.now nodes.now) }
-    ensures failures { OnOk result (first.new ≡ noted first.old (flat_map (node_failures tree.now) nodes.now)) }
+    ensures failures { OnOk result (first.new
+        ≡ noted first.old (flat_map (node_failures tree.now) nodes.now)) }
 {
     let mut points = read_nodes(alloc, tree, nodes, first)?;
     put_last_first(&mut points);
@@ -141,9 +149,11 @@ fn put_last_first(points: &mut Vec<DrawnPoint>)
     }
 }
 
-/// Of a list with a last item, that goes first, and then come the others in their order. A law: the function does nothing.
+/// Of a list with a last item, that goes first, and then come the others in their order. A law: the
+/// function does nothing.
 pub fn last_items_go_first()
-    ensures { (front : List SeenPoint) (last : SeenPoint) → last_first (front ++ last ∷ []) ≡ last ∷ front }
+    ensures { (front : List SeenPoint) (last : SeenPoint)
+        → last_first (front ++ last ∷ []) ≡ last ∷ front }
 {}
 
 /// The points of these nodes, in their order.
@@ -154,7 +164,8 @@ fn read_nodes(
     first: &mut FirstFailure,
 ) -> Result<Vec<DrawnPoint>, AllocError>
     ensures points { IfOk result (λ points. points.items ≡ map (point_of tree.now) nodes.now) }
-    ensures failures { OnOk result (first.new ≡ noted first.old (flat_map (node_failures tree.now) nodes.now)) }
+    ensures failures { OnOk result (first.new
+        ≡ noted first.old (flat_map (node_failures tree.now) nodes.now)) }
 {
     let mut points = Vec::with_capacity(alloc, nodes.len())?;
     for node in nodes {
@@ -164,7 +175,8 @@ fn read_nodes(
 }
 
 /// The point of a node.
-#[tactic(auto, unfolding(crate::specs::LayerRules::node_failures, crate::specs::LayerReading::point_of))]
+#[tactic(auto, unfolding(crate::specs::LayerRules::node_failures,
+    crate::specs::LayerReading::point_of))]
 fn read_node(tree: &Tree, node: u32, first: &mut FirstFailure) -> DrawnPoint
     ensures point { result ≡ point_of tree.now node }
     ensures failures { first.new ≡ noted first.old (node_failures tree.now node) }
@@ -185,7 +197,8 @@ fn read_node(tree: &Tree, node: u32, first: &mut FirstFailure) -> DrawnPoint
     }
 }
 
-#[tactic(auto, using(refusal_codes::proofs::FirstLaws::noting), unfolding(crate::specs::LayerRules::node_parts_failures))]
+#[tactic(auto, using(refusal_codes::specs::FirstLaws::noting),
+    unfolding(crate::specs::LayerRules::node_parts_failures))]
 fn read_node_parts(
     tree: &Tree,
     node: u32,
@@ -204,10 +217,12 @@ fn read_node_parts(
 }
 
 /// A coordinate in 16.16, 0 where the value is no coordinate.
-#[tactic(auto, unfolding(source_values::specs::Asking::whole_failures, crate::specs::LayerReading::coordinate_of))]
+#[tactic(auto, unfolding(source_values::specs::Asking::whole_failures,
+    crate::specs::LayerReading::coordinate_of))]
 fn read_coordinate(tree: &Tree, number: u32, first: &mut FirstFailure) -> Fixed
     ensures coordinate { result ≡ coordinate_of tree.now number }
-    ensures failures { first.new ≡ noted first.old (whole_failures Range.Coordinate tree.now number) }
+    ensures failures { first.new ≡ noted first.old (whole_failures Range.Coordinate tree.now number)
+        }
 {
     match decimal_at(tree, number) {
         None => note_at(tree, number, Rule::WrongShape, first),

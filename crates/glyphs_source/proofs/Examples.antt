@@ -1,5 +1,6 @@
 -- Worked examples: a source of one triangle as its property list reads, and what is read of it.
-use Rattle.std.specs.Prelude.{◌≡◌, ℕ, ◌+◌, List, [], ◌∷◌, ◌++◌, map, length, true, None, Result, Ok, Err, codes, pos, negsuc, refl}
+use Rattle.std.specs.Prelude.{◌≡◌, ℕ, ◌+◌, List, [], ◌∷◌, ◌++◌, map, length, true, None, Result, Ok,
+    Err, codes, pos, negsuc, refl}
 use Rattle.plist_reader.specs.declared.tree.Tree.{Tree}
 use Rattle.plist_reader.specs.declared.tree.TreeNode.{TreeNode}
 use Rattle.plist_reader.specs.declared.tree.TreeValue.TheVariants as tree
@@ -7,7 +8,8 @@ use Rattle.refusal_codes.specs.declared.refusal.Refusal.{Refusal}
 use Rattle.refusal_codes.specs.declared.job.TheConstants.{HEADER, INDEX}
 use Rattle.refusal_codes.specs.First.{refusal_of}
 use Rattle.refusal_codes.specs.declared.rule.Rule.{Rule}
-use Rattle.refusal_codes.specs.declared.rule.Rule.TheVariants.{WrongShape, MissingKey, OutOfRange, DuplicateUnicode}
+use Rattle.refusal_codes.specs.declared.rule.Rule.TheVariants.{WrongShape, MissingKey, OutOfRange,
+    DuplicateUnicode}
 use Rattle.font_ir.specs.declared.header.Header.{Header}
 use Rattle.glyphs_source.specs.declared.entries.IndexEntry.{IndexEntry}
 use Rattle.glyphs_source.specs.HeaderReading.{header_of}
@@ -26,7 +28,8 @@ items from to numbers = record { place = from; end = to; value = tree.Items numb
 abbrev pub pairs : ℕ → ℕ → List (ℕ × ℕ) → TreeNode
 pairs from to numbers = record { place = from; end = to; value = tree.Pairs numbers }
 
--- the master and the glyph of a source of one triangle: n is the number of their first value, and p its place
+-- the master and the glyph of a source of one triangle: n is the number of their first value, and p
+-- its place
 abbrev pub master_and_glyph : ℕ → ℕ → List TreeNode
 master_and_glyph n p =
     word p (codes "fontMaster") ∷
@@ -67,10 +70,13 @@ master_and_glyph n p =
     word (p + 189) (codes "65") ∷
     pairs (p + 42) (p + 194) ((n + 6, n + 7) ∷ (n + 8, n + 33) ∷ (n + 34, n + 35) ∷ []) ∷ []
 
--- a source: the values that stand first in its top dictionary, up to the place p, and their keys; the master and the glyph;
--- the values of further glyphs, those of them that are glyphs, counted from 0, and how many bytes they take; the units per em
+-- a source: the values that stand first in its top dictionary, up to the place p, and their keys;
+-- the master and the glyph;
+-- the values of further glyphs, those of them that are glyphs, counted from 0, and how many bytes
+-- they take; the units per em
 abbrev pub source : ℕ → List TreeNode → List (ℕ × ℕ) → List TreeNode → List ℕ → ℕ → List ℕ → Tree
-source p front keys further glyphs bytes units = let n = length front in let m = length front + 37 + length further in let q = p + bytes in record {
+source p front keys further glyphs bytes units = let n = length front
+    in let m = length front + 37 + length further in let q = p + bytes in record {
   top = m + 3;
   nodes =
       front
@@ -84,7 +90,8 @@ source p front keys further glyphs bytes units = let n = length front in let m =
 
 -- the version of the format, and a family's name
 abbrev pub named : List TreeNode
-named = word 2 (codes ".formatVersion") ∷ word 19 (codes "3") ∷ word 22 (codes "familyName") ∷ word 35 (codes "Tri") ∷ []
+named = word 2 (codes ".formatVersion") ∷ word 19 (codes "3") ∷ word 22 (codes "familyName")
+    ∷ word 35 (codes "Tri") ∷ []
 
 -- the source of 259 bytes
 abbrev pub triangle : Tree
@@ -96,7 +103,8 @@ small_em = source 40 named ((0, 1) ∷ (2, 3) ∷ []) [] [] 0 (codes "15")
 
 -- the same without its family's name
 abbrev pub nameless : Tree
-nameless = source 22 (word 2 (codes ".formatVersion") ∷ word 19 (codes "3") ∷ []) ((0, 1) ∷ []) [] [] 0 (codes "1000")
+nameless = source 22 (word 2 (codes ".formatVersion") ∷ word 19 (codes "3") ∷ []) ((0, 1) ∷ []) []
+    [] 0 (codes "1000")
 
 -- the same with an axis, at 31
 abbrev pub axes : Tree
@@ -162,7 +170,8 @@ triangle_header = record {
   features = [];
 }
 
--- each source with its header or its refusal: an em of 15 units is out of range, at the number; a family needs a name, so the
+-- each source with its header or its refusal: an em of 15 units is out of range, at the number; a
+-- family needs a name, so the
 -- dictionary fails; an axis isn't built, so the list is of a wrong shape
 abbrev header_rows : List (Tree × Result Header Refusal)
 header_rows =
@@ -178,7 +187,8 @@ headers-computed = refl
 
 -- the one exported glyph of the triangle, with one code, whose dictionary is the value 40
 abbrev triangle_entry : IndexEntry
-triangle_entry = record { number = 0; node = 40; exported = true; codes = 65 ∷ []; left = None; right = None }
+triangle_entry = record { number = 0; node = 40; exported = true; codes = 65
+    ∷ []; left = None; right = None }
 
 -- each source with its index or its refusal: where a code stands again, the second glyph fails
 abbrev index_rows : List (Tree × Result (List (List ℕ × IndexEntry)) Refusal)

@@ -1,6 +1,10 @@
--- What a source says of the whole font, and the rules that it may fail there (Glyphs file format, version 3; the rules
--- and the defaults are fontc's own). One master is read, without axes: a form that isn't built is of a wrong shape.
-use Rattle.std.specs.Prelude.{◌≡◌, ℕ, ◌*◌, ◌/◌, ◌≤◌, Bool, not, ◌&&◌, ◌||◌, ◌==◌, nat_lt, List, [], ◌∷◌, ◌++◌, length, slice_get, map, Option, Some, None, Result, ℤ, pos, neg_ℤ, ◌-ℤ◌, ◌≤ℤ◌, codes, option_and_then, if◌then◌else◌}
+-- What a source says of the whole font, and the rules that it may fail there (Glyphs file format,
+-- version 3; the rules
+-- and the defaults are fontc's own). One master is read, without axes: a form that isn't built is
+-- of a wrong shape.
+use Rattle.std.specs.Prelude.{◌≡◌, ℕ, ◌*◌, ◌/◌, ◌≤◌, Bool, not, ◌&&◌, ◌||◌, ◌==◌, nat_lt, List, [],
+    ◌∷◌, ◌++◌, length, slice_get, map, Option, Some, None, Result, ℤ, pos, neg_ℤ, ◌-ℤ◌, ◌≤ℤ◌, codes,
+    option_and_then, if◌then◌else◌}
 use Rattle.std.specs.Option.{option_map_or}
 use Rattle.std.specs.List.{AllByRecursion}
 use Rattle.plist_reader.specs.declared.tree.Tree.{Tree}
@@ -8,15 +12,19 @@ use Rattle.plist_reader.specs.Tree.{find_in}
 use Rattle.font_ir.specs.declared.header.Header.{Header}
 use Rattle.font_ir.specs.declared.header.Master.{Master}
 use Rattle.refusal_codes.specs.declared.refusal.Refusal.{Refusal}
-use Rattle.refusal_codes.specs.declared.rule.Rule.TheVariants.{WrongShape, WrongVersion, OutOfRange, NoMaster, AxisCount}
+use Rattle.refusal_codes.specs.declared.rule.Rule.TheVariants.{WrongShape, WrongVersion, OutOfRange,
+    NoMaster, AxisCount}
 use Rattle.refusal_codes.specs.declared.first.Failure.{Failure}
 use Rattle.refusal_codes.specs.First.{first_of, foremost, refusal_of, judged}
 use Rattle.refusal_codes.specs.declared.job.TheConstants.{HEADER}
 use Rattle.source_values.specs.declared.decimals.Decimal.{Decimal}
 use Rattle.source_values.specs.declared.kinds.Range.TheVariants.{Natural}
 use Rattle.source_values.specs.Decimals.{is_whole}
-use Rattle.source_values.specs.Values.{place_at, items_at, decimal_at, natural_or, items_under, text_or_empty}
-use Rattle.source_values.specs.Asking.{fails, whole_failures, text_failures, name_failures, dictionary_failures, empty_list_failures, empty_dictionary_failures, each, dictionary, required, optional}
+use Rattle.source_values.specs.Values.{place_at, items_at, decimal_at, natural_or, items_under,
+    text_or_empty}
+use Rattle.source_values.specs.Asking.{fails, whole_failures, text_failures, name_failures,
+    dictionary_failures, empty_list_failures, empty_dictionary_failures, each, dictionary, required,
+    optional}
 
 -- ---- rules of single values
 
@@ -106,7 +114,8 @@ axis_count_by t m None = []
 axis_count_by t m (Some values) = if length values == 0 then [] else fails AxisCount t m
 
 unfoldable pub axis_count_failures : Tree → ℕ → List Failure
-axis_count_failures t m = axis_count_by t m (option_and_then (items_at t) (find_in t m (codes "axesValues")))
+axis_count_failures t m = axis_count_by t m
+    (option_and_then (items_at t) (find_in t m (codes "axesValues")))
 
 abbrev pub whole_rules_by : Tree → ℕ → Option (List ℕ) → List Failure
 whole_rules_by t n None = []
@@ -114,14 +123,16 @@ whole_rules_by t n (Some []) = fails NoMaster t n
 whole_rules_by t n (Some (m ∷ ms)) = axis_count_failures t m
 
 unfoldable pub header_whole_failures : Tree → List Failure
-header_whole_failures t = option_map_or (λ n. whole_rules_by t n (items_at t n)) (find_in t t.top (codes "fontMaster")) []
+header_whole_failures t = option_map_or (λ n. whole_rules_by t n (items_at t n))
+    (find_in t t.top (codes "fontMaster")) []
 
 -- ---- the record
 
 unfoldable pub units_per_em : Tree → ℕ
 units_per_em t = natural_or 16 16384 16 t t.top (codes "unitsPerEm")
 
--- without metrics the ascender is four fifths of the em, rounded down, and the descender is that less the em
+-- without metrics the ascender is four fifths of the em, rounded down, and the descender is that
+-- less the em
 unfoldable pub master_record : Tree → ℕ → Master
 master_record t m = record {
   id = text_or_empty t m (codes "id");
@@ -164,7 +175,8 @@ header_record t = record {
 
 -- what the job of the header answers
 unfoldable pub header_of : Tree → Result Header Refusal
-header_of t = judged (refusal_of HEADER []) (first_of (header_failures t)) (foremost (header_whole_failures t)) (header_record t)
+header_of t = judged (refusal_of HEADER []) (first_of (header_failures t))
+    (foremost (header_whole_failures t)) (header_record t)
 
 -- ---- what each header that is read fulfils
 
@@ -189,7 +201,8 @@ pub record HasNumbersInRange (header : Header) : Type 0 where
   pub minor : header.minor ≤ 999
   pub metrics : AllByRecursion HasMetricsInRange header.masters
 
--- one master, which is the default one, and no axes, so it has no coordinates; nor are there instances or kerning
+-- one master, which is the default one, and no axes, so it has no coordinates; nor are there
+-- instances or kerning
 pub record IsReadHeader (header : Header) : Type 0 where
   pub numbers : HasNumbersInRange header
   pub one_master : map (λ master. master.location) header.masters ≡ [] ∷ []

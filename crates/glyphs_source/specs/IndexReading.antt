@@ -1,6 +1,8 @@
--- The glyphs that a source names, in the order of the file, and the rules that they may fail (Glyphs file format,
+-- The glyphs that a source names, in the order of the file, and the rules that they may fail
+-- (Glyphs file format,
 -- version 3; the rules are fontc's own). Their layers are not read here.
-use Rattle.std.specs.Prelude.{ℕ, ◌+◌, Bool, false, not, ◌&&◌, ◌||◌, ◌==◌, nat_eq, List, [], ◌∷◌, ◌++◌, map, Option, Some, None, Result, codes, if◌then◌else◌}
+use Rattle.std.specs.Prelude.{ℕ, ◌+◌, Bool, false, not, ◌&&◌, ◌||◌, ◌==◌, nat_eq, List, [], ◌∷◌,
+    ◌++◌, map, Option, Some, None, Result, codes, if◌then◌else◌}
 use Rattle.std.specs.Option.{option_map_or}
 use Rattle.std.specs.List.{list_any}
 use Rattle.std.specs.Cmp.Lexicographic.{pointwise}
@@ -8,15 +10,18 @@ use Rattle.plist_reader.specs.declared.tree.Tree.{Tree}
 use Rattle.plist_reader.specs.Tree.{find_in}
 use Rattle.plist_reader.specs.Keys.{is_among}
 use Rattle.refusal_codes.specs.declared.refusal.Refusal.{Refusal}
-use Rattle.refusal_codes.specs.declared.rule.Rule.TheVariants.{WrongShape, DuplicateGlyph, DuplicateUnicode}
+use Rattle.refusal_codes.specs.declared.rule.Rule.TheVariants.{WrongShape, DuplicateGlyph,
+    DuplicateUnicode}
 use Rattle.refusal_codes.specs.declared.first.Failure.{Failure}
 use Rattle.refusal_codes.specs.First.{first_of, foremost, or_next, refusal_of, judged}
 use Rattle.refusal_codes.specs.declared.job.TheConstants.{INDEX}
 use Rattle.source_values.specs.declared.decimals.Decimal.{Decimal}
 use Rattle.source_values.specs.declared.kinds.Range.TheVariants.{Any, Code}
 use Rattle.source_values.specs.Decimals.{is_whole}
-use Rattle.source_values.specs.Values.{items_at, is_list, decimal_at, in_range, items_under, text_under, text_or_empty, decimal_under}
-use Rattle.source_values.specs.Asking.{fails, whole_failures, text_failures, name_failures, each, dictionary, required, optional}
+use Rattle.source_values.specs.Values.{items_at, is_list, decimal_at, in_range, items_under,
+    text_under, text_or_empty, decimal_under}
+use Rattle.source_values.specs.Asking.{fails, whole_failures, text_failures, name_failures, each,
+    dictionary, required, optional}
 use Rattle.glyphs_source.specs.declared.entries.IndexEntry.{IndexEntry}
 
 -- ---- local rules
@@ -88,7 +93,8 @@ entry_of t number g = record {
 -- the entries of the glyphs, numbered from this number on
 abbrev pub entries_from : Tree → ℕ → List ℕ → List (List ℕ × IndexEntry)
 entries_from t number [] = []
-entries_from t number (g ∷ gs) = (glyph_name t g, entry_of t number g) ∷ entries_from t (number + 1) gs
+entries_from t number (g ∷ gs) = (glyph_name t g, entry_of t number g)
+    ∷ entries_from t (number + 1) gs
 
 -- the values of the list of glyphs
 unfoldable pub glyph_numbers : Tree → List ℕ
@@ -125,4 +131,5 @@ index_of t =
     let entries = entries_from t 0 (glyph_numbers t) in
     let names_again = foremost (repeated_names t [] (glyph_numbers t)) in
     let codes_again = foremost (repeated_codes t [] (map (λ entry. entry.1) entries)) in
-    judged (refusal_of INDEX []) (first_of (index_failures t)) (or_next names_again codes_again) entries
+    judged (refusal_of INDEX []) (first_of (index_failures t)) (or_next names_again codes_again)
+        entries

@@ -1,4 +1,5 @@
--- What an index and its refusals say of names and codes that stand again. A law above the rules of `IndexReading`, in the
+-- What an index and its refusals say of names and codes that stand again. A law above the rules of
+-- `IndexReading`, in the
 -- words of lists: items are distinct where no one stands twice. fontc's own.
 use Rattle.std.specs.Prelude.{◌≡◌, ℕ, true, List, ◌∷◌, ◌++◌, map, flat_map, nat_eq}
 use Rattle.std.specs.List.{IsDistinct}
@@ -19,7 +20,8 @@ pub record IsWithoutRepeats (index : List (List ℕ × IndexEntry)) : Type 0 whe
   pub names : IsDistinct (pointwise nat_eq) (keys_of index)
   pub codes : IsDistinct nat_eq (flat_map (λ entry. counting entry.1) index)
 
--- at this place stands the first of these glyphs whose name an earlier one has: the names before it are distinct
+-- at this place stands the first of these glyphs whose name an earlier one has: the names before it
+-- are distinct
 pub record IsFirstRepeatedName (t : Tree) (glyphs : List ℕ) (place : ℕ) : Type 0 where
   pub before : List ℕ
   pub glyph : ℕ
@@ -29,7 +31,8 @@ pub record IsFirstRepeatedName (t : Tree) (glyphs : List ℕ) (place : ℕ) : Ty
   pub again : is_among (glyph_name t glyph) (map (glyph_name t) before) ≡ true
   pub there : place ≡ place_at t glyph
 
--- at this place stands the first of these glyphs with a code that stands again: the codes that count before it are distinct,
+-- at this place stands the first of these glyphs with a code that stands again: the codes that
+-- count before it are distinct,
 -- and with its own they aren't
 pub record IsFirstRepeatedCode (t : Tree) (entries : List IndexEntry) (place : ℕ) : Type 0 where
   pub before : List IndexEntry
@@ -40,10 +43,12 @@ pub record IsFirstRepeatedCode (t : Tree) (entries : List IndexEntry) (place : �
   pub again : ¬ IsDistinct nat_eq (flat_map counting before ++ counting entry)
   pub there : place ≡ place_at t entry.node
 
--- where a refusal is that of a repeated name, or of a repeated code, its place is that of the first such glyph
+-- where a refusal is that of a repeated name, or of a repeated code, its place is that of the first
+-- such glyph
 pub record TellsRepeat (t : Tree) (r : Refusal) : Type 0 where
   pub name : r.rule ≡ DuplicateGlyph → IsFirstRepeatedName t (glyph_numbers t) r.place
-  pub code : r.rule ≡ DuplicateUnicode → IsFirstRepeatedCode t (map (λ entry. entry.1) (entries_from t 0 (glyph_numbers t))) r.place
+  pub code : r.rule ≡ DuplicateUnicode → IsFirstRepeatedCode t
+      (map (λ entry. entry.1) (entries_from t 0 (glyph_numbers t))) r.place
 
 -- the same of an error, which may be want of memory
 abbrev pub TellsRepeatOf : Tree → ReadError → Type 0

@@ -3,7 +3,8 @@ ghost use Rattle.plist_reader.specs.declared.tree.Tree.{Tree as SeenTree};
 ghost use Rattle.plist_reader.specs.Tree.{IsTree};
 ghost use Rattle.font_ir.specs.declared.header.Header.{Header as SeenHeader};
 ghost use Rattle.refusal_codes.specs.Gives.{Gives};
-ghost use Rattle.glyphs_source.specs.HeaderReading.{units_per_em, master_record, first_master, master_numbers, place_under, header_record, header_of, IsReadHeader};
+ghost use Rattle.glyphs_source.specs.HeaderReading.{units_per_em, master_record, first_master,
+    master_numbers, place_under, header_record, header_of, IsReadHeader};
 
 use crate::header_rules::{note_header, whole_failure};
 use font_ir::{Header, Master};
@@ -15,8 +16,10 @@ use std::alloc::{AllocError, Global};
 
 /// What a source says of the whole font.
 ///
-/// One master is read, without axes. The error is the least failure by place, then by rule, of the rules of single values;
-/// where none of them fails, it is that there is no master, at the place of their list, or that the master has coordinates,
+/// One master is read, without axes. The error is the least failure by place, then by rule, of the
+/// rules of single values;
+/// where none of them fails, it is that there is no master, at the place of their list, or that the
+/// master has coordinates,
 /// at the place of the master. Where memory runs out, the error is that.
 pub fn header(alloc: Global, tree: &Tree) -> Result<Header, ReadError>
     requires { IsTree tree.now }
@@ -26,10 +29,12 @@ pub fn header(alloc: Global, tree: &Tree) -> Result<Header, ReadError>
     read_header(alloc, tree)
 }
 
-/// What `header` reads of a tree has one master and no axes, and its numbers are in their ranges. A law: the function does
+/// What `header` reads of a tree has one master and no axes, and its numbers are in their ranges. A
+/// law: the function does
 /// nothing.
 pub fn headers_have_one_master()
-    ensures { (tree : SeenTree) (header : SeenHeader) → header_of tree ≡ Ok header → IsReadHeader header }
+    ensures { (tree : SeenTree) (header : SeenHeader) → header_of tree ≡ Ok header
+        → IsReadHeader header }
 {}
 
 /// What `header` answers.

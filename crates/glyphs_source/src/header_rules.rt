@@ -2,7 +2,10 @@ ghost use Rattle.std.specs.Prelude.{◌≡◌, slice_get, []};
 ghost use Rattle.std.specs.Option.{option_map_or};
 ghost use Rattle.refusal_codes.specs.First.{noted, foremost};
 ghost use Rattle.source_values.specs.Asking.{fails};
-ghost use Rattle.glyphs_source.specs.HeaderReading.{version_failures, axis_value_failures, master_parts_failures, master_failures, masters_failures, name_and_numbers_failures, design_forms_failures, feature_forms_failures, top_failures, header_failures, axis_count_failures, header_whole_failures};
+ghost use Rattle.glyphs_source.specs.HeaderReading.{version_failures, axis_value_failures,
+    master_parts_failures, master_failures, masters_failures, name_and_numbers_failures,
+    design_forms_failures, feature_forms_failures, top_failures, header_failures,
+    axis_count_failures, header_whole_failures};
 
 use plist_reader::Tree;
 use refusal_codes::{Failure, FirstFailure, Rule};
@@ -25,7 +28,8 @@ struct Top;
 impl Asked for Top {
     ghost failures = { λ asked. top_failures };
 
-    #[tactic(auto, using(refusal_codes::proofs::FirstLaws::noting), unfolding(crate::specs::HeaderReading::top_failures))]
+    #[tactic(auto, using(refusal_codes::specs::FirstLaws::noting),
+        unfolding(crate::specs::HeaderReading::top_failures))]
     fn note(&self, tree: &Tree, number: u32, first: &mut FirstFailure) {
         note_name_and_numbers(tree, number, first);
         note_design_forms(tree, number, first);
@@ -34,7 +38,8 @@ impl Asked for Top {
     }
 }
 
-#[tactic(auto, using(refusal_codes::proofs::FirstLaws::noting), unfolding(crate::specs::HeaderReading::name_and_numbers_failures))]
+#[tactic(auto, using(refusal_codes::specs::FirstLaws::noting),
+    unfolding(crate::specs::HeaderReading::name_and_numbers_failures))]
 fn note_name_and_numbers(tree: &Tree, top: u32, first: &mut FirstFailure)
     ensures { first.new ≡ noted first.old (name_and_numbers_failures tree.now top) }
 {
@@ -48,7 +53,8 @@ fn note_name_and_numbers(tree: &Tree, top: u32, first: &mut FirstFailure)
     optional(tree, top, b"versionMinor", &minor, first);
 }
 
-#[tactic(auto, using(refusal_codes::proofs::FirstLaws::noting), unfolding(crate::specs::HeaderReading::design_forms_failures))]
+#[tactic(auto, using(refusal_codes::specs::FirstLaws::noting),
+    unfolding(crate::specs::HeaderReading::design_forms_failures))]
 fn note_design_forms(tree: &Tree, top: u32, first: &mut FirstFailure)
     ensures { first.new ≡ noted first.old (design_forms_failures tree.now top) }
 {
@@ -58,7 +64,8 @@ fn note_design_forms(tree: &Tree, top: u32, first: &mut FirstFailure)
     optional(tree, top, b"customParameters", &EmptyList, first);
 }
 
-#[tactic(auto, using(refusal_codes::proofs::FirstLaws::noting), unfolding(crate::specs::HeaderReading::feature_forms_failures))]
+#[tactic(auto, using(refusal_codes::specs::FirstLaws::noting),
+    unfolding(crate::specs::HeaderReading::feature_forms_failures))]
 fn note_feature_forms(tree: &Tree, top: u32, first: &mut FirstFailure)
     ensures { first.new ≡ noted first.old (feature_forms_failures tree.now top) }
 {
@@ -95,7 +102,8 @@ struct Masters;
 impl Asked for Masters {
     ghost failures = { λ asked. masters_failures };
 
-    #[tactic(auto, using(refusal_codes::proofs::FirstLaws::noting), unfolding(crate::specs::HeaderReading::masters_failures))]
+    #[tactic(auto, using(refusal_codes::specs::FirstLaws::noting),
+        unfolding(crate::specs::HeaderReading::masters_failures))]
     fn note(&self, tree: &Tree, number: u32, first: &mut FirstFailure) {
         match items_at(tree, number) {
             None => note_at(tree, number, Rule::WrongShape, first),
@@ -108,7 +116,8 @@ impl Asked for Masters {
 }
 
 fn note_first_master(tree: &Tree, masters: &[u32], first: &mut FirstFailure)
-    ensures { first.new ≡ noted first.old (option_map_or (master_failures tree.now) (slice_get masters.now 0) []) }
+    ensures { first.new ≡ noted first.old (option_map_or (master_failures tree.now)
+        (slice_get masters.now 0) []) }
 {
     if let Some(master) = masters.first() {
         Dictionary(MasterParts).note(tree, *master, first);
@@ -117,7 +126,8 @@ fn note_first_master(tree: &Tree, masters: &[u32], first: &mut FirstFailure)
 
 /// A second master isn't built.
 fn note_second_master(tree: &Tree, masters: &[u32], first: &mut FirstFailure)
-    ensures { first.new ≡ noted first.old (option_map_or (fails Rule.WrongShape tree.now) (slice_get masters.now 1) []) }
+    ensures { first.new ≡ noted first.old (option_map_or (fails Rule.WrongShape tree.now)
+        (slice_get masters.now 1) []) }
 {
     if let Some(second) = masters.get(1) {
         note_at(tree, *second, Rule::WrongShape, first);
@@ -131,7 +141,8 @@ struct MasterParts;
 impl Asked for MasterParts {
     ghost failures = { λ asked. master_parts_failures };
 
-    #[tactic(auto, using(refusal_codes::proofs::FirstLaws::noting), unfolding(crate::specs::HeaderReading::master_parts_failures))]
+    #[tactic(auto, using(refusal_codes::specs::FirstLaws::noting),
+        unfolding(crate::specs::HeaderReading::master_parts_failures))]
     fn note(&self, tree: &Tree, master: u32, first: &mut FirstFailure) {
         required(tree, master, b"id", &PlainText, first);
         optional(tree, master, b"axesValues", &Each(AxisValue), first);

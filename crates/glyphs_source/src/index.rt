@@ -1,4 +1,5 @@
-ghost use Rattle.std.specs.Prelude.{◌≡◌, ◌<◌, ◌^◌, ◌++◌, [], length, map, option_copied, option_map, slice_get, nat_eq, IfOk, IfErr, None, false, ◌==◌, ◌∷◌};
+ghost use Rattle.std.specs.Prelude.{◌≡◌, ◌<◌, ◌^◌, ◌++◌, [], length, map, option_copied, option_map,
+    slice_get, nat_eq, IfOk, IfErr, None, false, ◌==◌, ◌∷◌};
 ghost use Rattle.std.specs.Cmp.Lexicographic.{pointwise};
 ghost use Rattle.std.specs.Cmp.{partial_equiv_from_equiv};
 ghost use Rattle.plist_reader.specs.Tree.{IsTree};
@@ -10,7 +11,8 @@ ghost use Rattle.refusal_codes.specs.declared.job.TheConstants.{INDEX};
 ghost use Rattle.refusal_codes.specs.Gives.{Gives};
 ghost use Rattle.glyphs_source.specs.Repeats.{IsWithoutRepeats, TellsRepeatOf};
 ghost use Rattle.glyphs_source.specs.Same.{same_index, same_index_equiv};
-ghost use Rattle.glyphs_source.specs.IndexReading.{entries_from, glyph_numbers, glyph_name, entry_of, repeated_names, repeats, counting, repeated_codes, index_of};
+ghost use Rattle.glyphs_source.specs.IndexReading.{entries_from, glyph_numbers, glyph_name,
+    entry_of, repeated_names, repeats, counting, repeated_codes, index_of};
 
 use crate::entries::{IndexEntry, read_entry, read_name};
 use crate::index_rules::note_index;
@@ -23,7 +25,8 @@ use source_values::{items_under, place_at};
 use std::alloc::{AllocError, Global};
 use std::marker::Model;
 
-/// The glyphs that a source names, in the order of the file. A contract sees them as the list of their names and entries.
+/// The glyphs that a source names, in the order of the file. A contract sees them as the list of
+/// their names and entries.
 #[derive(Debug, Drop)]
 pub struct GlyphIndex {
     entries: IndexMap<Name, IndexEntry>,
@@ -66,7 +69,8 @@ impl GlyphIndex {
 
     /// The name and the entry of the glyph with this place in the source's list of glyphs.
     pub fn at(&self, number: u32) -> Option<(&Name, &IndexEntry)>
-        ensures { option_map (λ entry. (entry.0.now, entry.1.now)) result ≡ slice_get self.now number }
+        ensures { option_map (λ entry. (entry.0.now, entry.1.now)) result
+            ≡ slice_get self.now number }
     {
         self.entries.get_index(number as usize)
     }
@@ -89,8 +93,10 @@ impl Eq for GlyphIndex {
 
 /// The glyphs that a source names, in the order of the file.
 ///
-/// The error is the least failure by place, then by rule, of the rules of single values; where none of them fails, it is
-/// the first glyph whose name an earlier one has, or else the first in which a code stands again among those exported.
+/// The error is the least failure by place, then by rule, of the rules of single values; where none
+/// of them fails, it is
+/// the first glyph whose name an earlier one has, or else the first in which a code stands again
+/// among those exported.
 /// Where memory runs out, the error is that.
 pub fn glyph_index(alloc: Global, tree: &Tree) -> Result<GlyphIndex, ReadError>
     requires { IsTree tree.now }
@@ -103,7 +109,8 @@ pub fn glyph_index(alloc: Global, tree: &Tree) -> Result<GlyphIndex, ReadError>
 }
 
 /// What `glyph_index` answers.
-#[tactic(auto, using(crate::proofs::IndexLaws::entries_from_length), unfolding(crate::specs::IndexReading::index_of))]
+#[tactic(auto, using(crate::proofs::IndexLaws::entries_from_length),
+    unfolding(crate::specs::IndexReading::index_of))]
 fn read_index(alloc: Global, tree: &Tree) -> Result<GlyphIndex, ReadError>
     requires { IsTree tree.now }
     ensures entries { Gives (λ index. index) result (index_of tree.now) }
@@ -162,7 +169,8 @@ fn add_glyph(
     glyph: u32,
     entries: &mut IndexMap<Name, IndexEntry>,
 ) -> Result<bool, AllocError>
-    ensures again { IfOk result (λ again. again ≡ is_among (glyph_name tree.now glyph) (keys_of entries.old.entries)) }
+    ensures again { IfOk result (λ again. again
+        ≡ is_among (glyph_name tree.now glyph) (keys_of entries.old.entries)) }
     ensures added { IfOk result (λ again. again ≡ false →
         entries.new.entries ≡ entries.old.entries ++ (glyph_name tree.now glyph, entry_of tree.now number glyph) ∷ []) }
 {
@@ -178,7 +186,8 @@ fn repeated_code(
     tree: &Tree,
     entries: &IndexMap<Name, IndexEntry>,
 ) -> Result<Option<Failure>, AllocError>
-    ensures { IfOk result (λ failure. failure ≡ foremost (repeated_codes tree.now [] (values entries.now))) }
+    ensures { IfOk result (λ failure. failure
+        ≡ foremost (repeated_codes tree.now [] (values entries.now))) }
 {
     let mut seen = IndexSet::new(alloc);
     first_repeat(tree, entries, &mut seen)
@@ -190,7 +199,8 @@ fn first_repeat(
     entries: &IndexMap<Name, IndexEntry>,
     seen: &mut IndexSet<u32>,
 ) -> Result<Option<Failure>, AllocError>
-    ensures { IfOk result (λ failure. failure ≡ foremost (repeated_codes tree.now seen.old.keys (values entries.now))) }
+    ensures { IfOk result (λ failure. failure
+        ≡ foremost (repeated_codes tree.now seen.old.keys (values entries.now))) }
 {
     for entry in entries.values() {
         if add_entry(seen, entry)? {
@@ -203,10 +213,12 @@ fn first_repeat(
     Ok(None)
 }
 
-/// Adds the codes of an exported glyph to those seen, and says whether one of them stands there already.
+/// Adds the codes of an exported glyph to those seen, and says whether one of them stands there
+/// already.
 fn add_entry(seen: &mut IndexSet<u32>, entry: &IndexEntry) -> Result<bool, AllocError>
     ensures again { IfOk result (λ again. again ≡ repeats seen.old.keys (counting entry.now)) }
-    ensures added { IfOk result (λ again. again ≡ false → seen.new.keys ≡ seen.old.keys ++ counting entry.now) }
+    ensures added { IfOk result (λ again. again ≡ false
+        → seen.new.keys ≡ seen.old.keys ++ counting entry.now) }
 {
     if entry.exported {
         add_codes(seen, entry.codes.as_slice())
@@ -218,7 +230,8 @@ fn add_entry(seen: &mut IndexSet<u32>, entry: &IndexEntry) -> Result<bool, Alloc
 /// Adds codes to those seen, up to one that stands there already, and says whether there is one.
 fn add_codes(seen: &mut IndexSet<u32>, codes: &[u32]) -> Result<bool, AllocError>
     ensures again { IfOk result (λ again. again ≡ repeats seen.old.keys codes.now) }
-    ensures added { IfOk result (λ again. again ≡ false → seen.new.keys ≡ seen.old.keys ++ codes.now) }
+    ensures added { IfOk result (λ again. again ≡ false
+        → seen.new.keys ≡ seen.old.keys ++ codes.now) }
 {
     for code in codes {
         if !seen.insert(*code)? {

@@ -1,7 +1,10 @@
--- Plans that a finite table gives, as the tests use them: the row of a job has its stratum, what it waits for, the ids of
--- the jobs that it adds, and whether it is refused. Else what comes of a job is the sum of its id and of the values that
+-- Plans that a finite table gives, as the tests use them: the row of a job has its stratum, what it
+-- waits for, the ids of
+-- the jobs that it adds, and whether it is refused. Else what comes of a job is the sum of its id
+-- and of the values that
 -- it reads. fontc's own.
-use Rattle.std.specs.Prelude.{ℕ, ◌+◌, ◌%◌, ◌^◌, nat_eq, nat_le, nat_lt, fold, unwrap_or, Bool, true, false, ◌&&◌, List, [], ◌++◌, map, Option, Some, None, slice_get, if◌then◌else◌}
+use Rattle.std.specs.Prelude.{ℕ, ◌+◌, ◌%◌, ◌^◌, nat_eq, nat_le, nat_lt, fold, unwrap_or, Bool, true,
+    false, ◌&&◌, List, [], ◌++◌, map, Option, Some, None, slice_get, if◌then◌else◌}
 use Rattle.std.specs.List.{list_all, flat_map}
 use Rattle.refusal_codes.specs.declared.refusal.Refusal.{Refusal}
 use Rattle.refusal_codes.specs.declared.rule.Rule.TheVariants.{OpenContour}
@@ -18,7 +21,8 @@ Row = ℕ × Access ℕ × List ℕ × Bool
 abbrev pub add_read : List (ℕ × Plain ℕ) → ℕ → ℕ → ℕ
 add_read reads total id = (total + unwrap_or (value_read nat_eq reads id) 0) % 2 ^ 32
 
--- the parts of a row. Where there is none, the job is of the lowest stratum, waits for nothing, adds none and has a value.
+-- the parts of a row. Where there is none, the job is of the lowest stratum, waits for nothing,
+-- adds none and has a value.
 abbrev pub row_stratum : Option Row → ℕ
 row_stratum None = 0
 row_stratum (Some row) = row.0
@@ -48,21 +52,24 @@ module _ (rows : List Row) where
 
   -- a job reads no higher stratum, awaits a lower one and adds to no lower one
   abbrev pub is_sound_row : Row → Bool
-  is_sound_row row = list_all (λ read. nat_le (stratum_at read) row.0) row.1.reads && (is_above row.0 row.1.awaits && list_all (λ added. nat_le row.0 (stratum_at added)) row.2)
+  is_sound_row row = list_all (λ read. nat_le (stratum_at read) row.0) row.1.reads
+      && (is_above row.0 row.1.awaits && list_all (λ added. nat_le row.0 (stratum_at added)) row.2)
 
   abbrev pub is_sound : Bool
   is_sound = list_all is_sound_row rows
 
   -- the refusal of a job
   abbrev pub refusal_at : ℕ → Refusal
-  refusal_at id = record { stratum = stratum_at id; kind = 0; name = []; rule = OpenContour; place = id }
+  refusal_at id = record { stratum = stratum_at id; kind = 0; name = []; rule = OpenContour; place
+      = id }
 
   -- a refused job adds nothing
   abbrev pub outcome_at : ℕ → List (ℕ × Plain ℕ) → PlainOutcome ℕ ℕ
   outcome_at id reads =
       if row_refuses (slice_get rows id)
       then record { value = Refused (refusal_at id); added = [] }
-      else record { value = Done (fold (add_read reads) id (row_access (slice_get rows id)).reads); added = map job_at (row_added (slice_get rows id)) }
+      else record { value = Done (fold (add_read reads) id (row_access (slice_get rows id)).reads);
+          added = map job_at (row_added (slice_get rows id)) }
 
 -- the plan of a table that begins with the jobs of these ids
 abbrev pub table : List ℕ → List Row → Meaning ℕ ℕ

@@ -19,7 +19,8 @@ fn value(board: &Board<Table>, id: u32) -> Option<u32> {
     }
 }
 
-/// Job 0 adds 1 and 2. Job 1 adds 4, which awaits stratum 0 and reads 1. Job 2 reads 1 and 3, which nobody adds.
+/// Job 0 adds 1 and 2. Job 1 adds 4, which awaits stratum 0 and reads 1. Job 2 reads 1 and 3, which
+/// nobody adds.
 fn growing(alloc: Global) -> Result<Option<Table>, NoMemory> {
     let rows = vec![in alloc;
         row(alloc, 0, [].as_slice(), None, [1, 2].as_slice())?,

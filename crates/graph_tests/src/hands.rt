@@ -1,5 +1,7 @@
-// Workers at a board: at each of its calls a worker finishes the job that it has, or else claims one.
-ghost use Rattle.std.specs.Prelude.{◌≡◌, ◌<◌, [], ◌∷◌, ◌++◌, OnOk, IfOk, Some, None, slice_get, replicate};
+// Workers at a board: at each of its calls a worker finishes the job that it has, or else claims
+// one.
+ghost use Rattle.std.specs.Prelude.{◌≡◌, ◌<◌, [], ◌∷◌, ◌++◌, OnOk, IfOk, Some, None, slice_get,
+    replicate};
 ghost use Rattle.job_graph.specs.Rounds.{IsDue};
 ghost use Rattle.job_graph.specs.Histories.{out_of};
 ghost use Rattle.graph_tests.specs.Held.{IsHeld};
@@ -50,9 +52,11 @@ fn claim_job<P: Plan>(
 ) -> Result<Step, NoMemory>
     requires known { worker < board.old.workers }
     requires free { slice_get hands.old.items worker ≡ Some None }
-    requires held { IsHeld P.Id.eq (P.meaning board.old.plan) board.old.workers board.old.events hands.old.items }
+    requires held { IsHeld P.Id.eq (P.meaning board.old.plan) board.old.workers board.old.events
+        hands.old.items }
     ensures workers { OnOk result (board.new.workers ≡ board.old.workers) }
-    ensures held { OnOk result (IsHeld P.Id.eq (P.meaning board.new.plan) board.new.workers board.new.events hands.new.items) }
+    ensures held { OnOk result (IsHeld P.Id.eq (P.meaning board.new.plan) board.new.workers
+        board.new.events hands.new.items) }
 {
     match board.claim(alloc, worker) {
         Claim::Run(ticket, reads) => {
@@ -74,10 +78,12 @@ fn finish_job<P: Plan>(
     ticket: Ticket<P::Id>,
     reads: &Reads<P::Id, P::Value>,
 ) -> Result<(), NoMemory>
-    requires out { slice_get (out_of board.old.workers board.old.events) worker ≡ Some (Some ticket) }
+    requires out { slice_get (out_of board.old.workers board.old.events) worker
+        ≡ Some (Some ticket) }
     requires due { IsDue P.Id.eq (P.meaning board.old.plan) ticket reads.now }
     ensures workers { board.new.workers ≡ board.old.workers }
-    ensures finished { OnOk result (board.new ≡ record board.old { events = board.old.events ++ event.Finish worker ticket ∷ [] }) }
+    ensures finished { OnOk result (board.new
+        ≡ record board.old { events = board.old.events ++ event.Finish worker ticket ∷ [] }) }
 {
     let outcome = run_claimed(alloc, board.plan(), &ticket, reads)?;
     match board.finish(alloc, worker, ticket, outcome) {
@@ -94,9 +100,11 @@ pub fn call<P: Plan>(
     worker: u32,
 ) -> Result<Step, NoMemory>
     requires known { worker < board.old.workers }
-    requires held { IsHeld P.Id.eq (P.meaning board.old.plan) board.old.workers board.old.events hands.old.items }
+    requires held { IsHeld P.Id.eq (P.meaning board.old.plan) board.old.workers board.old.events
+        hands.old.items }
     ensures workers { OnOk result (board.new.workers ≡ board.old.workers) }
-    ensures held { OnOk result (IsHeld P.Id.eq (P.meaning board.new.plan) board.new.workers board.new.events hands.new.items) }
+    ensures held { OnOk result (IsHeld P.Id.eq (P.meaning board.new.plan) board.new.workers
+        board.new.events hands.new.items) }
 {
     match hands[worker as usize].take() {
         None => claim_job(alloc, board, hands, worker),
@@ -113,9 +121,11 @@ fn round<P: Plan>(
     board: &mut Board<P>,
     hands: &mut Vec<Hand<P::Id, P::Value>>,
 ) -> Result<(), NoMemory>
-    requires held { IsHeld P.Id.eq (P.meaning board.old.plan) board.old.workers board.old.events hands.old.items }
+    requires held { IsHeld P.Id.eq (P.meaning board.old.plan) board.old.workers board.old.events
+        hands.old.items }
     ensures workers { OnOk result (board.new.workers ≡ board.old.workers) }
-    ensures held { OnOk result (IsHeld P.Id.eq (P.meaning board.new.plan) board.new.workers board.new.events hands.new.items) }
+    ensures held { OnOk result (IsHeld P.Id.eq (P.meaning board.new.plan) board.new.workers
+        board.new.events hands.new.items) }
 {
     for worker in 0..board.workers() {
         call(alloc, board, hands, worker)?;
@@ -132,9 +142,11 @@ fn in_order<P: Plan>(
     calls: u32,
 ) -> Result<(), NoMemory>
     requires some { 0 < board.old.workers }
-    requires held { IsHeld P.Id.eq (P.meaning board.old.plan) board.old.workers board.old.events hands.old.items }
+    requires held { IsHeld P.Id.eq (P.meaning board.old.plan) board.old.workers board.old.events
+        hands.old.items }
     ensures workers { OnOk result (board.new.workers ≡ board.old.workers) }
-    ensures held { OnOk result (IsHeld P.Id.eq (P.meaning board.new.plan) board.new.workers board.new.events hands.new.items) }
+    ensures held { OnOk result (IsHeld P.Id.eq (P.meaning board.new.plan) board.new.workers
+        board.new.events hands.new.items) }
 {
     let workers = board.workers();
     let mut rest = order;
@@ -152,7 +164,8 @@ pub fn begun<P: Plan>(
     workers: u32,
 ) -> Result<(Board<P>, Vec<Hand<P::Id, P::Value>>), NoMemory>
     ensures workers { IfOk result (λ begun. begun.0.workers ≡ workers) }
-    ensures held { IfOk result (λ begun. IsHeld P.Id.eq (P.meaning begun.0.plan) begun.0.workers begun.0.events begun.1.items) }
+    ensures held { IfOk result (λ begun. IsHeld P.Id.eq (P.meaning begun.0.plan) begun.0.workers
+        begun.0.events begun.1.items) }
 {
     let board = Board::new(alloc, plan, workers)?;
     let hands = no_hands(alloc, workers)?;
@@ -185,9 +198,11 @@ pub fn calls<R: Abort, P: Plan>(
     hands: &mut Vec<Hand<P::Id, P::Value>>,
     wanted: &[(u32, Step)],
 ) -> Result<(), NoMemory>
-    requires held { IsHeld P.Id.eq (P.meaning board.old.plan) board.old.workers board.old.events hands.old.items }
+    requires held { IsHeld P.Id.eq (P.meaning board.old.plan) board.old.workers board.old.events
+        hands.old.items }
     ensures workers { OnOk result (board.new.workers ≡ board.old.workers) }
-    ensures held { OnOk result (IsHeld P.Id.eq (P.meaning board.new.plan) board.new.workers board.new.events hands.new.items) }
+    ensures held { OnOk result (IsHeld P.Id.eq (P.meaning board.new.plan) board.new.workers
+        board.new.events hands.new.items) }
 {
     for (worker, step) in wanted {
         assert!(rt; *worker < board.workers());
@@ -203,9 +218,11 @@ pub fn calls<R: Abort, P: Plan>(
 /// A worker's halt. The job that it has is given up.
 pub fn halt<P: Plan>(board: &mut Board<P>, hands: &mut Vec<Hand<P::Id, P::Value>>, worker: u32)
     requires known { worker < board.old.workers }
-    requires held { IsHeld P.Id.eq (P.meaning board.old.plan) board.old.workers board.old.events hands.old.items }
+    requires held { IsHeld P.Id.eq (P.meaning board.old.plan) board.old.workers board.old.events
+        hands.old.items }
     ensures workers { board.new.workers ≡ board.old.workers }
-    ensures held { IsHeld P.Id.eq (P.meaning board.new.plan) board.new.workers board.new.events hands.new.items }
+    ensures held { IsHeld P.Id.eq (P.meaning board.new.plan) board.new.workers board.new.events
+        hands.new.items }
 {
     let before = board.events().len();
     board.halt(worker);

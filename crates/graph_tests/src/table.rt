@@ -1,8 +1,10 @@
 // Plans that a table gives: a row for each job, which its place names.
-ghost use Rattle.std.specs.Prelude.{◌≡◌, map, fold, All, IsSome, IfOk, true, nat_eq, nat_le, slice_get};
+ghost use Rattle.std.specs.Prelude.{◌≡◌, map, fold, All, IsSome, IfOk, true, nat_eq, nat_le,
+    slice_get};
 ghost use Rattle.std.specs.List.{list_all};
 ghost use Rattle.access_context.specs.Read.{value_read};
-ghost use Rattle.graph_tests.specs.Tables.{row_access, row_added, row_refuses, is_above, stratum_at, job_at, is_sound_row, is_sound, add_read, refusal_at, table};
+ghost use Rattle.graph_tests.specs.Tables.{row_access, row_added, row_refuses, is_above, stratum_at,
+    job_at, is_sound_row, is_sound, add_read, refusal_at, table};
 ghost use Rattle.graph_tests.specs.TableLaws.{table_lawful};
 
 use access_context::{Access, Outcome, Reads, Settled, Spec};
@@ -33,7 +35,8 @@ pub fn refused(row: Row) -> Row {
     (row.0, row.1, row.2, true)
 }
 
-/// A plan by its table. A refused job adds nothing. What comes of any other is the sum of its id and of the values that
+/// A plan by its table. A refused job adds nothing. What comes of any other is the sum of its id
+/// and of the values that
 /// it reads, in 32 bits.
 #[derive(Drop)]
 pub struct Table {
@@ -145,7 +148,8 @@ fn jobs_at(alloc: Global, rows: &[Row], ids: &[u32]) -> Result<Vec<Spec<u32>>, N
 
 /// The jobs that a job adds.
 fn added_by(alloc: Global, rows: &[Row], id: u32) -> Result<Vec<Spec<u32>>, NoMemory>
-    ensures { IfOk result (λ jobs. jobs.items ≡ map (job_at rows.now) (row_added (slice_get rows.now id))) }
+    ensures { IfOk result (λ jobs. jobs.items
+        ≡ map (job_at rows.now) (row_added (slice_get rows.now id))) }
 {
     match rows.get(id as usize) {
         Some(row) => jobs_at(alloc, rows, row.2.as_slice()),

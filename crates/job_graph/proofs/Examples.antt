@@ -1,5 +1,6 @@
 -- Worked rows: what the definitions say of a small plan.
-use Rattle.std.proofs.Common.{◌≡◌, ℕ, zero, suc, true, false, List, [], ◌∷◌, map, Some, None, refl, nat_eq}
+use Rattle.std.proofs.Common.{◌≡◌, ℕ, zero, suc, true, false, List, [], ◌∷◌, map, Some, None, refl,
+    nat_eq}
 use Rattle.access_context.specs.declared.access.Spec.{Spec}
 use Rattle.access_context.specs.Plain.{Done}
 use Rattle.job_graph.specs.declared.event.Event.{Event}
@@ -9,9 +10,11 @@ use Rattle.job_graph.specs.Meaning.{Meaning}
 use Rattle.job_graph.specs.Rounds.{is_settled, is_unsettled_job, limit}
 use Rattle.job_graph.specs.Histories.{is_run, end_of}
 
--- job 0 adds 1 and 2, job 1 adds 4, which awaits stratum 0 and reads 1. Job 2 reads 3 too, which nobody adds.
+-- job 0 adds 1 and 2, job 1 adds 4, which awaits stratum 0 and reads 1. Job 2 reads 3 too, which
+-- nobody adds.
 abbrev adds : ℕ → List (Spec ℕ)
-adds zero = record { id = 1; access = record { reads = []; awaits = None } } ∷ record { id = 2; access = record { reads = 1 ∷ 3 ∷ []; awaits = None } } ∷ []
+adds zero = record { id = 1; access = record { reads = []; awaits = None } }
+    ∷ record { id = 2; access = record { reads = 1 ∷ 3 ∷ []; awaits = None } } ∷ []
 adds (suc zero) = record { id = 4; access = record { reads = 1 ∷ []; awaits = Some 0 } } ∷ []
 adds (suc (suc n)) = []
 
@@ -31,12 +34,14 @@ growing = record {
 }
 
 -- 0, 1 and 4 get values
-settled : map (is_settled nat_eq (limit nat_eq growing)) (0 ∷ 1 ∷ 2 ∷ 3 ∷ 4 ∷ []) ≡ true ∷ true ∷ false ∷ false ∷ true ∷ []
+settled : map (is_settled nat_eq (limit nat_eq growing)) (0 ∷ 1 ∷ 2 ∷ 3 ∷ 4 ∷ [])
+    ≡ true ∷ true ∷ false ∷ false ∷ true ∷ []
 unfolding limit
 settled = refl
 
 -- 2 is stuck, and no other
-stuck : map (is_unsettled_job nat_eq (limit nat_eq growing)) (0 ∷ 1 ∷ 2 ∷ 3 ∷ 4 ∷ []) ≡ false ∷ false ∷ true ∷ false ∷ false ∷ []
+stuck : map (is_unsettled_job nat_eq (limit nat_eq growing)) (0 ∷ 1 ∷ 2 ∷ 3 ∷ 4 ∷ [])
+    ≡ false ∷ false ∷ true ∷ false ∷ false ∷ []
 unfolding limit
 stuck = refl
 

@@ -10,12 +10,14 @@ use Rattle.job_graph.specs.declared.claim.Claim.{Claim}
 use Rattle.job_graph.specs.declared.claim.Claim.TheVariants as claim
 use Rattle.job_graph.specs.Meaning.{Meaning}
 use Rattle.job_graph.specs.Rounds.{is_ready, reads_in, IsDue}
-use Rattle.job_graph.specs.Histories.{has_halted, running, was_claimed, state_of, is_claimable, end_of}
+use Rattle.job_graph.specs.Histories.{has_halted, running, was_claimed, state_of, is_claimable,
+    end_of}
 use Rattle.job_graph.specs.BoardView.{BoardView, NowHas}
 
 module _ {Id V : Type 0} (same : Id → Id → Bool) (plan : Meaning Id V) where
   -- a ready job that wasn't claimed, with exactly what it reads, each item settled as in the limit
-  pub record HandsOut (events : List (Event Id)) (id : Id) (reads : List (Id × Plain V)) : Type 0 where
+  pub record HandsOut (events : List (Event Id)) (id : Id) (reads : List (Id × Plain V))
+      : Type 0 where
     pub job : Spec Id
     pub added : Contains (state_of same plan events).jobs job
     pub named : job.id ≡ id
@@ -26,13 +28,20 @@ module _ {Id V : Type 0} (same : Id → Id → Bool) (plan : Meaning Id V) where
 
   -- a ready job wasn't claimed
   abbrev pub some_claimable : List (Event Id) → Bool
-  some_claimable events = list_any (is_claimable same plan (state_of same plan events) events) (state_of same plan events).jobs
+  some_claimable events = list_any (is_claimable same plan (state_of same plan events) events)
+      (state_of same plan events).jobs
 
   -- the answer to a worker's claim, and the board after it
   abbrev pub IsAnswer : {P : Type 0} → BoardView P Id → ℕ → Claim P Id V → BoardView P Id → Type 0
-  IsAnswer old worker (claim.Run id reads) new = (has_halted old.events ≡ false) × HandsOut old.events id reads × (new ≡ record old { events = old.events ++ event.Claim worker id ∷ [] }) × NowHas old new worker (Some id)
-  IsAnswer old worker (claim.Idle count) new = (has_halted old.events ≡ false) × (some_claimable old.events ≡ false) × (running old.workers old.events ≡ count) × (0 < count) × (new ≡ old)
-  IsAnswer old worker claim.Ended new = (end_of same plan old.workers old.events ≡ end.Ended) × (new ≡ old)
+  IsAnswer old worker (claim.Run id reads) new = (has_halted old.events ≡ false)
+      × HandsOut old.events id reads × (new
+      ≡ record old { events = old.events ++ event.Claim worker id ∷ [] })
+      × NowHas old new worker (Some id)
+  IsAnswer old worker (claim.Idle count) new = (has_halted old.events ≡ false)
+      × (some_claimable old.events ≡ false) × (running old.workers old.events ≡ count) × (0 < count)
+      × (new ≡ old)
+  IsAnswer old worker claim.Ended new = (end_of same plan old.workers old.events ≡ end.Ended)
+      × (new ≡ old)
   IsAnswer old worker claim.Halted new = (has_halted old.events ≡ true) × (new ≡ old)
   -- want of memory changes nothing
   IsAnswer old worker claim.NoMemory new = new ≡ old

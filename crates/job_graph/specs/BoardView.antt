@@ -1,5 +1,6 @@
 -- A board, as its callers see it, and what it keeps. fontc's own.
-use Rattle.std.specs.Prelude.{◌≡◌, ℕ, ◌+◌, ◌≤◌, ◌≢◌, not, true, false, Bool, List, Option, Some, fold, replicate, count_by, slice_get, slice_set, slice_range, length}
+use Rattle.std.specs.Prelude.{◌≡◌, ℕ, ◌+◌, ◌≤◌, ◌≢◌, not, true, false, Bool, List, Option, Some,
+    fold, replicate, count_by, slice_get, slice_set, slice_range, length}
 use Rattle.std.specs.Vec.{vec_len, vec_capacity}
 use Rattle.std.specs.declared.vec.Vec.{Vec}
 use Rattle.std.specs.declared.alloc.Global.{Global}
@@ -17,9 +18,11 @@ pub record BoardView (P Id : Type 0) : Type 0 where
   pub events : List (Event Id)
 
 -- one worker has this out, and each other worker what it had
-pub record NowHas {P Id : Type 0} (old new : BoardView P Id) (worker : ℕ) (out : Option Id) : Type 0 where
+pub record NowHas {P Id : Type 0} (old new : BoardView P Id) (worker : ℕ) (out : Option Id)
+    : Type 0 where
   pub here : out_at new.workers new.events worker ≡ Some out
-  pub others : (other : ℕ) → other ≢ worker → out_at new.workers new.events other ≡ out_at old.workers old.events other
+  pub others : (other : ℕ) → other ≢ worker
+      → out_at new.workers new.events other ≡ out_at old.workers old.events other
 
 -- which workers halted
 abbrev pub halted_after : {Id : Type 0} → List Bool → Event Id → List Bool
@@ -30,8 +33,11 @@ halted_after halted (event.Halt w) = slice_set halted w true
 abbrev pub halted_of : {Id : Type 0} → ℕ → List (Event Id) → List Bool
 halted_of workers events = fold halted_after (replicate workers false) events
 
--- what a board keeps: the parts are those of its events, and there is room for each halt that may still come
-pub record IsBoard {Id V : Type 0} (same : Id → Id → Bool) (plan : Meaning Id V) (workers : ℕ) (events : Vec (Event Id) Global) (state : State Id V) (outs : List (Option Id)) (halted : List Bool) (any_halted : Bool) : Type 0 where
+-- what a board keeps: the parts are those of its events, and there is room for each halt that may
+-- still come
+pub record IsBoard {Id V : Type 0} (same : Id → Id → Bool) (plan : Meaning Id V) (workers : ℕ)
+    (events : Vec (Event Id) Global) (state : State Id V) (outs : List (Option Id))
+    (halted : List Bool) (any_halted : Bool) : Type 0 where
   pub legal : is_run same plan workers events.items ≡ true
   pub state_is : state ≡ state_of same plan events.items
   pub outs_are : outs ≡ out_of workers events.items
@@ -39,11 +45,14 @@ pub record IsBoard {Id V : Type 0} (same : Id → Id → Bool) (plan : Meaning I
   pub any_is : any_halted ≡ has_halted events.items
   pub room : vec_len events + count_by not halted ≤ vec_capacity events
 
--- the jobs that each value added stand in a row, from one place up to another; there is a pair of places for each value
-abbrev pub AreRanges : {Id V : Type 0} → (Id → Id → Bool) → Meaning Id V → State Id V → List (ℕ × ℕ) → Type 0
+-- the jobs that each value added stand in a row, from one place up to another; there is a pair of
+-- places for each value
+abbrev pub AreRanges : {Id V : Type 0} → (Id → Id → Bool) → Meaning Id V → State Id V → List (ℕ × ℕ)
+    → Type 0
 AreRanges {Id} {V} same plan state ranges =
     (length ranges ≡ length state.values)
     × ((place : ℕ) (value : Id × Plain V) (range : ℕ × ℕ)
     → slice_get state.values place ≡ Some value
     → slice_get ranges place ≡ Some range
-    → (range.0 ≤ range.1) × (range.1 ≤ length state.jobs) × IsAddedOf same plan value.0 (slice_range state.jobs range.0 range.1))
+    → (range.0 ≤ range.1) × (range.1 ≤ length state.jobs)
+        × IsAddedOf same plan value.0 (slice_range state.jobs range.0 range.1))

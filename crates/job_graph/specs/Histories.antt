@@ -1,5 +1,8 @@
--- Histories of workers that claim jobs, finish them and halt: which are legal, and what each comes to. fontc's own.
-use Rattle.std.specs.Prelude.{ℕ, nat_eq, nat_lt, Bool, true, false, not, ◌&&◌, List, [], ◌∷◌, ◌++◌, fold, filter, find, count_by, replicate, Option, Some, None, is_some, slice_get, slice_set, if◌then◌else◌}
+-- Histories of workers that claim jobs, finish them and halt: which are legal, and what each comes
+-- to. fontc's own.
+use Rattle.std.specs.Prelude.{ℕ, nat_eq, nat_lt, Bool, true, false, not, ◌&&◌, List, [], ◌∷◌, ◌++◌,
+    fold, filter, find, count_by, replicate, Option, Some, None, is_some, slice_get, slice_set,
+    if◌then◌else◌}
 use Rattle.std.specs.List.{list_any}
 use Rattle.access_context.specs.declared.access.Spec.{Spec}
 use Rattle.job_graph.specs.Meaning.{Meaning}
@@ -94,9 +97,11 @@ module _ {Id V : Type 0} (same : Id → Id → Bool) (plan : Meaning Id V) where
 
   -- a job with this id is ready
   abbrev pub is_ready_id : State Id V → Id → Bool
-  is_ready_id state id = list_any (λ job. has_id same id job && is_ready same plan state job) state.jobs
+  is_ready_id state id = list_any (λ job. has_id same id job && is_ready same plan state job)
+      state.jobs
 
-  -- what may come next. A claim: of a ready job that wasn't claimed, by a worker with none out, while nobody halted.
+  -- what may come next. A claim: of a ready job that wasn't claimed, by a worker with none out,
+  -- while nobody halted.
   -- A finish: by the worker that has the job out. A halt: a worker's first.
   abbrev pub is_allowed : ℕ → List (Event Id) → Event Id → Bool
   is_allowed workers events (event.Claim w id) =
@@ -105,13 +110,16 @@ module _ {Id V : Type 0} (same : Id → Id → Bool) (plan : Meaning Id V) where
       && (not (was_claimed same events id)
       && (is_free (slice_get (out_of workers events) w)
       && not (has_halted events))))
-  is_allowed workers events (event.Finish w id) = has_out same id (slice_get (out_of workers events) w)
-  is_allowed workers events (event.Halt w) = nat_lt w workers && not (list_any (is_halt_of w) events)
+  is_allowed workers events (event.Finish w id)
+      = has_out same id (slice_get (out_of workers events) w)
+  is_allowed workers events (event.Halt w) = nat_lt w workers
+      && not (list_any (is_halt_of w) events)
 
   -- each of the later events is allowed after those before it
   abbrev pub goes_on : ℕ → List (Event Id) → List (Event Id) → Bool
   goes_on workers before [] = true
-  goes_on workers before (e ∷ after) = is_allowed workers before e && goes_on workers (before ++ e ∷ []) after
+  goes_on workers before (e ∷ after) = is_allowed workers before e
+      && goes_on workers (before ++ e ∷ []) after
 
   -- a legal history
   abbrev pub is_run : ℕ → List (Event Id) → Bool
@@ -125,8 +133,10 @@ module _ {Id V : Type 0} (same : Id → Id → Bool) (plan : Meaning Id V) where
   end_of workers events =
       if has_halted events
       then Halted
-      else (if some_ready (state_of events) then Running else (if nat_eq (running workers events) 0 then Ended else Running))
+      else (if some_ready (state_of events) then Running else
+          (if nat_eq (running workers events) 0 then Ended else Running))
 
   -- a job is ready and wasn't claimed
   abbrev pub is_claimable : State Id V → List (Event Id) → Spec Id → Bool
-  is_claimable state events job = is_ready same plan state job && not (was_claimed same events job.id)
+  is_claimable state events job = is_ready same plan state job
+      && not (was_claimed same events job.id)

@@ -10,7 +10,8 @@ pub mod Answers
 pub mod Solutions
 -- What serves the body of the board, and no contract of a public call:
 pub mod Scan
--- What serves the proofs that plans keep the laws. These are lemmas, and nothing in them need be believed:
+-- What serves the proofs that plans keep the laws. These are lemmas, and nothing in them need be
+-- believed:
 pub mod Members
 pub mod Growth
 pub mod Confluence

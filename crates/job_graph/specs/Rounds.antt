@@ -1,5 +1,8 @@
--- The growth of a graph of jobs in rounds, up to its limit. No worker, no order and no count is in it. fontc's own.
-use Rattle.std.specs.Prelude.{◌≡◌, Contains, ℕ, zero, suc, Bool, true, not, ◌&&◌, ◌||◌, nat_le, List, [], ◌++◌, map, filter, length, Option, Some, None, is_some, unwrap_or, option_map, find, if◌then◌else◌}
+-- The growth of a graph of jobs in rounds, up to its limit. No worker, no order and no count is in
+-- it. fontc's own.
+use Rattle.std.specs.Prelude.{◌≡◌, Contains, ℕ, zero, suc, Bool, true, not, ◌&&◌, ◌||◌, nat_le,
+    List, [], ◌++◌, map, filter, length, Option, Some, None, is_some, unwrap_or, option_map, find,
+    if◌then◌else◌}
 use Rattle.std.specs.List.{list_all, list_any, flat_map}
 use Rattle.access_context.specs.declared.access.Access.{Access}
 use Rattle.access_context.specs.declared.access.Spec.{Spec}
@@ -8,7 +11,8 @@ use Rattle.access_context.specs.declared.settled.Settled.{Settled}
 use Rattle.access_context.specs.Read.{plain_item, read_of, all_done}
 use Rattle.job_graph.specs.Meaning.{Meaning}
 
--- the jobs that have been added, and what came of those that are settled. A list stands for the set of its jobs.
+-- the jobs that have been added, and what came of those that are settled. A list stands for the set
+-- of its jobs.
 pub record State (Id V : Type 0) : Type 0 where
   pub jobs : List (Spec Id)
   pub values : List (Id × Plain V)
@@ -49,19 +53,23 @@ module _ {Id V : Type 0} (same : Id → Id → Bool) where
 
     -- no job of this stratum or a lower one is without a value
     abbrev pub is_done_up_to : State Id V → ℕ → Bool
-    is_done_up_to state stratum = list_all (λ job. not (nat_le (plan.stratum job.id) stratum) || is_settled state job.id) state.jobs
+    is_done_up_to state stratum = list_all
+        (λ job. not (nat_le (plan.stratum job.id) stratum) || is_settled state job.id) state.jobs
 
     abbrev pub awaits_nothing : State Id V → Option ℕ → Bool
     awaits_nothing state None = true
     awaits_nothing state (Some stratum) = is_done_up_to state stratum
 
-    -- a job is ready where it has no value, each item that it reads has one, and no job is unfinished that it awaits
+    -- a job is ready where it has no value, each item that it reads has one, and no job is
+    -- unfinished that it awaits
     abbrev pub is_ready : State Id V → Spec Id → Bool
-    is_ready state job = not (is_settled state job.id) && (list_all (is_settled state) job.access.reads && awaits_nothing state job.access.awaits)
+    is_ready state job = not (is_settled state job.id)
+        && (list_all (is_settled state) job.access.reads && awaits_nothing state job.access.awaits)
 
     -- with what a job was added, where there is one with this id
     abbrev pub access_in : State Id V → Id → Option (Access Id)
-    access_in state id = option_map (λ (job : Spec Id). job.access) (find (has_id same id) state.jobs)
+    access_in state id = option_map (λ (job : Spec Id). job.access)
+        (find (has_id same id) state.jobs)
 
     -- what comes of a job by what it reads in a state
     abbrev pub outcome_of : Id → List (Id × Plain V) → PlainOutcome V Id
@@ -70,7 +78,8 @@ module _ {Id V : Type 0} (same : Id → Id → Bool) where
     abbrev pub outcome_in : State Id V → Spec Id → PlainOutcome V Id
     outcome_in state job = outcome_of job.id (reads_in state job.access.reads)
 
-    -- the state once these jobs got their values, as the first state tells them, and added their jobs
+    -- the state once these jobs got their values, as the first state tells them, and added their
+    -- jobs
     abbrev pub with_outcomes : State Id V → State Id V → List (Spec Id) → State Id V
     with_outcomes by state jobs = record {
       jobs = state.jobs ++ flat_map (λ job. (outcome_in by job).added) jobs;
@@ -86,12 +95,14 @@ module _ {Id V : Type 0} (same : Id → Id → Bool) where
     rounds zero = start
     rounds (suc n) = round (rounds n)
 
-    -- the state in which no job is ready. Each round but the last settles a job, so there are no more rounds than ids.
+    -- the state in which no job is ready. Each round but the last settles a job, so there are no
+    -- more rounds than ids.
     unfoldable pub limit : State Id V
     limit = rounds (length plan.universe)
 
 -- a job of the limit, with what it reads there
-pub record IsDue {Id V : Type 0} (same : Id → Id → Bool) (plan : Meaning Id V) (id : Id) (reads : List (Id × Plain V)) : Type 0 where
+pub record IsDue {Id V : Type 0} (same : Id → Id → Bool) (plan : Meaning Id V) (id : Id)
+    (reads : List (Id × Plain V)) : Type 0 where
   pub job : Spec Id
   pub added : Contains (limit same plan).jobs job
   pub named : job.id ≡ id
@@ -103,14 +114,16 @@ abbrev pub state_from : {Id V : Type 0} → List (Spec Id) → List (Id × Settl
 state_from jobs values = record { jobs = jobs; values = map plain_item values }
 
 -- what came of a job is what comes of it in the limit
-pub record IsOutcomeOf {Id V : Type 0} (same : Id → Id → Bool) (plan : Meaning Id V) (id : Id) (outcome : PlainOutcome V Id) : Type 0 where
+pub record IsOutcomeOf {Id V : Type 0} (same : Id → Id → Bool) (plan : Meaning Id V) (id : Id)
+    (outcome : PlainOutcome V Id) : Type 0 where
   pub job : Spec Id
   pub added : Contains (limit same plan).jobs job
   pub named : job.id ≡ id
   pub is : outcome ≡ outcome_in same plan (limit same plan) job
 
 -- the jobs that a job adds by what it reads in the limit
-pub record IsAddedOf {Id V : Type 0} (same : Id → Id → Bool) (plan : Meaning Id V) (id : Id) (added : List (Spec Id)) : Type 0 where
+pub record IsAddedOf {Id V : Type 0} (same : Id → Id → Bool) (plan : Meaning Id V) (id : Id)
+    (added : List (Spec Id)) : Type 0 where
   pub job : Spec Id
   pub there : Contains (limit same plan).jobs job
   pub named : job.id ≡ id

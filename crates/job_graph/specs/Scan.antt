@@ -1,4 +1,5 @@
--- Which ready job the scanning body takes: the first. This is the body's choice; no contract of a board cites it. fontc's own.
+-- Which ready job the scanning body takes: the first. This is the body's choice; no contract of a
+-- board cites it. fontc's own.
 use Rattle.std.specs.Prelude.{◌≡◌, Bool, List, Option, Some, None, find}
 use Rattle.access_context.specs.declared.access.Spec.{Spec}
 use Rattle.access_context.specs.Plain.{Plain}
@@ -15,4 +16,5 @@ module _ {Id V : Type 0} (same : Id → Id → Bool) (plan : Meaning Id V) where
   -- the next job to run and what it reads
   abbrev pub IsNext : State Id V → List (Event Id) → Option (Id × List (Id × Plain V)) → Type 0
   IsNext state events None = next_of state events state.jobs ≡ None
-  IsNext state events (Some next) = (job : Spec Id) × (next_of state events state.jobs ≡ Some job) × (job.id ≡ next.0) × (next.1 ≡ reads_in same state job.access.reads)
+  IsNext state events (Some next) = (job : Spec Id) × (next_of state events state.jobs ≡ Some job)
+      × (job.id ≡ next.0) × (next.1 ≡ reads_in same state job.access.reads)

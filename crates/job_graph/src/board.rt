@@ -1,4 +1,5 @@
-ghost use Rattle.std.specs.Prelude.{◌≡◌, ◌<◌, [], ◌∷◌, ◌++◌, option_map, IfSome, IfOk, OnOk, IfErr, OnErr, Some, None, ℕ, if◌then◌else◌};
+ghost use Rattle.std.specs.Prelude.{◌≡◌, ◌<◌, [], ◌∷◌, ◌++◌, option_map, IfSome, IfOk, OnOk, IfErr,
+    OnErr, Some, None, ℕ, if◌then◌else◌};
 ghost use Rattle.std.specs.List.{list_any};
 ghost use Rattle.access_context.specs.Plain.{plain, plain_outcome};
 ghost use Rattle.job_graph.specs.Rounds.{value_in, is_unsettled_job, limit, IsOutcomeOf};
@@ -14,13 +15,18 @@ use refusal_codes::NoMemory;
 use std::alloc::Global;
 use std::marker::Model;
 
-/// A board of jobs: what each worker did so far, and what came of it. A contract sees its plan, its workers and its
+/// A board of jobs: what each worker did so far, and what came of it. A contract sees its plan, its
+/// workers and its
 /// events; all else follows from these.
 ///
-/// This body keeps plain lists and finds a ready job by scanning them. To test a job it looks up the job and each of its
-/// reads in the list of values and, where the job awaits a stratum, every job. So a claim and `result` take up to as many
-/// comparisons as the square of the jobs and reads together, and as many again for each job that awaits a stratum. A run
-/// takes two calls for each job. `get` and `is_stuck` take one pass. No contract speaks of the lists, nor of which ready
+/// This body keeps plain lists and finds a ready job by scanning them. To test a job it looks up
+/// the job and each of its
+/// reads in the list of values and, where the job awaits a stratum, every job. So a claim and
+/// `result` take up to as many
+/// comparisons as the square of the jobs and reads together, and as many again for each job that
+/// awaits a stratum. A run
+/// takes two calls for each job. `get` and `is_stuck` take one pass. No contract speaks of the
+/// lists, nor of which ready
 /// job comes first, so a body that keeps counts can stand in this one's place.
 #[derive(Drop)]
 pub struct Board<P: Plan> {
@@ -43,7 +49,8 @@ impl<P: Plan> Model for Board<P> {
 
     ghost view = { λ b. record { plan = b.plan; workers = b.workers; events = b.events.items } };
 
-    ghost invariant = { λ b. IsBoard P.Id.eq (P.meaning b.plan) b.workers b.events (state_from b.jobs.items b.values.items) b.outs.items b.halted.items b.any_halted };
+    ghost invariant = { λ b. IsBoard P.Id.eq (P.meaning b.plan) b.workers b.events
+        (state_from b.jobs.items b.values.items) b.outs.items b.halted.items b.any_halted };
 }
 
 impl<P: Plan> Board<P> {
@@ -53,9 +60,12 @@ impl<P: Plan> Board<P> {
 
     /// A board on which nothing happened yet.
     pub fn new(alloc: Global, plan: P, workers: u32) -> Result<Board<P>, NoMemory>
-        ensures made { IfOk result (λ b. b ≡ record { plan = plan; workers = workers; events = [] }) }
-        ensures free { IfOk result (λ b. (w : ℕ) → w < b.workers → out_at b.workers b.events w ≡ Some None) }
-        ensures history { IfOk result (λ b. IsHistory P.Id.eq (P.meaning b.plan) b.workers b.events) }
+        ensures made { IfOk result (λ b. b ≡ record { plan = plan; workers = workers; events = [] })
+            }
+        ensures free { IfOk result (λ b. (w : ℕ) → w < b.workers
+            → out_at b.workers b.events w ≡ Some None) }
+        ensures history { IfOk result (λ b. IsHistory P.Id.eq (P.meaning b.plan) b.workers b.events)
+            }
     {
         let jobs = plan.opening(alloc)?;
         let count = workers as usize;
@@ -78,8 +88,10 @@ impl<P: Plan> Board<P> {
     pub fn claim(&mut self, alloc: Global, worker: u32) -> Claim<P>
         requires known { worker < self.old.workers }
         requires free { out_at self.old.workers self.old.events worker ≡ Some None }
-        ensures answer { IsAnswer P.Id.eq (P.meaning self.old.plan) self.old worker result self.new }
-        ensures history { IsHistory P.Id.eq (P.meaning self.new.plan) self.new.workers self.new.events }
+        ensures answer { IsAnswer P.Id.eq (P.meaning self.old.plan) self.old worker result self.new
+            }
+        ensures history { IsHistory P.Id.eq (P.meaning self.new.plan) self.new.workers
+            self.new.events }
     {
         if self.any_halted {
             return Claim::Halted;
@@ -112,7 +124,8 @@ impl<P: Plan> Board<P> {
         }
     }
 
-    /// Gives a job what came of it. Where memory runs out, the board is as before and both parts come back.
+    /// Gives a job what came of it. Where memory runs out, the board is as before and both parts
+    /// come back.
     pub fn finish(
         &mut self,
         _alloc: Global,
@@ -121,12 +134,15 @@ impl<P: Plan> Board<P> {
         outcome: Outcome<P::Value, P::Id>,
     ) -> Result<(), Unfinished<P>>
         requires out { out_at self.old.workers self.old.events worker ≡ Some (Some ticket) }
-        requires outcome { IsOutcomeOf P.Id.eq (P.meaning self.old.plan) ticket (plain_outcome outcome) }
-        ensures ok { OnOk result (self.new ≡ record self.old { events = self.old.events ++ event.Finish worker ticket ∷ [] }) }
+        requires outcome { IsOutcomeOf P.Id.eq (P.meaning self.old.plan) ticket
+            (plain_outcome outcome) }
+        ensures ok { OnOk result (self.new ≡ record self.old
+            { events = self.old.events ++ event.Finish worker ticket ∷ [] }) }
         ensures free { OnOk result (NowHas self.old self.new worker None) }
         ensures err { OnErr result (self.new ≡ self.old) }
         ensures back { IfErr result (λ u. (u.ticket ≡ ticket) × (u.outcome ≡ outcome)) }
-        ensures history { IsHistory P.Id.eq (P.meaning self.new.plan) self.new.workers self.new.events }
+        ensures history { IsHistory P.Id.eq (P.meaning self.new.plan) self.new.workers
+            self.new.events }
     {
         let id = *ticket.id();
         let event = Event::Finish(worker, id);
@@ -149,12 +165,15 @@ impl<P: Plan> Board<P> {
         Ok(())
     }
 
-    /// Stops the board for all. Only a worker's first halt counts. A job that it has out is given up. It takes no memory.
+    /// Stops the board for all. Only a worker's first halt counts. A job that it has out is given
+    /// up. It takes no memory.
     pub fn halt(&mut self, worker: u32)
         requires { worker < self.old.workers }
-        ensures halts { self.new ≡ (if list_any (is_halt_of worker) self.old.events then self.old else record self.old { events = self.old.events ++ event.Halt worker ∷ [] }) }
+        ensures halts { self.new ≡ (if list_any (is_halt_of worker) self.old.events then self.old
+            else record self.old { events = self.old.events ++ event.Halt worker ∷ [] }) }
         ensures gives_up { NowHas self.old self.new worker None }
-        ensures history { IsHistory P.Id.eq (P.meaning self.new.plan) self.new.workers self.new.events }
+        ensures history { IsHistory P.Id.eq (P.meaning self.new.plan) self.new.workers
+            self.new.events }
     {
         let place = worker as usize;
         if !self.halted[place] {
@@ -181,9 +200,12 @@ impl<P: Plan> Board<P> {
 
     /// Where the board stands. It takes no memory.
     pub fn result(&self) -> End
-        ensures end { result ≡ end_of P.Id.eq (P.meaning self.now.plan) self.now.workers self.now.events }
-        ensures complete { result ≡ End.Ended → IsComplete P.Id.eq (P.meaning self.now.plan) self.now.events }
-        ensures history { IsHistory P.Id.eq (P.meaning self.now.plan) self.now.workers self.now.events }
+        ensures end { result ≡ end_of P.Id.eq (P.meaning self.now.plan) self.now.workers
+            self.now.events }
+        ensures complete { result ≡ End.Ended
+            → IsComplete P.Id.eq (P.meaning self.now.plan) self.now.events }
+        ensures history { IsHistory P.Id.eq (P.meaning self.now.plan) self.now.workers
+            self.now.events }
     {
         if self.any_halted {
             return End::Halted;
@@ -201,25 +223,33 @@ impl<P: Plan> Board<P> {
     /// What happened so far. It takes no memory.
     pub fn events(&self) -> &[Event<P::Id>]
         ensures events { result.now ≡ self.now.events }
-        ensures history { IsHistory P.Id.eq (P.meaning self.now.plan) self.now.workers self.now.events }
+        ensures history { IsHistory P.Id.eq (P.meaning self.now.plan) self.now.workers
+            self.now.events }
     {
         self.events.as_slice()
     }
 
     /// What came of a job, where it is settled. It takes no memory.
     pub fn get(&self, id: &P::Id) -> Option<&Settled<P::Value>>
-        ensures value { option_map (λ s. plain s.now) result ≡ value_in P.Id.eq (state_of P.Id.eq (P.meaning self.now.plan) self.now.events) id.now }
-        ensures in_limit { IfSome result (λ s. value_in P.Id.eq (limit P.Id.eq (P.meaning self.now.plan)) id.now ≡ Some (plain s.now)) }
-        ensures ended { end_of P.Id.eq (P.meaning self.now.plan) self.now.workers self.now.events ≡ End.Ended
-            → option_map (λ s. plain s.now) result ≡ value_in P.Id.eq (limit P.Id.eq (P.meaning self.now.plan)) id.now }
+        ensures value { option_map (λ s. plain s.now) result
+            ≡ value_in P.Id.eq (state_of P.Id.eq (P.meaning self.now.plan) self.now.events) id.now }
+        ensures in_limit { IfSome result (λ s. value_in P.Id.eq
+            (limit P.Id.eq (P.meaning self.now.plan)) id.now ≡ Some (plain s.now)) }
+        ensures ended { end_of P.Id.eq (P.meaning self.now.plan) self.now.workers self.now.events
+            ≡ End.Ended
+            → option_map (λ s. plain s.now) result
+                ≡ value_in P.Id.eq (limit P.Id.eq (P.meaning self.now.plan)) id.now }
     {
         scan::value_of(self.values.as_slice(), id)
     }
 
-    /// Whether this is a job that isn't settled; on a board that has ended it never will be. It takes no memory.
+    /// Whether this is a job that isn't settled; on a board that has ended it never will be. It
+    /// takes no memory.
     pub fn is_stuck(&self, id: &P::Id) -> bool
-        ensures unsettled { result ≡ is_unsettled_job P.Id.eq (state_of P.Id.eq (P.meaning self.now.plan) self.now.events) id.now }
-        ensures ended { end_of P.Id.eq (P.meaning self.now.plan) self.now.workers self.now.events ≡ End.Ended
+        ensures unsettled { result ≡ is_unsettled_job P.Id.eq
+            (state_of P.Id.eq (P.meaning self.now.plan) self.now.events) id.now }
+        ensures ended { end_of P.Id.eq (P.meaning self.now.plan) self.now.workers self.now.events
+            ≡ End.Ended
             → result ≡ is_unsettled_job P.Id.eq (limit P.Id.eq (P.meaning self.now.plan)) id.now }
     {
         scan::has_job(self.jobs.as_slice(), id) && !scan::is_settled(self.values.as_slice(), id)

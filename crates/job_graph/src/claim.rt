@@ -9,7 +9,8 @@ use refusal_codes::NoMemory;
 use std::alloc::Global;
 use std::marker::Model;
 
-/// The right to finish a job, as `Board::claim` gives it. A contract sees a ticket as the id of its job.
+/// The right to finish a job, as `Board::claim` gives it. A contract sees a ticket as the id of its
+/// job.
 #[derive(Debug, Drop)]
 pub struct Ticket<Id> {
     id: Id,
@@ -70,8 +71,10 @@ pub fn run_claimed<P: Plan>(
     reads: &Reads<P::Id, P::Value>,
 ) -> Result<Outcome<P::Value, P::Id>, NoMemory>
     requires { IsDue P.Id.eq (P.meaning plan.now) ticket.now reads.now }
-    ensures outcome { IfOk result (λ o. plain_outcome o ≡ outcome_of P.Id.eq (P.meaning plan.now) ticket.now reads.now) }
-    ensures in_limit { IfOk result (λ o. IsOutcomeOf P.Id.eq (P.meaning plan.now) ticket.now (plain_outcome o)) }
+    ensures outcome { IfOk result (λ o. plain_outcome o
+        ≡ outcome_of P.Id.eq (P.meaning plan.now) ticket.now reads.now) }
+    ensures in_limit { IfOk result (λ o. IsOutcomeOf P.Id.eq (P.meaning plan.now) ticket.now
+        (plain_outcome o)) }
 {
     if !reads.all_done() {
         return Ok(Outcome {

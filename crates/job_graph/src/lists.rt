@@ -1,5 +1,6 @@
 // The lists of a board.
-ghost use Rattle.std.specs.Prelude.{◌≡◌, ◌+◌, ◌<◌, ◌≤◌, ◌^◌, ◌∷◌, [], ◌++◌, length, count_by, not, vec_len, vec_capacity, replicate, None, IfOk, true, false, if◌then◌else◌};
+ghost use Rattle.std.specs.Prelude.{◌≡◌, ◌+◌, ◌<◌, ◌≤◌, ◌^◌, ◌∷◌, [], ◌++◌, length, count_by, not,
+    vec_len, vec_capacity, replicate, None, IfOk, true, false, if◌then◌else◌};
 
 use refusal_codes::NoMemory;
 use std::alloc::Global;
@@ -36,7 +37,8 @@ pub fn halts_left(halted: &[bool]) -> usize
 /// Adds an event, where there is memory for it and for a halt of each worker that may still halt.
 pub fn note<T: Drop>(events: &mut Vec<T>, halted: &[bool], event: T) -> bool
     requires { vec_len events.old + count_by not halted.now ≤ vec_capacity events.old }
-    ensures items { events.new.items ≡ (if result then events.old.items ++ event ∷ [] else events.old.items) }
+    ensures items { events.new.items ≡ (if result then events.old.items ++ event
+        ∷ [] else events.old.items) }
     ensures room { vec_len events.new + count_by not halted.now ≤ vec_capacity events.new }
 {
     let left = halts_left(halted);
@@ -59,7 +61,8 @@ pub fn make_room<A: Drop, J: Drop, E: Drop>(
     requires { vec_len events.old + count_by not halted.now ≤ vec_capacity events.old }
     ensures values { values.new.items ≡ values.old.items }
     ensures jobs { jobs.new.items ≡ jobs.old.items }
-    ensures events { events.new.items ≡ (if result then events.old.items ++ event ∷ [] else events.old.items) }
+    ensures events { events.new.items ≡ (if result then events.old.items ++ event
+        ∷ [] else events.old.items) }
     ensures value_room { result ≡ true → vec_len values.new < vec_capacity values.new }
     ensures job_room { result ≡ true → vec_len jobs.new + more ≤ vec_capacity jobs.new }
     ensures room { vec_len events.new + count_by not halted.now ≤ vec_capacity events.new }

@@ -30,7 +30,8 @@ pub trait Plan: Drop {
     fn stratum(&self, id: &Self::Id) -> u8
         ensures { result ≡ (meaning self.now).stratum id.now };
 
-    /// What comes of a job of the plan's limit, by what it reads there. It is asked only where all of that has a value.
+    /// What comes of a job of the plan's limit, by what it reads there. It is asked only where all
+    /// of that has a value.
     fn run(
         &self,
         alloc: Global,
@@ -39,13 +40,15 @@ pub trait Plan: Drop {
     ) -> Result<Outcome<Self::Value, Self::Id>, NoMemory>
         requires due { IsDue Self.Id.eq (meaning self.now) id.now reads.now }
         requires done { IsTrue (all_done reads.now) }
-        ensures { IfOk result (λ o. plain_outcome o ≡ (meaning self.now).outcome id.now reads.now) };
+        ensures { IfOk result (λ o. plain_outcome o ≡ (meaning self.now).outcome id.now reads.now)
+            };
 
     /// What a plan keeps.
     ghost lawful: { (plan : Self) → IsLawful Self.Id.eq (meaning plan) };
 }
 
-/// A plan that tells of each id what its job is, whether that job is ever added, and what comes of it.
+/// A plan that tells of each id what its job is, whether that job is ever added, and what comes of
+/// it.
 pub trait Solved: Plan {
     /// The job of an id.
     ghost spec_of: { Self → Self.Id → Spec Self.Id };
@@ -57,5 +60,6 @@ pub trait Solved: Plan {
     ghost value_of: { Self → Self.Id → Plain Self.Value };
 
     /// This is right, by facts about ids alone.
-    ghost solution: { (plan : Self) → IsSolution Self.Id.eq (Self.meaning plan) (spec_of plan) (is_there plan) (value_of plan) };
+    ghost solution: { (plan : Self) → IsSolution Self.Id.eq (Self.meaning plan) (spec_of plan)
+        (is_there plan) (value_of plan) };
 }

@@ -1,9 +1,11 @@
 // Readiness, found by scanning lists.
-ghost use Rattle.std.specs.Prelude.{◌≡◌, ℕ, option_map, map, is_some, not, ◌&&◌, ◌||◌, nat_le, length, count_by, IfOk, IsTrue, List, true, Some};
+ghost use Rattle.std.specs.Prelude.{◌≡◌, ℕ, option_map, map, is_some, not, ◌&&◌, ◌||◌, nat_le,
+    length, count_by, IfOk, IsTrue, List, true, Some};
 ghost use Rattle.std.specs.List.{list_all, list_any, find};
 ghost use Rattle.access_context.specs.Plain.{plain};
 ghost use Rattle.access_context.specs.Read.{plain_item, read_of};
-ghost use Rattle.job_graph.specs.Rounds.{state_from, is_settled, is_done_up_to, awaits_nothing, is_ready, item_of, has_id};
+ghost use Rattle.job_graph.specs.Rounds.{state_from, is_settled, is_done_up_to, awaits_nothing,
+    is_ready, item_of, has_id};
 ghost use Rattle.job_graph.specs.Histories.{is_claim_of, was_claimed, some_ready, is_claimable};
 ghost use Rattle.job_graph.specs.Scan.{next_of, IsNext};
 
@@ -18,7 +20,8 @@ pub fn value_of<'a, Id: Copy + Ord, V>(
     values: &'a [(Id, Settled<V>)],
     id: &Id,
 ) -> Option<&'a Settled<V>>
-    ensures { option_map (λ s. plain s.now) result ≡ read_of Id.eq (map plain_item values.now) id.now }
+    ensures { option_map (λ s. plain s.now) result
+        ≡ read_of Id.eq (map plain_item values.now) id.now }
 {
     for item in values {
         if item.0 == *id {
@@ -37,7 +40,8 @@ pub fn is_settled<Id: Copy + Ord, V>(values: &[(Id, Settled<V>)], id: &Id) -> bo
 
 /// Whether each of these ids is settled.
 pub fn all_settled<Id: Copy + Ord, V>(values: &[(Id, Settled<V>)], ids: &[Id]) -> bool
-    ensures { result ≡ list_all (λ id. is_some (read_of Id.eq (map plain_item values.now) id)) ids.now }
+    ensures { result ≡ list_all (λ id. is_some (read_of Id.eq (map plain_item values.now) id))
+        ids.now }
 {
     for id in ids {
         if !is_settled(values, id) {
@@ -54,7 +58,8 @@ fn lets_pass<P: Plan>(
     job: &Spec<P::Id>,
     stratum: u8,
 ) -> bool
-    ensures { result ≡ (not (nat_le ((P.meaning plan.now).stratum job.now.id) stratum) || is_some (read_of P.Id.eq (map plain_item values.now) job.now.id)) }
+    ensures { result ≡ (not (nat_le ((P.meaning plan.now).stratum job.now.id) stratum)
+        || is_some (read_of P.Id.eq (map plain_item values.now) job.now.id)) }
 {
     plan.stratum(&job.id) > stratum || is_settled(values, &job.id)
 }
@@ -66,7 +71,8 @@ pub fn is_done_up_to<P: Plan>(
     values: &[(P::Id, Settled<P::Value>)],
     stratum: u8,
 ) -> bool
-    ensures { result ≡ is_done_up_to P.Id.eq (P.meaning plan.now) (state_from jobs.now values.now) stratum }
+    ensures { result ≡ is_done_up_to P.Id.eq (P.meaning plan.now) (state_from jobs.now values.now)
+        stratum }
 {
     for job in jobs {
         if !lets_pass(plan, values, job, stratum) {
@@ -83,7 +89,8 @@ fn awaits_nothing<P: Plan>(
     values: &[(P::Id, Settled<P::Value>)],
     awaits: Option<u8>,
 ) -> bool
-    ensures { result ≡ awaits_nothing P.Id.eq (P.meaning plan.now) (state_from jobs.now values.now) awaits }
+    ensures { result ≡ awaits_nothing P.Id.eq (P.meaning plan.now) (state_from jobs.now values.now)
+        awaits }
 {
     match awaits {
         None => true,
@@ -98,7 +105,8 @@ pub fn is_ready<P: Plan>(
     values: &[(P::Id, Settled<P::Value>)],
     job: &Spec<P::Id>,
 ) -> bool
-    ensures { result ≡ is_ready P.Id.eq (P.meaning plan.now) (state_from jobs.now values.now) job.now }
+    ensures { result ≡ is_ready P.Id.eq (P.meaning plan.now) (state_from jobs.now values.now)
+        job.now }
 {
     !is_settled(values, &job.id)
         && all_settled(values, job.access.reads.as_slice())
@@ -151,7 +159,8 @@ fn is_claimable<P: Plan>(
     events: &[Event<P::Id>],
     job: &Spec<P::Id>,
 ) -> bool
-    ensures { result ≡ is_claimable P.Id.eq (P.meaning plan.now) (state_from jobs.now values.now) events.now job.now }
+    ensures { result ≡ is_claimable P.Id.eq (P.meaning plan.now) (state_from jobs.now values.now)
+        events.now job.now }
 {
     is_ready(plan, jobs, values, job) && !was_claimed(events, &job.id)
 }
@@ -163,7 +172,9 @@ pub fn next_job<'a, P: Plan>(
     values: &[(P::Id, Settled<P::Value>)],
     events: &[Event<P::Id>],
 ) -> Option<&'a Spec<P::Id>>
-    ensures { option_map (λ job. job.now) result ≡ next_of P.Id.eq (P.meaning plan.now) (state_from jobs.now values.now) events.now jobs.now }
+    ensures { option_map (λ job. job.now) result
+        ≡ next_of P.Id.eq (P.meaning plan.now) (state_from jobs.now values.now) events.now jobs.now
+        }
 {
     for job in jobs {
         if is_claimable(plan, jobs, values, events, job) {
@@ -219,7 +230,8 @@ pub fn reads_of<Id: Copy + Ord, V: Drop>(
     values: &[(Id, Settled<V>)],
     ids: &[Id],
 ) -> Result<Vec<(Id, Settled<V>)>, NoMemory>
-    ensures { IfOk result (λ reads. map plain_item reads.items ≡ map (item_of Id.eq (map plain_item values.now)) ids.now) }
+    ensures { IfOk result (λ reads. map plain_item reads.items
+        ≡ map (item_of Id.eq (map plain_item values.now)) ids.now) }
 {
     let mut reads = Vec::with_capacity(alloc, ids.len())?;
     for id in ids {
@@ -236,7 +248,8 @@ pub fn next_run<P: Plan>(
     values: &[(P::Id, Settled<P::Value>)],
     events: &[Event<P::Id>],
 ) -> Result<Option<(P::Id, Reads<P::Id, P::Value>)>, NoMemory>
-    ensures { IfOk result (λ next. IsNext P.Id.eq (P.meaning plan.now) (state_from jobs.now values.now) events.now next) }
+    ensures { IfOk result (λ next. IsNext P.Id.eq (P.meaning plan.now)
+        (state_from jobs.now values.now) events.now next) }
 {
     match next_job(plan, jobs, values, events) {
         None => Ok(None),

@@ -1,5 +1,6 @@
 -- The glyphs that are measured, behind their references.
-use Rattle.std.proofs.Common.{◌≡◌, ℕ, ◌<◌, List, [], length, map, get_or, unsigned_abs, sym, ap, ◌∙◌, subst, arith}
+use Rattle.std.proofs.Common.{◌≡◌, ℕ, ◌<◌, List, [], length, map, get_or, unsigned_abs, sym, ap,
+    ◌∙◌, subst, arith}
 use Rattle.std.proofs.Math.ListN.{get_or-map}
 use Rattle.std.proofs.lemmas.List.{length-map}
 use Rattle.std.proofs.lemmas.Simd.{map-map}
@@ -17,19 +18,26 @@ use Rattle.metrics_tables.specs.Measuring.{measures_of, width_at, IsMeasurable, 
 use Rattle.font_ir.specs.Outlines.{contours_at, points_at, bounds_of}
 
 -- what is said of the glyphs in order, said of the references
-each : {Y : Type 0} (f : FlatGlyph → Y) (glyphs : List (Arc FlatGlyph Global)) → map (λ glyph. f glyph.value) glyphs ≡ map f (glyphs_of glyphs)
+each : {Y : Type 0} (f : FlatGlyph → Y) (glyphs : List (Arc FlatGlyph Global))
+    → map (λ glyph. f glyph.value) glyphs ≡ map f (glyphs_of glyphs)
 each f glyphs = sym (map-map f arc_value glyphs)
 
-glyph_at : (glyphs : List (Arc FlatGlyph Global)) (k : ℕ) (d : Arc FlatGlyph Global) → get_or (glyphs_of glyphs) k d.value ≡ (get_or glyphs k d).value
+glyph_at : (glyphs : List (Arc FlatGlyph Global)) (k : ℕ) (d : Arc FlatGlyph Global)
+    → get_or (glyphs_of glyphs) k d.value ≡ (get_or glyphs k d).value
 glyph_at glyphs k d = get_or-map (λ (glyph : Arc FlatGlyph Global). glyph.value) glyphs k d
 
-pub measurable : (header : Header) (glyphs : List (Arc FlatGlyph Global)) → All IsFlatGlyph (glyphs_of glyphs) → All (HasMastersPlaces header) (glyphs_of glyphs) → header.origin < length header.masters → All (λ glyph. IsMeasurable header.origin glyph.value) glyphs
+pub measurable : (header : Header) (glyphs : List (Arc FlatGlyph Global))
+    → All IsFlatGlyph (glyphs_of glyphs) → All (HasMastersPlaces header) (glyphs_of glyphs)
+    → header.origin < length header.masters
+    → All (λ glyph. IsMeasurable header.origin glyph.value) glyphs
 measurable header glyphs flat places origin = λ k d h.
-    let there : k < length (glyphs_of glyphs) = omega (arith, length-map glyphs (λ (glyph : Arc FlatGlyph Global). glyph.value), h) in
+    let there : k < length (glyphs_of glyphs)
+        = omega (arith, length-map glyphs (λ (glyph : Arc FlatGlyph Global). glyph.value), h) in
     let located = subst (HasMastersPlaces header) (glyph_at glyphs k d) (places k d.value there) in
     record {
       flat = subst IsFlatGlyph (glyph_at glyphs k d) (flat k d.value there);
-      there = omega (arith, origin, ap length located, length-map header.masters (λ master. master.location));
+      there = omega (arith, origin, ap length located, length-map header.masters
+          (λ master. master.location));
     }
 
 -- measures are those of the glyphs where each of their fields is
@@ -40,7 +48,8 @@ pub measures_are : (header : Header) (glyphs : List (Arc FlatGlyph Global)) (mea
     → measures.rows ≡ map (λ glyph. []) glyphs
     → measures.maxima ≡ record {
       points = greatest_count (map (λ glyph. length (points_at header.origin glyph.value)) glyphs);
-      contours = greatest_count (map (λ glyph. length (contours_at header.origin glyph.value)) glyphs);
+      contours = greatest_count (map (λ glyph. length (contours_at header.origin glyph.value))
+          glyphs);
       composite_points = 0;
       composite_contours = 0;
       components = 0;
@@ -54,5 +63,6 @@ measures_are header glyphs measures advances bounds regions rows maxima =
     let r = rows ∙ each (λ g. []) glyphs in
     let points = ap greatest_count (each (λ g. length (points_at place g)) glyphs) in
     let contours = ap greatest_count (each (λ g. length (contours_at place g)) glyphs) in
-    let m = maxima ∙ (λ i. record { points = points i; contours = contours i; composite_points = 0; composite_contours = 0; components = 0; depth = 0 }) in
+    let m = maxima ∙ (λ i. record { points = points i; contours = contours i; composite_points
+        = 0; composite_contours = 0; components = 0; depth = 0 }) in
     λ i. record { advances = a i; bounds = b i; regions = regions i; rows = r i; maxima = m i }

@@ -1,4 +1,5 @@
--- Numbers compared one by one: the lesser and the greater of two of which the first may not be there, and the greatest of counts.
+-- Numbers compared one by one: the lesser and the greater of two of which the first may not be
+-- there, and the greatest of counts.
 use Rattle.std.specs.Prelude.{ℕ, max, ℤ, List, [], ◌∷◌, Option, None, Some}
 use Rattle.std.specs.Int.{int_min, int_max}
 

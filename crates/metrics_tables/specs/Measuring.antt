@@ -1,5 +1,6 @@
 -- What is measured of the glyphs of a font, in the order of their glyph numbers.
-use Rattle.std.specs.Prelude.{◌≡◌, ℕ, ◌<◌, ℤ, pos, unsigned_abs, List, [], length, map, slice_index_or, Result, Ok, Err}
+use Rattle.std.specs.Prelude.{◌≡◌, ℕ, ◌<◌, ℤ, pos, unsigned_abs, List, [], length, map,
+    slice_index_or, Result, Ok, Err}
 use Rattle.std.specs.List.{All}
 use Rattle.font_ir.specs.FlatGlyphs.{IsFlatGlyph}
 use Rattle.font_ir.specs.Outlines.{contours_at, points_at, bounds_of}
@@ -8,10 +9,12 @@ use Rattle.font_ir.specs.declared.glyph.FlatGlyph.{FlatGlyph}
 use Rattle.metrics_tables.specs.declared.measures.Measures.{Measures}
 use Rattle.metrics_tables.specs.declared.measures.Maxima.{Maxima}
 use Rattle.metrics_tables.specs.declared.measures.MeasureError.{MeasureError}
-use Rattle.metrics_tables.specs.declared.measures.MeasureError.TheVariants.{TooLarge, Regions, NoMemory}
+use Rattle.metrics_tables.specs.declared.measures.MeasureError.TheVariants.{TooLarge, Regions,
+    NoMemory}
 use Rattle.metrics_tables.specs.Comparisons.{greatest_count}
 
--- One master, no axes, no kept components: the fonts that are measured today. They have no regions and no deltas.
+-- One master, no axes, no kept components: the fonts that are measured today. They have no regions
+-- and no deltas.
 pub record IsStatic (header : Header) (glyphs : List FlatGlyph) : Type 0 where
   pub one_master : length header.masters ≡ 1
   pub no_axes : header.axes ≡ []
@@ -51,7 +54,8 @@ measures_of header glyphs = record {
   maxima = maxima_of glyphs header.origin;
 }
 
--- Measuring a static font gives its measures, unless memory runs out. It has no delta that could be too large, and no region.
+-- Measuring a static font gives its measures, unless memory runs out. It has no delta that could be
+-- too large, and no region.
 abbrev pub Measured : Result Measures MeasureError → Measures → Type 0
 Measured (Ok measures) definition = measures ≡ definition
 Measured (Err (TooLarge gid value)) definition = ⊥

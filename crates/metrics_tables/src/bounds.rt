@@ -68,7 +68,8 @@ fn right_bearing(advance: u16, x_max: i16) -> i32
     i32::from(advance) - i32::from(x_max)
 }
 
-/// The least right side bearing, an advance less xMax, of the glyphs that have a point; 0 where none has.
+/// The least right side bearing, an advance less xMax, of the glyphs that have a point; 0 where
+/// none has.
 pub fn least_right_bearing(advances: &[u16], bounds: &[Option<[i16; 4]>]) -> i32
     requires { length bounds.now ≡ length advances.now }
     ensures { result ≡ least_of (right_bearings advances.now bounds.now) }

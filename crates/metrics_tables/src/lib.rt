@@ -1,4 +1,5 @@
-//! What a font's tables of metrics are made of, and the tables `head`, `hhea`, `maxp` and `hmtx` (OpenType 1.9).
+//! What a font's tables of metrics are made of, and the tables `head`, `hhea`, `maxp` and `hmtx`
+//! (OpenType 1.9).
 #![tactic(auto)]
 
 mod bounds;

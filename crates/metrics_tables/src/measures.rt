@@ -21,12 +21,14 @@ pub struct Maxima {
     pub depth: u16,
 }
 
-/// What the tables of metrics need of the glyphs, glyph by glyph in the order of their glyph numbers.
+/// What the tables of metrics need of the glyphs, glyph by glyph in the order of their glyph
+/// numbers.
 #[derive(Debug, PartialEq, Eq, Drop)]
 pub struct Measures {
     /// The advance widths at the default master, in font units.
     pub advances: Sequence<u16>,
-    /// xMin, yMin, xMax and yMax at the default master, in font units, of each glyph that has a point.
+    /// xMin, yMin, xMax and yMax at the default master, in font units, of each glyph that has a
+    /// point.
     pub bounds: Sequence<Option<[i16; 4]>>,
     /// The regions of the design space in which some advance width changes.
     pub regions: Sequence<Region>,
@@ -51,7 +53,8 @@ pub enum MeasureError {
 
 impl From<NoMemory> for MeasureError {
     ghost use Rattle.std.specs.Prelude.{◌≡◌};
-    ghost use Rattle.metrics_tables.specs.declared.measures.MeasureError.TheVariants as measure_errors;
+    ghost use Rattle.metrics_tables.specs.declared.measures.MeasureError.TheVariants
+        as measure_errors;
 
     ghost from_gives = { λ _ e. e ≡ measure_errors.NoMemory };
 
@@ -62,7 +65,8 @@ impl From<NoMemory> for MeasureError {
 
 impl From<AllocError> for MeasureError {
     ghost use Rattle.std.specs.Prelude.{◌≡◌};
-    ghost use Rattle.metrics_tables.specs.declared.measures.MeasureError.TheVariants as measure_errors;
+    ghost use Rattle.metrics_tables.specs.declared.measures.MeasureError.TheVariants
+        as measure_errors;
 
     ghost from_gives = { λ _ e. e ≡ measure_errors.NoMemory };
 
@@ -73,7 +77,8 @@ impl From<AllocError> for MeasureError {
 
 impl<T: Drop> From<AllocFailed<T>> for MeasureError {
     ghost use Rattle.std.specs.Prelude.{◌≡◌};
-    ghost use Rattle.metrics_tables.specs.declared.measures.MeasureError.TheVariants as measure_errors;
+    ghost use Rattle.metrics_tables.specs.declared.measures.MeasureError.TheVariants
+        as measure_errors;
 
     ghost from_gives = { λ _ e. e ≡ measure_errors.NoMemory };
 

@@ -2,7 +2,8 @@ ghost use Rattle.std.specs.Prelude.{◌≡◌, ◌<◌, ℕ, [], length, map, un
 ghost use Rattle.std.specs.List.{All};
 ghost use Rattle.metrics_tables.specs.Comparisons.{greatest_count};
 ghost use Rattle.font_ir.specs.FlatGlyphs.{glyphs_of};
-ghost use Rattle.metrics_tables.specs.Measuring.{measures_of, maxima_of, width_at, IsStatic, IsMeasurable, HasMastersPlaces, Measured};
+ghost use Rattle.metrics_tables.specs.Measuring.{measures_of, maxima_of, width_at, IsStatic,
+    IsMeasurable, HasMastersPlaces, Measured};
 ghost use Rattle.font_ir.specs.Outlines.{contours_at, points_at, bounds_of};
 ghost use Rattle.metrics_tables.specs.Tables.{AreMeasures, HasOriginAndVersion};
 ghost use Rattle.font_ir.specs.FlatGlyphs.{IsFlatGlyph};
@@ -18,7 +19,8 @@ use std::sync::Arc;
 /// The glyphs' advance widths at a place.
 fn advances_of(alloc: Global, glyphs: &[Arc<FlatGlyph>], place: u32) -> Result<Vec<u16>, NoMemory>
     requires { All (λ glyph. IsMeasurable place glyph.value) glyphs.now }
-    ensures { IfOk result (λ advances. advances.items ≡ map (λ glyph. unsigned_abs (width_at place glyph.value)) glyphs.now) }
+    ensures { IfOk result (λ advances. advances.items
+        ≡ map (λ glyph. unsigned_abs (width_at place glyph.value)) glyphs.now) }
 {
     let mut advances = Vec::with_capacity(alloc, glyphs.len())?;
     for glyph in glyphs {
@@ -34,7 +36,8 @@ fn all_bounds(
     place: u32,
 ) -> Result<Vec<Option<[i16; 4]>>, NoMemory>
     requires { All (λ glyph. IsMeasurable place glyph.value) glyphs.now }
-    ensures { IfOk result (λ bounds. bounds.items ≡ map (λ glyph. bounds_of (points_at place glyph.value)) glyphs.now) }
+    ensures { IfOk result (λ bounds. bounds.items
+        ≡ map (λ glyph. bounds_of (points_at place glyph.value)) glyphs.now) }
 {
     let mut bounds = Vec::with_capacity(alloc, glyphs.len())?;
     for glyph in glyphs {
@@ -57,7 +60,8 @@ fn no_rows(alloc: Global, glyphs: &[Arc<FlatGlyph>]) -> Result<Vec<Sequence<i16>
 /// The most points of a glyph.
 fn most_points(glyphs: &[Arc<FlatGlyph>], place: u32) -> u16
     requires { All (λ glyph. IsMeasurable place glyph.value) glyphs.now }
-    ensures { result ≡ greatest_count (map (λ glyph. length (points_at place glyph.value)) glyphs.now) }
+    ensures { result ≡ greatest_count (map (λ glyph. length (points_at place glyph.value))
+        glyphs.now) }
 {
     let mut so_far = 0;
     for glyph in glyphs {
@@ -69,7 +73,8 @@ fn most_points(glyphs: &[Arc<FlatGlyph>], place: u32) -> u16
 /// The most contours of a glyph.
 fn most_contours(glyphs: &[Arc<FlatGlyph>], place: u32) -> u16
     requires { All (λ glyph. IsMeasurable place glyph.value) glyphs.now }
-    ensures { result ≡ greatest_count (map (λ glyph. length (contours_at place glyph.value)) glyphs.now) }
+    ensures { result ≡ greatest_count (map (λ glyph. length (contours_at place glyph.value))
+        glyphs.now) }
 {
     let mut so_far = 0;
     for glyph in glyphs {
@@ -81,8 +86,10 @@ fn most_contours(glyphs: &[Arc<FlatGlyph>], place: u32) -> u16
 /// The measures of simple glyphs at a place, without regions.
 fn measures_at(alloc: Global, glyphs: &[Arc<FlatGlyph>], place: u32) -> Result<Measures, NoMemory>
     requires { All (λ glyph. IsMeasurable place glyph.value) glyphs.now }
-    ensures advances { IfOk result (λ measures. measures.advances ≡ map (λ glyph. unsigned_abs (width_at place glyph.value)) glyphs.now) }
-    ensures bounds { IfOk result (λ measures. measures.bounds ≡ map (λ glyph. bounds_of (points_at place glyph.value)) glyphs.now) }
+    ensures advances { IfOk result (λ measures. measures.advances
+        ≡ map (λ glyph. unsigned_abs (width_at place glyph.value)) glyphs.now) }
+    ensures bounds { IfOk result (λ measures. measures.bounds
+        ≡ map (λ glyph. bounds_of (points_at place glyph.value)) glyphs.now) }
     ensures regions { IfOk result (λ measures. measures.regions ≡ []) }
     ensures rows { IfOk result (λ measures. measures.rows ≡ map (λ glyph. []) glyphs.now) }
     ensures maxima { IfOk result (λ measures. measures.maxima ≡ record {
@@ -114,9 +121,11 @@ fn measures_at(alloc: Global, glyphs: &[Arc<FlatGlyph>], place: u32) -> Result<M
     })
 }
 
-/// Measures the glyphs of a font of one master, without axes and without components, at its default master.
+/// Measures the glyphs of a font of one master, without axes and without components, at its default
+/// master.
 ///
-/// The glyphs stand in the order of their glyph numbers, one for each name of the order. A font of one master has no regions,
+/// The glyphs stand in the order of their glyph numbers, one for each name of the order. A font of
+/// one master has no regions,
 /// so no error but want of memory comes.
 pub fn measure(
     alloc: Global,

@@ -74,9 +74,12 @@ struct Extremes {
 fn extremes_of(measures: &Measures) -> Extremes
     requires { tables.AreMeasures measures.now }
     ensures advance { result.advance ≡ greatest_count measures.now.advances }
-    ensures left { result.left_bearing ≡ tables.cut (least_of (tables.side 0 (tables.boxes_of measures.now.bounds))) }
-    ensures right { result.right_bearing ≡ tables.cut (least_of (tables.right_bearings measures.now.advances measures.now.bounds)) }
-    ensures extent { result.extent ≡ tables.cut (greatest_of (tables.side 2 (tables.boxes_of measures.now.bounds))) }
+    ensures left { result.left_bearing ≡ tables.cut
+        (least_of (tables.side 0 (tables.boxes_of measures.now.bounds))) }
+    ensures right { result.right_bearing ≡ tables.cut
+        (least_of (tables.right_bearings measures.now.advances measures.now.bounds)) }
+    ensures extent { result.extent ≡ tables.cut
+        (greatest_of (tables.side 2 (tables.boxes_of measures.now.bounds))) }
 {
     let advances = measures.advances.as_slice();
     let bounds = measures.bounds.as_slice();
@@ -153,7 +156,8 @@ fn push_record(
     advance: u16,
     bounds: &Option<[i16; 4]>,
 ) -> Result<(), AllocError>
-    ensures { OnOk result (table.new.items ≡ table.old.items ++ (uint16 advance ++ int16 (tables.left_bearing bounds.now))) }
+    ensures { OnOk result (table.new.items
+        ≡ table.old.items ++ (uint16 advance ++ int16 (tables.left_bearing bounds.now))) }
 {
     let bearing = match bounds {
         None => 0,

@@ -1,5 +1,6 @@
 -- What a console took, as far as an object tells it. fontc's own.
-use Rattle.std.specs.Prelude.{◌≡◌, ◌⊎◌, ℕ, ◌-◌, ◌≤◌, min, Bool, ◌||◌, ◌==◌, if◌then◌else◌, List, [], ◌++◌, length, Option, Some, None}
+use Rattle.std.specs.Prelude.{◌≡◌, ◌⊎◌, ℕ, ◌-◌, ◌≤◌, min, Bool, ◌||◌, ◌==◌, if◌then◌else◌, List, [],
+    ◌++◌, length, Option, Some, None}
 use Rattle.std.specs.Option.{option_map}
 use Rattle.outside_io.specs.Counts.{last_count, raised}
 use Rattle.outside_io.specs.Memory.{is_next}
@@ -8,7 +9,8 @@ use Rattle.outside_io.specs.Memory.{is_next}
 abbrev pub with_more : List ℕ → Option (List ℕ) → Option (List ℕ)
 with_more bytes took = option_map (λ before. before ++ bytes) took
 
--- After a call the console took what is expected, or no longer tells what it took. Where it didn't tell before the call,
+-- After a call the console took what is expected, or no longer tells what it took. Where it didn't
+-- tell before the call,
 -- what is expected isn't told either.
 abbrev pub TookNow : Option (List ℕ) → Option (List ℕ) → Type 0
 TookNow expected new = (new ≡ None) ⊎ (new ≡ expected)
@@ -29,13 +31,16 @@ pub record ConsoleMemory : Type 0 where
 abbrev pub empty_console : ℕ → ConsoleMemory
 empty_console room = record { taken = []; room = room; listed = []; calls = 0; failed_writes = 0 }
 
--- How many of some bytes a write takes. It fails exactly where the write is listed or no room is left.
+-- How many of some bytes a write takes. It fails exactly where the write is listed or no room is
+-- left.
 abbrev pub write_count : ConsoleMemory → ℕ → Option ℕ
-write_count m count = if is_next m.listed m.calls || m.room == 0 then None else Some (min count m.room)
+write_count m count = if is_next m.listed m.calls
+    || m.room == 0 then None else Some (min count m.room)
 
 -- after a write that took these bytes
 abbrev pub written : ConsoleMemory → List ℕ → ConsoleMemory
-written m bytes = record m { taken = m.taken ++ bytes; room = m.room - length bytes; calls = raised m.calls }
+written m bytes = record m { taken = m.taken
+    ++ bytes; room = m.room - length bytes; calls = raised m.calls }
 
 -- after a failed write
 abbrev pub write_failed : ConsoleMemory → ConsoleMemory

@@ -1,5 +1,6 @@
 -- What paths hold, as far as an object tells it, and how calls change it. fontc's own.
-use Rattle.std.specs.Prelude.{◌≡◌, ◌≢◌, ◌⊎◌, ℕ, ◌-◌, ◌≤◌, List, [], ◌++◌, length, take, drop, Option, Some, None, IfSome}
+use Rattle.std.specs.Prelude.{◌≡◌, ◌≢◌, ◌⊎◌, ℕ, ◌-◌, ◌≤◌, List, [], ◌++◌, length, take, drop,
+    Option, Some, None, IfSome}
 
 -- what a path holds: the object doesn't tell it, or there is no such path, or it holds these bytes
 pub data Holding : Type 0 where
@@ -25,7 +26,8 @@ followed_by bytes Untold = Untold
 followed_by bytes Absent = Bytes bytes
 followed_by bytes (Bytes before) = Bytes (before ++ bytes)
 
--- After a call the path holds what is expected, or is no longer told. Where it wasn't told before the call, what is
+-- After a call the path holds what is expected, or is no longer told. Where it wasn't told before
+-- the call, what is
 -- expected is untold too: no call tells what wasn't told before it.
 abbrev pub Leaves : Holding → Holding → Type 0
 Leaves expected new = (new ≡ Untold) ⊎ (new ≡ expected)
@@ -38,10 +40,12 @@ LeavesOthers path old new = (other : List ℕ) → other ≢ path → Leaves (ol
 abbrev pub LeavesAll : (List ℕ → Holding) → (List ℕ → Holding) → Type 0
 LeavesAll old new = (path : List ℕ) → new path ≡ old path
 
--- the first n bytes of a buffer are n bytes of the path from a place on, where the object tells the path
+-- the first n bytes of a buffer are n bytes of the path from a place on, where the object tells the
+-- path
 abbrev pub GivesBytes : Holding → ℕ → ℕ → List ℕ → Type 0
 GivesBytes holding place n buffer =
-    IfSome (told_bytes holding) (λ bytes. (n ≤ length bytes - place) × (take n buffer ≡ take n (drop place bytes)))
+    IfSome (told_bytes holding) (λ bytes. (n ≤ length bytes - place)
+        × (take n buffer ≡ take n (drop place bytes)))
 
 -- the path has no byte from a place on, where the object tells the path
 abbrev pub EndsBy : Holding → ℕ → Type 0

@@ -1,5 +1,7 @@
 -- What MemFiles holds, and how its calls go. fontc's own.
-use Rattle.std.specs.Prelude.{◌≡◌, ℕ, ◌+◌, ◌-◌, ◌≤◌, min, Bool, true, false, not, ◌&&◌, ◌||◌, ◌==◌, nat_lt, nat_le, if◌then◌else◌, List, [], ◌∷◌, ◌++◌, length, Option, Some, None, is_some, unwrap_or}
+use Rattle.std.specs.Prelude.{◌≡◌, ℕ, ◌+◌, ◌-◌, ◌≤◌, min, Bool, true, false, not, ◌&&◌, ◌||◌, ◌==◌,
+    nat_lt, nat_le, if◌then◌else◌, List, [], ◌∷◌, ◌++◌, length, Option, Some, None, is_some,
+    unwrap_or}
 use Rattle.std.specs.List.{list_any, position_from}
 use Rattle.std.specs.Str.{bytes_eq}
 use Rattle.outside_io.specs.Counts.{last_count, raised}
@@ -35,7 +37,8 @@ longest_name = 255
 -- the bytes of a path
 abbrev pub bytes_at : List (List ℕ × List ℕ) → List ℕ → Option (List ℕ)
 bytes_at [] path = None
-bytes_at (entry ∷ entries) path = if bytes_eq entry.0 path then Some entry.1 else bytes_at entries path
+bytes_at (entry ∷ entries) path = if bytes_eq entry.0 path then Some entry.1 else bytes_at entries
+    path
 
 -- the place of a path among them, from 0
 abbrev pub number_of : List (List ℕ × List ℕ) → List ℕ → Option ℕ
@@ -45,7 +48,8 @@ number_of entries path = position_from (λ entry. bytes_eq entry.0 path) 0 entri
 abbrev pub with_bytes : List (List ℕ × List ℕ) → List ℕ → List ℕ → List (List ℕ × List ℕ)
 with_bytes [] path bytes = (path, bytes) ∷ []
 with_bytes (entry ∷ entries) path bytes =
-    if bytes_eq entry.0 path then (entry.0, bytes) ∷ entries else entry ∷ with_bytes entries path bytes
+    if bytes_eq entry.0 path then (entry.0, bytes) ∷ entries else entry
+        ∷ with_bytes entries path bytes
 
 -- a path that isn't there holds nothing
 abbrev pub holding_of : Option (List ℕ) → Holding
@@ -68,7 +72,8 @@ empty_memory most_paths room = record {
 -- whether a path is there, or one more is allowed and this is no too long a name for it
 abbrev pub has_place : Memory → List ℕ → Bool
 has_place m path =
-    is_some (bytes_at m.paths path) || (nat_lt (length m.paths) m.most_paths && nat_le (length path) longest_name)
+    is_some (bytes_at m.paths path) || (nat_lt (length m.paths) m.most_paths
+        && nat_le (length path) longest_name)
 
 -- whether the next call, after so many, is one of those that are to fail
 abbrev pub is_next : List ℕ → ℕ → Bool
@@ -82,17 +87,20 @@ abbrev pub readable : Option (List ℕ) → ℕ → ℕ → Option ℕ
 readable None place most = None
 readable (Some bytes) place most = Some (min most (length bytes - place))
 
--- How many bytes a read into this much space gives. It fails exactly where the call is listed or the path isn't there.
+-- How many bytes a read into this much space gives. It fails exactly where the call is listed or
+-- the path isn't there.
 abbrev pub read_count : Memory → List ℕ → ℕ → ℕ → Option ℕ
 read_count m path place space =
     if is_listed m then None else readable (bytes_at m.paths path) place (min space m.step)
 
--- Whether a begin succeeds. It fails exactly where the call is listed, or the path isn't there and either no more path is
+-- Whether a begin succeeds. It fails exactly where the call is listed, or the path isn't there and
+-- either no more path is
 -- allowed or its name is too long.
 abbrev pub begins : Memory → List ℕ → Bool
 begins m path = not (is_listed m) && has_place m path
 
--- How many of some bytes an append takes. It fails exactly where the call is listed, the path isn't there, or no room is
+-- How many of some bytes an append takes. It fails exactly where the call is listed, the path isn't
+-- there, or no room is
 -- left.
 abbrev pub append_count : Memory → List ℕ → ℕ → Option ℕ
 append_count m path count =

@@ -1,4 +1,5 @@
-ghost use Rattle.std.specs.Prelude.{◌≡◌, ℕ, ◌≤◌, ◌<◌, List, length, take, Option, IfOk, OnOk, OnErr};
+ghost use Rattle.std.specs.Prelude.{◌≡◌, ℕ, ◌≤◌, ◌<◌, List, length, take, Option, IfOk, OnOk,
+    OnErr};
 ghost use Rattle.outside_io.specs.Counts.{HasRisen};
 ghost use Rattle.outside_io.specs.Console.{TookNow, with_more};
 
@@ -12,11 +13,13 @@ pub trait Console {
     /// How many writes have failed.
     ghost failed_writes: { Self → ℕ };
 
-    /// Takes first bytes of `bytes`, and answers how many: at least one. Where it fails, it took none.
+    /// Takes first bytes of `bytes`, and answers how many: at least one. Where it fails, it took
+    /// none.
     fn write(&mut self, bytes: &[u8]) -> Result<usize, Failed>
         requires { 0 < length bytes.now }
         ensures some { IfOk result (λ n. (0 < n) × (n ≤ length bytes.now)) }
-        ensures ok { IfOk result (λ n. TookNow (with_more (take n bytes.now) (took self.old)) (took self.new)) }
+        ensures ok { IfOk result (λ n. TookNow (with_more (take n bytes.now) (took self.old))
+            (took self.new)) }
         ensures err { OnErr result (TookNow (took self.old) (took self.new)) }
 
         // It fails only where the count rose.

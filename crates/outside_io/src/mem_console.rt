@@ -1,4 +1,5 @@
-ghost use Rattle.std.specs.Prelude.{◌≡◌, ◌<◌, ◌≤◌, List, [], ◌∷◌, ◌++◌, length, take, Some, IfOk, OnOk, OnErr};
+ghost use Rattle.std.specs.Prelude.{◌≡◌, ◌<◌, ◌≤◌, List, [], ◌∷◌, ◌++◌, length, take, Some, IfOk,
+    OnOk, OnErr};
 ghost use Rattle.std.specs.Result.{result_ok};
 ghost use Rattle.outside_io.specs.Counts.{last_count};
 ghost use Rattle.outside_io.specs.Console.{empty_console, write_count, written, write_failed};
@@ -56,7 +57,8 @@ impl MemConsole {
 
     /// Lists a write that is to fail. Writes are numbered from 1.
     pub fn fail(&mut self, _alloc: Global, call: u64) -> Result<(), NoMemory>
-        ensures ok { OnOk result (self.new ≡ record self.old { listed = self.old.listed ++ call ∷ [] }) }
+        ensures ok { OnOk result (self.new ≡ record self.old
+            { listed = self.old.listed ++ call ∷ [] }) }
         ensures err { OnErr result (self.new ≡ self.old) }
     {
         self.listed.push(call)?;

@@ -1,10 +1,14 @@
-ghost use Rattle.std.specs.Prelude.{◌≡◌, ◌⊎◌, ℕ, ◌+◌, ◌-◌, ◌<◌, ◌≤◌, min, List, [], ◌∷◌, ◌++◌, length, take, drop, Some, unwrap_or, is_some, IfSome, IfOk, OnOk, OnErr, IsTrue, is_ok, nat_lt, if◌then◌else◌, vec_len, vec_capacity};
+ghost use Rattle.std.specs.Prelude.{◌≡◌, ◌⊎◌, ℕ, ◌+◌, ◌-◌, ◌<◌, ◌≤◌, min, List, [], ◌∷◌, ◌++◌,
+    length, take, drop, Some, unwrap_or, is_some, IfSome, IfOk, OnOk, OnErr, IsTrue, is_ok, nat_lt,
+    if◌then◌else◌, vec_len, vec_capacity};
 ghost use Rattle.std.specs.Result.{result_ok};
 ghost use Rattle.std.specs.Option.{option_copied};
 ghost use Rattle.std.specs.List.{position_from};
 ghost use Rattle.std.specs.Str.{bytes_eq};
 ghost use Rattle.outside_io.specs.Slots.{HasRoom};
-ghost use Rattle.outside_io.specs.Memory.{IsSound, number_of, bytes_at, with_bytes, holding_of, empty_memory, has_place, is_listed, read_count, begins, append_count, counted, read_failed, write_failed, begun, appended};
+ghost use Rattle.outside_io.specs.Memory.{IsSound, number_of, bytes_at, with_bytes, holding_of,
+    empty_memory, has_place, is_listed, read_count, begins, append_count, counted, read_failed,
+    write_failed, begun, appended};
 
 use crate::files::{Failed, Files};
 use refusal_codes::NoMemory;
@@ -23,7 +27,8 @@ struct Slot {
 
 /// Files in memory, whose calls fail where a test wants them to.
 ///
-/// All memory is taken when they are made and in `put` and `fail`, so that no call of `Files` takes any.
+/// All memory is taken when they are made and in `put` and `fail`, so that no call of `Files` takes
+/// any.
 #[derive(Drop)]
 pub struct MemFiles {
     slots: Vec<Slot>,
@@ -55,7 +60,8 @@ impl Model for MemFiles {
       failed_writes = f.failed_writes;
     } };
 
-    ghost invariant = { λ f. (f.used ≤ vec_len f.slots) × AllHaveRoom f.room f.slots.items × (1 ≤ f.step) };
+    ghost invariant = { λ f. (f.used ≤ vec_len f.slots) × AllHaveRoom f.room f.slots.items
+        × (1 ≤ f.step) };
 }
 
 /// The place in which a path is.
@@ -67,7 +73,8 @@ fn place_among(slots: &[Slot], path: &str) -> Option<usize>
         .position(|slot| slot.name.as_slice() == path.as_bytes())
 }
 
-/// Copies at most this many bytes from a place on to the front of a buffer, and answers how many they were.
+/// Copies at most this many bytes from a place on to the front of a buffer, and answers how many
+/// they were.
 pub(crate) fn copy_from(bytes: &[u8], place: u64, most: usize, into: &mut [u8]) -> usize
     ensures count { result ≡ min (min (length into.old) most) (length bytes.now - place) }
     ensures copied { into.new ≡ take result (drop place bytes.now) ++ drop result into.old }
@@ -117,7 +124,8 @@ fn with_spare(alloc: Global, bytes: &[u8], room: usize) -> Result<Vec<u8>, NoMem
 impl MemFiles {
     ghost use Rattle.outside_io.specs.Memory.{Memory};
 
-    /// Files without a path: at most `paths` may come, and appends may add `room` bytes in all. All reads and appends
+    /// Files without a path: at most `paths` may come, and appends may add `room` bytes in all. All
+    /// reads and appends
     /// handle as many bytes as they can, and no call is listed to fail.
     pub fn with_room(alloc: Global, paths: u32, room: usize) -> Result<MemFiles, NoMemory>
         ensures { IfOk result (λ files. files ≡ empty_memory paths room) }
@@ -141,7 +149,8 @@ impl MemFiles {
     /// Makes a path hold these bytes. It is no call of `Files` and uses up no room of appends.
     pub fn put(&mut self, alloc: Global, path: &str, bytes: &[u8]) -> Result<(), NoMemory>
         requires { IsTrue (has_place self.old path.now) }
-        ensures ok { OnOk result (self.new ≡ record self.old { paths = with_bytes self.old.paths path.now bytes.now }) }
+        ensures ok { OnOk result (self.new ≡ record self.old
+            { paths = with_bytes self.old.paths path.now bytes.now }) }
         ensures err { OnErr result (self.new ≡ self.old) }
     {
         let held = with_spare(alloc, bytes, self.room)?;
@@ -152,7 +161,8 @@ impl MemFiles {
 
     /// Lists a call of `Files` that is to fail. Calls are numbered from 1.
     pub fn fail(&mut self, _alloc: Global, call: u64) -> Result<(), NoMemory>
-        ensures ok { OnOk result (self.new ≡ record self.old { listed = self.old.listed ++ call ∷ [] }) }
+        ensures ok { OnOk result (self.new ≡ record self.old
+            { listed = self.old.listed ++ call ∷ [] }) }
         ensures err { OnErr result (self.new ≡ self.old) }
     {
         self.listed.push(call)?;
@@ -201,7 +211,8 @@ impl MemFiles {
     /// Makes a path hold no bytes, and answers its number.
     fn open(&mut self, path: &str) -> usize
         requires { IsTrue (has_place self.old path.now) }
-        ensures after { self.new ≡ record self.old { paths = with_bytes self.old.paths path.now [] } }
+        ensures after { self.new ≡ record self.old { paths = with_bytes self.old.paths path.now [] }
+            }
         ensures number { number_of self.new.paths path.now ≡ Some result }
     {
         if let Some(place) = self.find(path) {
@@ -239,7 +250,8 @@ impl Files for MemFiles {
         ensures into_ok { IfOk result (λ n. into.new ≡
             take n (drop place (unwrap_or (bytes_at self.old.paths path.now) [])) ++ drop n into.old) }
         ensures into_err { OnErr result (into.new ≡ into.old) }
-        ensures after { self.new ≡ (if is_ok result then counted self.old else read_failed self.old) }
+        ensures after { self.new ≡ (if is_ok result then counted self.old else read_failed self.old)
+            }
     {
         let is_listed = self.is_next_listed();
         if let Some(bytes) = self.held(path)
@@ -251,12 +263,14 @@ impl Files for MemFiles {
         Err(Failed)
     }
 
-    /// Fails exactly where the call is listed, or the path isn't there and either no more path is allowed or its name is
+    /// Fails exactly where the call is listed, or the path isn't there and either no more path is
+    /// allowed or its name is
     /// longer than 255 bytes. The path is then as before.
     fn begin(&mut self, path: &str) -> Result<(), Failed>
         ensures sound { IsSound self.old }
         ensures answer { is_ok result ≡ begins self.old path.now }
-        ensures after { self.new ≡ (if is_ok result then begun self.old path.now else write_failed self.old) }
+        ensures after { self.new ≡ (if is_ok result then begun self.old path.now else write_failed
+            self.old) }
     {
         let is_listed = self.is_next_listed();
         if is_listed || !self.has_place(path) {

@@ -42,7 +42,8 @@ impl<F: Read + Write + Seek + Drop> LastFile<F> {
             && self.path.as_slice() == path.as_bytes()
     }
 
-    /// Keeps a file that was just opened. A path that is too long is kept as none, so that its file is opened again.
+    /// Keeps a file that was just opened. A path that is too long is kept as none, so that its file
+    /// is opened again.
     fn keep(&mut self, file: F, path: &str, is_reading: bool) {
         self.path.clear();
         if path.len() <= self.path.capacity() {
@@ -84,7 +85,8 @@ impl<F: Read + Write + Seek + Drop> LastFile<F> {
     }
 }
 
-/// The files of the system. They tell no content. One count serves all failed reads, and another all failed calls of
+/// The files of the system. They tell no content. One count serves all failed reads, and another
+/// all failed calls of
 /// `begin` and `append`; each stops at `u64::MAX`.
 ///
 /// The file last opened is kept, so that reading or appending on opens nothing again.
@@ -208,7 +210,8 @@ impl<'a, R: rt::Files> Files for RealFiles<'a, R> {
     }
 }
 
-/// Standard output. It tells nothing of what it took. Its count of failed writes stops at `u64::MAX`; a contract sees it
+/// Standard output. It tells nothing of what it took. Its count of failed writes stops at
+/// `u64::MAX`; a contract sees it
 /// as that count.
 #[derive(Drop)]
 pub struct RealConsole<'a, R: Print> {

@@ -1,4 +1,5 @@
-ghost use Rattle.std.specs.Prelude.{◌≡◌, ◌+◌, ◌-◌, ◌<◌, min, true, false, List, ◌++◌, length, take, drop, None, IsOk, IfOk};
+ghost use Rattle.std.specs.Prelude.{◌≡◌, ◌+◌, ◌-◌, ◌<◌, min, true, false, List, ◌++◌, length, take,
+    drop, None, IsOk, IfOk};
 ghost use Rattle.outside_io.specs.Sure.{sure_holding, added};
 
 use crate::console::Console;
@@ -6,7 +7,8 @@ use crate::files::{Failed, Files};
 use crate::mem_files::copy_from;
 use std::marker::Model;
 
-/// Files that never fail: every path has the bytes of one slice, and what is appended is counted and not kept.
+/// Files that never fail: every path has the bytes of one slice, and what is appended is counted
+/// and not kept.
 #[derive(Drop)]
 pub struct SureFiles<'a> {
     source: &'a [u8],
@@ -19,7 +21,8 @@ impl<'a> Model for SureFiles<'a> {
 
     ghost Value = { Sure };
 
-    ghost view = { λ s. record { source = s.source.now; is_written = s.is_written; appended = s.appended } };
+    ghost view = { λ s. record { source = s.source.now; is_written = s.is_written; appended
+        = s.appended } };
 }
 
 impl<'a> SureFiles<'a> {
@@ -53,7 +56,8 @@ impl<'a> Files for SureFiles<'a> {
 
     fn read_some(&mut self, _path: &str, place: u64, into: &mut [u8]) -> Result<usize, Failed>
         ensures count { result ≡ Ok (min (length into.old) (length self.old.source - place)) }
-        ensures into { IfOk result (λ n. into.new ≡ take n (drop place self.old.source) ++ drop n into.old) }
+        ensures into { IfOk result (λ n. into.new
+            ≡ take n (drop place self.old.source) ++ drop n into.old) }
         ensures after { self.new ≡ self.old }
     {
         Ok(copy_from(self.source, place, usize::MAX, into))

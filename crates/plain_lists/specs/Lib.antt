@@ -1,0 +1,2 @@
+-- lemmas that the proofs of other crates need
+pub mod TurnLaws

@@ -1,4 +1,5 @@
-ghost use Rattle.std.specs.Prelude.{◌≡◌, List, [], ◌∷◌, ◌++◌, length, ◌==◌, if◌then◌else◌, is_ok, OnOk, OnErr, IfOk, IfErr};
+ghost use Rattle.std.specs.Prelude.{◌≡◌, List, [], ◌∷◌, ◌++◌, length, ◌==◌, if◌then◌else◌, is_ok,
+    OnOk, OnErr, IfOk, IfErr};
 ghost use Rattle.std.specs.Cmp.Lexicographic.{pointwise, lists_per, lists_equiv};
 
 use std::alloc::{AllocError, AllocFailed, Global};
@@ -64,7 +65,8 @@ impl<T> Sequence<T> {
         self.items.is_empty()
     }
 
-    /// Adds an item at the end. Where memory runs out, the sequence is as before and the item comes back.
+    /// Adds an item at the end. Where memory runs out, the sequence is as before and the item comes
+    /// back.
     pub fn push(&mut self, item: T) -> Result<(), AllocFailed<T>>
         ensures ok { OnOk result (self.new ≡ self.old ++ item ∷ []) }
         ensures err { OnErr result (self.new ≡ self.old) }

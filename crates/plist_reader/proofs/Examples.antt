@@ -1,26 +1,35 @@
--- Worked examples, computed: texts with their refusals, and texts with their trees. Another program, a recursive descent along
+-- Worked examples, computed: texts with their refusals, and texts with their trees. Another
+-- program, a recursive descent along
 -- the grammar that was written apart from this definition, gives the same outcomes.
-use Rattle.std.proofs.Common.{◌≡◌, ℕ, List, [], ◌∷◌, ◌++◌, map, replicate, take, Option, Some, None, Result, Ok, Err, refl}
+use Rattle.std.proofs.Common.{◌≡◌, ℕ, List, [], ◌∷◌, ◌++◌, map, replicate, take, Option, Some, None,
+    Result, Ok, Err, refl}
 use Rattle.std.specs.Prelude.{codes, ⊤}
 use Rattle.std.specs.List.{range_with_len, flat_map}
 use lib.Utf8.{encode}
 use Rattle.std.specs.Str.{is_utf8, chars}
 use Rattle.std.specs.Str.Lossy.{utf8_valid_len}
 use Rattle.refusal_codes.specs.declared.refusal.Refusal.{Refusal}
-use Rattle.refusal_codes.specs.declared.rule.Rule.TheVariants.{NotUtf8, UnexpectedByte, UnexpectedEnd, BadEscape, DuplicateKey, TooDeep, TrailingText}
+use Rattle.refusal_codes.specs.declared.rule.Rule.TheVariants.{NotUtf8, UnexpectedByte,
+    UnexpectedEnd, BadEscape, DuplicateKey, TooDeep, TrailingText}
 use Rattle.plist_reader.specs.declared.tree.Tree.{Tree}
 use Rattle.plist_reader.specs.declared.tree.TreeNode.{TreeNode}
 use Rattle.plist_reader.specs.declared.tree.TreeValue.{TreeValue}
 use Rattle.plist_reader.specs.declared.tree.TreeValue.TheVariants as tree
 use Rattle.plist_reader.specs.Characters.{is_space, is_word, octal_value, hex_value, byte_of}
-use Rattle.plist_reader.specs.Escapes.{character_of, escape_begun, escape_unit, escape_digit, escape_next}
+use Rattle.plist_reader.specs.Escapes.{character_of, escape_begun, escape_unit, escape_digit,
+    escape_next}
 use Rattle.plist_reader.specs.Refusals.{IsRefusal, refusal}
 use Rattle.plist_reader.proofs.OneAnswer.{refusal-of}
-use Rattle.plist_reader.specs.Reading.{start, value_ended, key_ended, text_ended, unexpected_rule, text_begun, bracket_opened, value_begun, list_closed, dictionary_closed, between, in_word, in_quoted, in_bytes, in_half, step, whole, finish, read_of}
+use Rattle.plist_reader.specs.Reading.{start, value_ended, key_ended, text_ended, unexpected_rule,
+    text_begun, bracket_opened, value_begun, list_closed, dictionary_closed, between, in_word,
+    in_quoted, in_bytes, in_half, step, whole, finish, read_of}
 
 -- what an answer unfolds to compute what is read of a literal
 on_literals : ⊤
-unfolding read_of is_utf8 chars utf8_valid_len encode is_space is_word octal_value hex_value byte_of character_of escape_begun escape_unit escape_digit escape_next start value_ended key_ended text_ended unexpected_rule text_begun bracket_opened value_begun list_closed dictionary_closed between in_word in_quoted in_bytes in_half step whole finish
+unfolding read_of is_utf8 chars utf8_valid_len encode is_space is_word octal_value hex_value byte_of
+    character_of escape_begun escape_unit escape_digit escape_next start value_ended key_ended
+    text_ended unexpected_rule text_begun bracket_opened value_begun list_closed dictionary_closed
+    between in_word in_quoted in_bytes in_half step whole finish
 on_literals = tt
 
 abbrev refusal_in : Result Tree Refusal → Option Refusal
@@ -31,8 +40,15 @@ refusal_in (Err r) = Some r
 abbrev outcomes : List (List ℕ) → List (Option Refusal)
 outcomes texts = map (λ text. refusal_in (read_of text)) texts
 
--- each rule: an empty text, text behind the value, a key twice, an escape that is none, an end too early, a missing value, a bad byte, and a bracket too deep
-first_refusals : outcomes (([]) ∷ (codes "{a = 1;} x") ∷ (codes "{a=1;a=2;}") ∷ (codes "{a=" ++ (34 ∷ 92 ∷ (codes "q" ++ (34 ∷ (codes ";}"))))) ∷ (codes "{a=(1,2") ∷ (codes "{a=;}") ∷ (255 ∷ []) ∷ (codes "(((((((((((((((((((((((((((((((((((((((((((((((((((((((((((((((((") ∷ []) ≡ Some (refusal UnexpectedEnd 0) ∷ Some (refusal TrailingText 9) ∷ Some (refusal DuplicateKey 5) ∷ Some (refusal BadEscape 4) ∷ Some (refusal UnexpectedEnd 7) ∷ Some (refusal UnexpectedByte 3) ∷ Some (refusal NotUtf8 0) ∷ Some (refusal TooDeep 64) ∷ []
+-- each rule: an empty text, text behind the value, a key twice, an escape that is none, an end too
+-- early, a missing value, a bad byte, and a bracket too deep
+first_refusals : outcomes (([]) ∷ (codes "{a = 1;} x") ∷ (codes "{a=1;a=2;}")
+    ∷ (codes "{a=" ++ (34 ∷ 92 ∷ (codes "q" ++ (34 ∷ (codes ";}"))))) ∷ (codes "{a=(1,2")
+    ∷ (codes "{a=;}") ∷ (255 ∷ []) ∷ (codes
+    "(((((((((((((((((((((((((((((((((((((((((((((((((((((((((((((((((") ∷ [])
+    ≡ Some (refusal UnexpectedEnd 0) ∷ Some (refusal TrailingText 9) ∷ Some (refusal DuplicateKey 5)
+    ∷ Some (refusal BadEscape 4) ∷ Some (refusal UnexpectedEnd 7) ∷ Some (refusal UnexpectedByte 3)
+    ∷ Some (refusal NotUtf8 0) ∷ Some (refusal TooDeep 64) ∷ []
 unfolding on_literals
 first_refusals = refl
 
@@ -67,55 +83,146 @@ too_deep_refused : IsRefusal too_many_brackets (refusal TooDeep 64)
 too_deep_refused = refusal-of too_many_brackets (refusal TooDeep 64) too_deep_computed
 
 -- a key stands twice whether it is bare or quoted; a word is known as a key only where it has ended
-keys_twice : outcomes ((codes "{a=1;" ++ (34 ∷ (codes "a" ++ (34 ∷ (codes "=2;}"))))) ∷ (codes "{a=1;a") ∷ (codes "{a=1;a ") ∷ (codes "{a=1;a" ++ (34 ∷ [])) ∷ (codes "{a=1;" ++ (34 ∷ (codes "a"))) ∷ (codes "{a=1;" ++ (34 ∷ (codes "a" ++ (34 ∷ [])))) ∷ (codes "{a=1;aa=2;}") ∷ (codes "{a=1;b={a=2;};}") ∷ (codes "{a=1;b=2;a=3;}") ∷ (codes "{a=1;" ++ (34 ∷ 92 ∷ (codes "141" ++ (34 ∷ (codes "=2;}"))))) ∷ []) ≡ Some (refusal DuplicateKey 5) ∷ Some (refusal UnexpectedEnd 6) ∷ Some (refusal DuplicateKey 5) ∷ Some (refusal DuplicateKey 5) ∷ Some (refusal UnexpectedEnd 7) ∷ Some (refusal DuplicateKey 5) ∷ None ∷ None ∷ Some (refusal DuplicateKey 9) ∷ Some (refusal DuplicateKey 5) ∷ []
+keys_twice : outcomes ((codes "{a=1;" ++ (34 ∷ (codes "a" ++ (34 ∷ (codes "=2;}")))))
+    ∷ (codes "{a=1;a") ∷ (codes "{a=1;a ") ∷ (codes "{a=1;a" ++ (34 ∷ []))
+    ∷ (codes "{a=1;" ++ (34 ∷ (codes "a"))) ∷ (codes "{a=1;" ++ (34 ∷ (codes "a" ++ (34 ∷ []))))
+    ∷ (codes "{a=1;aa=2;}") ∷ (codes "{a=1;b={a=2;};}") ∷ (codes "{a=1;b=2;a=3;}")
+    ∷ (codes "{a=1;" ++ (34 ∷ 92 ∷ (codes "141" ++ (34 ∷ (codes "=2;}"))))) ∷ [])
+    ≡ Some (refusal DuplicateKey 5) ∷ Some (refusal UnexpectedEnd 6) ∷ Some (refusal DuplicateKey 5)
+    ∷ Some (refusal DuplicateKey 5) ∷ Some (refusal UnexpectedEnd 7) ∷ Some (refusal DuplicateKey 5)
+    ∷ None ∷ None ∷ Some (refusal DuplicateKey 9) ∷ Some (refusal DuplicateKey 5) ∷ []
 unfolding on_literals
 keys_twice = refl
 
 -- a high surrogate is followed by a low one, and the two are one escape; no low one stands first
-surrogates : outcomes ((34 ∷ 92 ∷ (codes "Ud83d" ++ (34 ∷ []))) ∷ (34 ∷ 92 ∷ (codes "Ude00" ++ (34 ∷ []))) ∷ (34 ∷ 92 ∷ (codes "Ud83d" ++ (92 ∷ (codes "Ude00" ++ (34 ∷ []))))) ∷ (34 ∷ 92 ∷ (codes "Ud83dx" ++ (34 ∷ []))) ∷ (34 ∷ 92 ∷ (codes "Ud83d")) ∷ (34 ∷ 92 ∷ (codes "Ud83d" ++ (92 ∷ []))) ∷ (34 ∷ 92 ∷ (codes "Ud83d" ++ (92 ∷ (codes "Ud")))) ∷ (34 ∷ 92 ∷ (codes "Ud83d" ++ (92 ∷ (codes "Uda")))) ∷ (34 ∷ 92 ∷ (codes "UD")) ∷ (34 ∷ 92 ∷ (codes "UDC")) ∷ (34 ∷ 92 ∷ (codes "Udbff" ++ (92 ∷ (codes "Udfff" ++ (34 ∷ []))))) ∷ (34 ∷ 92 ∷ (codes "Ue000" ++ (34 ∷ []))) ∷ []) ≡ Some (refusal BadEscape 1) ∷ Some (refusal BadEscape 1) ∷ None ∷ Some (refusal BadEscape 1) ∷ Some (refusal UnexpectedEnd 7) ∷ Some (refusal UnexpectedEnd 8) ∷ Some (refusal UnexpectedEnd 10) ∷ Some (refusal BadEscape 1) ∷ Some (refusal UnexpectedEnd 4) ∷ Some (refusal BadEscape 1) ∷ None ∷ None ∷ []
+surrogates : outcomes ((34 ∷ 92 ∷ (codes "Ud83d" ++ (34 ∷ [])))
+    ∷ (34 ∷ 92 ∷ (codes "Ude00" ++ (34 ∷ [])))
+    ∷ (34 ∷ 92 ∷ (codes "Ud83d" ++ (92 ∷ (codes "Ude00" ++ (34 ∷ [])))))
+    ∷ (34 ∷ 92 ∷ (codes "Ud83dx" ++ (34 ∷ []))) ∷ (34 ∷ 92 ∷ (codes "Ud83d"))
+    ∷ (34 ∷ 92 ∷ (codes "Ud83d" ++ (92 ∷ []))) ∷ (34 ∷ 92 ∷ (codes "Ud83d" ++ (92 ∷ (codes "Ud"))))
+    ∷ (34 ∷ 92 ∷ (codes "Ud83d" ++ (92 ∷ (codes "Uda")))) ∷ (34 ∷ 92 ∷ (codes "UD"))
+    ∷ (34 ∷ 92 ∷ (codes "UDC")) ∷ (34 ∷ 92 ∷ (codes "Udbff" ++ (92 ∷ (codes "Udfff" ++ (34 ∷ [])))))
+    ∷ (34 ∷ 92 ∷ (codes "Ue000" ++ (34 ∷ []))) ∷ [])
+    ≡ Some (refusal BadEscape 1) ∷ Some (refusal BadEscape 1) ∷ None ∷ Some (refusal BadEscape 1)
+    ∷ Some (refusal UnexpectedEnd 7) ∷ Some (refusal UnexpectedEnd 8)
+    ∷ Some (refusal UnexpectedEnd 10) ∷ Some (refusal BadEscape 1) ∷ Some (refusal UnexpectedEnd 4)
+    ∷ Some (refusal BadEscape 1) ∷ None ∷ None ∷ []
 unfolding on_literals
 surrogates = refl
 
 -- three octal digits up to 177
-octal_escapes : outcomes ((34 ∷ 92 ∷ (codes "200" ++ (34 ∷ []))) ∷ (34 ∷ 92 ∷ (codes "177" ++ (34 ∷ []))) ∷ (34 ∷ 92 ∷ (codes "000" ++ (34 ∷ []))) ∷ (34 ∷ 92 ∷ (codes "18" ++ (34 ∷ []))) ∷ (34 ∷ 92 ∷ (codes "7" ++ (34 ∷ []))) ∷ (34 ∷ 92 ∷ (codes "1" ++ (34 ∷ []))) ∷ []) ≡ Some (refusal BadEscape 1) ∷ None ∷ None ∷ Some (refusal BadEscape 1) ∷ Some (refusal BadEscape 1) ∷ Some (refusal BadEscape 1) ∷ []
+octal_escapes : outcomes ((34 ∷ 92 ∷ (codes "200" ++ (34 ∷ [])))
+    ∷ (34 ∷ 92 ∷ (codes "177" ++ (34 ∷ []))) ∷ (34 ∷ 92 ∷ (codes "000" ++ (34 ∷ [])))
+    ∷ (34 ∷ 92 ∷ (codes "18" ++ (34 ∷ []))) ∷ (34 ∷ 92 ∷ (codes "7" ++ (34 ∷ [])))
+    ∷ (34 ∷ 92 ∷ (codes "1" ++ (34 ∷ []))) ∷ [])
+    ≡ Some (refusal BadEscape 1) ∷ None ∷ None ∷ Some (refusal BadEscape 1)
+    ∷ Some (refusal BadEscape 1) ∷ Some (refusal BadEscape 1) ∷ []
 unfolding on_literals
 octal_escapes = refl
 
 -- two digits make a byte, and white space may stand anywhere
-byte_strings : outcomes ((codes "<a>") ∷ (codes "<a b>") ∷ (codes "<ab c>") ∷ (codes "<>") ∷ (codes "< 0a" ++ (9 ∷ (codes "F>"))) ∷ (codes "<0g>") ∷ (codes "<0") ∷ []) ≡ Some (refusal UnexpectedByte 2) ∷ None ∷ Some (refusal UnexpectedByte 5) ∷ None ∷ Some (refusal UnexpectedByte 6) ∷ Some (refusal UnexpectedByte 2) ∷ Some (refusal UnexpectedEnd 2) ∷ []
+byte_strings : outcomes ((codes "<a>") ∷ (codes "<a b>") ∷ (codes "<ab c>") ∷ (codes "<>")
+    ∷ (codes "< 0a" ++ (9 ∷ (codes "F>"))) ∷ (codes "<0g>") ∷ (codes "<0") ∷ [])
+    ≡ Some (refusal UnexpectedByte 2) ∷ None ∷ Some (refusal UnexpectedByte 5) ∷ None
+    ∷ Some (refusal UnexpectedByte 6) ∷ Some (refusal UnexpectedByte 2)
+    ∷ Some (refusal UnexpectedEnd 2) ∷ []
 unfolding on_literals
 byte_strings = refl
 
 -- what is no UTF-8 comes before all else
-bad_bytes : outcomes ((255 ∷ (codes "}")) ∷ (codes "}" ++ (255 ∷ [])) ∷ (codes "{a=1;a=2;" ++ (255 ∷ [])) ∷ (34 ∷ 195 ∷ 34 ∷ []) ∷ (34 ∷ 195 ∷ 169 ∷ 34 ∷ []) ∷ (195 ∷ 169 ∷ []) ∷ []) ≡ Some (refusal NotUtf8 0) ∷ Some (refusal NotUtf8 1) ∷ Some (refusal NotUtf8 9) ∷ Some (refusal NotUtf8 1) ∷ None ∷ Some (refusal UnexpectedByte 0) ∷ []
+bad_bytes : outcomes ((255 ∷ (codes "}")) ∷ (codes "}" ++ (255 ∷ []))
+    ∷ (codes "{a=1;a=2;" ++ (255 ∷ [])) ∷ (34 ∷ 195 ∷ 34 ∷ []) ∷ (34 ∷ 195 ∷ 169 ∷ 34 ∷ [])
+    ∷ (195 ∷ 169 ∷ []) ∷ []) ≡ Some (refusal NotUtf8 0) ∷ Some (refusal NotUtf8 1)
+    ∷ Some (refusal NotUtf8 9) ∷ Some (refusal NotUtf8 1) ∷ None ∷ Some (refusal UnexpectedByte 0)
+    ∷ []
 unfolding on_literals
 bad_bytes = refl
 
 -- commas stand between values, and one may stand behind the last
-lists : outcomes ((codes "()") ∷ (codes "(1,)") ∷ (codes "(,)") ∷ (codes "(1,,2)") ∷ (codes "(1 2)") ∷ (codes "{a=1}") ∷ (codes "{a}") ∷ (codes "{}x") ∷ (codes "a b") ∷ (34 ∷ (codes "a" ++ (34 ∷ (codes "b" ++ (34 ∷ []))))) ∷ []) ≡ None ∷ None ∷ Some (refusal UnexpectedByte 1) ∷ Some (refusal UnexpectedByte 3) ∷ Some (refusal UnexpectedByte 3) ∷ Some (refusal UnexpectedByte 4) ∷ Some (refusal UnexpectedByte 2) ∷ Some (refusal TrailingText 2) ∷ Some (refusal TrailingText 2) ∷ Some (refusal TrailingText 3) ∷ []
+lists : outcomes ((codes "()") ∷ (codes "(1,)") ∷ (codes "(,)") ∷ (codes "(1,,2)") ∷ (codes "(1 2)")
+    ∷ (codes "{a=1}") ∷ (codes "{a}") ∷ (codes "{}x") ∷ (codes "a b")
+    ∷ (34 ∷ (codes "a" ++ (34 ∷ (codes "b" ++ (34 ∷ []))))) ∷ [])
+    ≡ None ∷ None ∷ Some (refusal UnexpectedByte 1) ∷ Some (refusal UnexpectedByte 3)
+    ∷ Some (refusal UnexpectedByte 3) ∷ Some (refusal UnexpectedByte 4)
+    ∷ Some (refusal UnexpectedByte 2) ∷ Some (refusal TrailingText 2)
+    ∷ Some (refusal TrailingText 2) ∷ Some (refusal TrailingText 3) ∷ []
 unfolding on_literals
 lists = refl
 
 -- 64 brackets of both kinds may be open, and no more, also where no bracket may stand
-depths : outcomes ((codes "(((((((((((((((((((((((((((((((((((((((((((((((((((((((((((((((())))))))))))))))))))))))))))))))))))))))))))))))))))))))))))))))") ∷ (codes "(((((((((((((((((((((((((((((((((((((((((((((((((((((((((((((((({") ∷ (codes "({a=({a=({a=({a=({a=({a=({a=({a=({a=({a=({a=({a=({a=({a=({a=({a=({a=({a=({a=({a=({a=({a=({a=({a=({a=({a=({a=({a=({a=({a=({a=({a=1;});});});});});});});});});});});});});});});});});});});});});});});});});});});});});});});})") ∷ (codes "({a=({a=({a=({a=({a=({a=({a=({a=({a=({a=({a=({a=({a=({a=({a=({a=({a=({a=({a=({a=({a=({a=({a=({a=({a=({a=({a=({a=({a=({a=({a=({a=(") ∷ (codes "({a=({a=({a=({a=({a=({a=({a=({a=({a=({a=({a=({a=({a=({a=({a=({a=({a=({a=({a=({a=({a=({a=({a=({a=({a=({a=({a=({a=({a=({a=({a=({a=b(") ∷ (codes "({a=({a=({a=({a=({a=({a=({a=({a=({a=({a=({a=({a=({a=({a=({a=({a=({a=({a=({a=({a=({a=({a=({a=({a=({a=({a=({a=({a=({a=({a=({a=({a=" ++ (34 ∷ (codes "(" ++ (34 ∷ (codes ";});});});});});});});});});});});});});});});});});});});});});});});});});});});});});});});})"))))) ∷ []) ≡ None ∷ Some (refusal TooDeep 64) ∷ None ∷ Some (refusal TooDeep 128) ∷ Some (refusal TooDeep 129) ∷ None ∷ []
+depths : outcomes ((codes
+    "(((((((((((((((((((((((((((((((((((((((((((((((((((((((((((((((())))))))))))))))))))))))))))))))))))))))))))))))))))))))))))))))") ∷ (codes "(((((((((((((((((((((((((((((((((((((((((((((((((((((((((((((((({") ∷ (codes "({a=({a=({a=({a=({a=({a=({a=({a=({a=({a=({a=({a=({a=({a=({a=({a=({a=({a=({a=({a=({a=({a=({a=({a=({a=({a=({a=({a=({a=({a=({a=({a=1;});});});});});});});});});});});});});});});});});});});});});});});});});});});});});});});})") ∷ (codes "({a=({a=({a=({a=({a=({a=({a=({a=({a=({a=({a=({a=({a=({a=({a=({a=({a=({a=({a=({a=({a=({a=({a=({a=({a=({a=({a=({a=({a=({a=({a=({a=(") ∷ (codes "({a=({a=({a=({a=({a=({a=({a=({a=({a=({a=({a=({a=({a=({a=({a=({a=({a=({a=({a=({a=({a=({a=({a=({a=({a=({a=({a=({a=({a=({a=({a=({a=b(") ∷ (codes "({a=({a=({a=({a=({a=({a=({a=({a=({a=({a=({a=({a=({a=({a=({a=({a=({a=({a=({a=({a=({a=({a=({a=({a=({a=({a=({a=({a=({a=({a=({a=({a=" ++ (34 ∷ (codes "(" ++ (34 ∷ (codes ";});});});});});});});});});});});});});});});});});});});});});});});});});});});});});});});})"))))) ∷ []) ≡ None ∷ Some (refusal TooDeep 64) ∷ None ∷ Some (refusal TooDeep 128) ∷ Some (refusal TooDeep 129) ∷ None ∷ []
 unfolding on_literals
 depths = refl
 
--- places count bytes, so also behind a character of two: text behind the value, and an escape that is none
-behind_accents : outcomes ((34 ∷ 195 ∷ 169 ∷ 34 ∷ (codes "x")) ∷ (34 ∷ 195 ∷ 169 ∷ 92 ∷ (codes "q" ++ (34 ∷ []))) ∷ [])
+-- places count bytes, so also behind a character of two: text behind the value, and an escape that
+-- is none
+behind_accents : outcomes ((34 ∷ 195 ∷ 169 ∷ 34 ∷ (codes "x"))
+    ∷ (34 ∷ 195 ∷ 169 ∷ 92 ∷ (codes "q" ++ (34 ∷ []))) ∷ [])
     ≡ Some (refusal TrailingText 4) ∷ Some (refusal BadEscape 3) ∷ []
 unfolding on_literals
 behind_accents = refl
 
--- of several rules the first holds: a bracket too deep also in a byte string, a key twice before a bracket too deep, and an escape
+-- of several rules the first holds: a bracket too deep also in a byte string, a key twice before a
+-- bracket too deep, and an escape
 -- before both
-first_of_several : outcomes ((replicate 64 40 ++ codes "<(") ∷ (replicate 63 40 ++ codes "{a=1;a(") ∷ (replicate 64 40 ++ (34 ∷ 92 ∷ (codes "("))) ∷ [])
+first_of_several : outcomes ((replicate 64 40 ++ codes "<(") ∷ (replicate 63 40 ++ codes "{a=1;a(")
+    ∷ (replicate 64 40 ++ (34 ∷ 92 ∷ (codes "("))) ∷ [])
     ≡ Some (refusal TooDeep 65) ∷ Some (refusal DuplicateKey 68) ∷ Some (refusal BadEscape 65) ∷ []
 unfolding on_literals
 first_of_several = refl
 
 -- texts of random characters, compared with that other program
-from_outside : outcomes ((codes "(a1") ∷ (codes "a){;)" ++ (92 ∷ (codes "}1" ++ (92 ∷ 34 ∷ (codes "(" ++ (92 ∷ [])))))) ∷ (codes "()") ∷ (codes "1" ++ (92 ∷ (codes "1"))) ∷ (34 ∷ 92 ∷ (codes "Ud83d" ++ (34 ∷ []))) ∷ (codes "a<,") ∷ (codes "{a=(1,2,);}") ∷ (codes "{a=1;aa=2;}") ∷ (codes "aa=><," ++ (92 ∷ (codes "a" ++ (10 ∷ 10 ∷ (codes ")("))))) ∷ (codes "1, ;} " ++ (9 ∷ 34 ∷ [])) ∷ (codes "a1{" ++ (9 ∷ (codes ";" ++ (9 ∷ (codes "<="))))) ∷ (34 ∷ 92 ∷ (codes "U00g" ++ (34 ∷ []))) ∷ (codes "() " ++ (34 ∷ (codes "}"))) ∷ (codes "a)}") ∷ (34 ∷ 92 ∷ []) ∷ (codes " " ++ (9 ∷ (codes "a}1"))) ∷ (codes " a," ++ (9 ∷ (codes "("))) ∷ (codes "{" ++ (34 ∷ 34 ∷ (codes "=1;}"))) ∷ (codes "<>1") ∷ (34 ∷ (codes "a" ++ (10 ∷ (codes "b" ++ (34 ∷ []))))) ∷ (9 ∷ (codes " {")) ∷ (codes " " ++ (34 ∷ 10 ∷ [])) ∷ (codes "1aa>;" ++ (34 ∷ (codes "a{" ++ (34 ∷ (codes ";" ++ (9 ∷ (codes "<"))))))) ∷ (codes "a<" ++ (9 ∷ [])) ∷ (codes ")((,)<( {,}" ++ (10 ∷ [])) ∷ (codes "{a<") ∷ (codes " ;" ++ (92 ∷ [])) ∷ (codes "<" ++ (9 ∷ 92 ∷ (codes "}a"))) ∷ (codes "< (") ∷ (codes ">a(;;{" ++ (10 ∷ (codes ")" ++ (34 ∷ (codes ");="))))) ∷ (codes "{<)=)=>=") ∷ (codes ";" ++ (92 ∷ (codes "(()"))) ∷ (codes ";}a") ∷ (codes "," ++ (9 ∷ (codes ">{" ++ (10 ∷ [])))) ∷ (codes ">" ++ (10 ∷ 9 ∷ 195 ∷ 169 ∷ 34 ∷ (codes "a>"))) ∷ (codes "(a(") ∷ (92 ∷ (codes "=,")) ∷ (codes ">" ++ (92 ∷ 92 ∷ [])) ∷ (codes "<" ++ (9 ∷ 92 ∷ 9 ∷ (codes ", }" ++ (34 ∷ [])))) ∷ (codes "=} ") ∷ (codes "><a<} ),") ∷ (codes "{={1" ++ (92 ∷ 10 ∷ (codes ")" ++ (34 ∷ (codes ";;a)"))))) ∷ (codes "(," ++ (34 ∷ (codes "}="))) ∷ (codes "<" ++ (92 ∷ (codes ">"))) ∷ (codes "<" ++ (255 ∷ (codes ">" ++ (195 ∷ (codes "," ++ (10 ∷ (codes ",>a()" ++ (92 ∷ [])))))))) ∷ (codes "=<" ++ (255 ∷ (codes "(<a,>"))) ∷ (codes ",;" ++ (195 ∷ (codes ";))" ++ (169 ∷ 169 ∷ [])))) ∷ (34 ∷ 195 ∷ 34 ∷ []) ∷ (255 ∷ (codes ")" ++ (195 ∷ (codes "1" ++ (34 ∷ 9 ∷ (codes "=>")))))) ∷ (34 ∷ (codes "(a" ++ (169 ∷ 9 ∷ (codes ") " ++ (9 ∷ []))))) ∷ (codes " a" ++ (169 ∷ [])) ∷ (34 ∷ (codes "= a(,>" ++ (195 ∷ 195 ∷ (codes "1<a")))) ∷ []) ≡ Some (refusal UnexpectedEnd 3) ∷ Some (refusal TrailingText 1) ∷ None ∷ Some (refusal TrailingText 1) ∷ Some (refusal BadEscape 1) ∷ Some (refusal TrailingText 1) ∷ None ∷ None ∷ Some (refusal TrailingText 2) ∷ Some (refusal TrailingText 1) ∷ Some (refusal TrailingText 2) ∷ Some (refusal BadEscape 1) ∷ Some (refusal TrailingText 3) ∷ Some (refusal TrailingText 1) ∷ Some (refusal UnexpectedEnd 2) ∷ Some (refusal TrailingText 3) ∷ Some (refusal TrailingText 2) ∷ None ∷ Some (refusal TrailingText 2) ∷ None ∷ Some (refusal UnexpectedEnd 3) ∷ Some (refusal UnexpectedEnd 3) ∷ Some (refusal TrailingText 3) ∷ Some (refusal TrailingText 1) ∷ Some (refusal UnexpectedByte 0) ∷ Some (refusal UnexpectedByte 2) ∷ Some (refusal UnexpectedByte 1) ∷ Some (refusal UnexpectedByte 2) ∷ Some (refusal UnexpectedByte 2) ∷ Some (refusal UnexpectedByte 0) ∷ Some (refusal UnexpectedByte 1) ∷ Some (refusal UnexpectedByte 0) ∷ Some (refusal UnexpectedByte 0) ∷ Some (refusal UnexpectedByte 0) ∷ Some (refusal UnexpectedByte 0) ∷ Some (refusal UnexpectedByte 2) ∷ Some (refusal UnexpectedByte 0) ∷ Some (refusal UnexpectedByte 0) ∷ Some (refusal UnexpectedByte 2) ∷ Some (refusal UnexpectedByte 0) ∷ Some (refusal UnexpectedByte 0) ∷ Some (refusal UnexpectedByte 1) ∷ Some (refusal UnexpectedByte 1) ∷ Some (refusal UnexpectedByte 1) ∷ Some (refusal NotUtf8 1) ∷ Some (refusal NotUtf8 2) ∷ Some (refusal NotUtf8 2) ∷ Some (refusal NotUtf8 1) ∷ Some (refusal NotUtf8 0) ∷ Some (refusal NotUtf8 3) ∷ Some (refusal NotUtf8 2) ∷ Some (refusal NotUtf8 7) ∷ []
+from_outside : outcomes ((codes "(a1") ∷
+    (codes "a){;)" ++ (92 ∷ (codes "}1" ++ (92 ∷ 34 ∷ (codes "(" ++ (92 ∷ [])))))) ∷ (codes "()")
+    ∷ (codes "1" ++ (92 ∷ (codes "1"))) ∷ (34 ∷ 92 ∷ (codes "Ud83d" ++ (34 ∷ []))) ∷ (codes "a<,")
+    ∷ (codes "{a=(1,2,);}") ∷ (codes "{a=1;aa=2;}")
+    ∷ (codes "aa=><," ++ (92 ∷ (codes "a" ++ (10 ∷ 10 ∷ (codes ")(")))))
+    ∷ (codes "1, ;} " ++ (9 ∷ 34 ∷ [])) ∷ (codes "a1{" ++ (9 ∷ (codes ";" ++ (9 ∷ (codes "<=")))))
+    ∷ (34 ∷ 92 ∷ (codes "U00g" ++ (34 ∷ []))) ∷ (codes "() " ++ (34 ∷ (codes "}"))) ∷ (codes "a)}")
+    ∷ (34 ∷ 92 ∷ []) ∷ (codes " " ++ (9 ∷ (codes "a}1"))) ∷ (codes " a," ++ (9 ∷ (codes "(")))
+    ∷ (codes "{" ++ (34 ∷ 34 ∷ (codes "=1;}"))) ∷ (codes "<>1")
+    ∷ (34 ∷ (codes "a" ++ (10 ∷ (codes "b" ++ (34 ∷ []))))) ∷ (9 ∷ (codes " {"))
+    ∷ (codes " " ++ (34 ∷ 10 ∷ [])) ∷ (codes "1aa>;"
+    ++ (34 ∷ (codes "a{" ++ (34 ∷ (codes ";" ++ (9 ∷ (codes "<"))))))) ∷ (codes "a<" ++ (9 ∷ []))
+    ∷ (codes ")((,)<( {,}" ++ (10 ∷ [])) ∷ (codes "{a<") ∷ (codes " ;" ++ (92 ∷ []))
+    ∷ (codes "<" ++ (9 ∷ 92 ∷ (codes "}a"))) ∷ (codes "< (")
+    ∷ (codes ">a(;;{" ++ (10 ∷ (codes ")" ++ (34 ∷ (codes ");="))))) ∷ (codes "{<)=)=>=")
+    ∷ (codes ";" ++ (92 ∷ (codes "(()"))) ∷ (codes ";}a")
+    ∷ (codes "," ++ (9 ∷ (codes ">{" ++ (10 ∷ []))))
+    ∷ (codes ">" ++ (10 ∷ 9 ∷ 195 ∷ 169 ∷ 34 ∷ (codes "a>"))) ∷ (codes "(a(") ∷ (92 ∷ (codes "=,"))
+    ∷ (codes ">" ++ (92 ∷ 92 ∷ [])) ∷ (codes "<" ++ (9 ∷ 92 ∷ 9 ∷ (codes ", }" ++ (34 ∷ []))))
+    ∷ (codes "=} ") ∷ (codes "><a<} ),") ∷
+    (codes "{={1" ++ (92 ∷ 10 ∷ (codes ")" ++ (34 ∷ (codes ";;a)")))))
+    ∷ (codes "(," ++ (34 ∷ (codes "}="))) ∷ (codes "<" ++ (92 ∷ (codes ">")))
+    ∷ (codes "<" ++ (255 ∷ (codes ">" ++ (195
+    ∷ (codes "," ++ (10 ∷ (codes ",>a()" ++ (92 ∷ []))))))))
+    ∷ (codes "=<" ++ (255 ∷ (codes "(<a,>")))
+    ∷ (codes ",;" ++ (195 ∷ (codes ";))" ++ (169 ∷ 169 ∷ [])))) ∷ (34 ∷ 195 ∷ 34 ∷ [])
+    ∷ (255 ∷ (codes ")" ++ (195 ∷ (codes "1" ++ (34 ∷ 9 ∷ (codes "=>"))))))
+    ∷ (34 ∷ (codes "(a" ++ (169 ∷ 9 ∷ (codes ") " ++ (9 ∷ []))))) ∷ (codes " a" ++ (169 ∷ []))
+    ∷ (34 ∷ (codes "= a(,>" ++ (195 ∷ 195 ∷ (codes "1<a")))) ∷ [])
+    ≡ Some (refusal UnexpectedEnd 3) ∷ Some (refusal TrailingText 1) ∷ None
+    ∷ Some (refusal TrailingText 1) ∷ Some (refusal BadEscape 1) ∷ Some (refusal TrailingText 1)
+    ∷ None ∷ None ∷ Some (refusal TrailingText 2) ∷ Some (refusal TrailingText 1)
+    ∷ Some (refusal TrailingText 2) ∷ Some (refusal BadEscape 1) ∷ Some (refusal TrailingText 3)
+    ∷ Some (refusal TrailingText 1) ∷ Some (refusal UnexpectedEnd 2) ∷ Some (refusal TrailingText 3)
+    ∷ Some (refusal TrailingText 2) ∷ None ∷ Some (refusal TrailingText 2) ∷ None
+    ∷ Some (refusal UnexpectedEnd 3) ∷ Some (refusal UnexpectedEnd 3)
+    ∷ Some (refusal TrailingText 3) ∷ Some (refusal TrailingText 1)
+    ∷ Some (refusal UnexpectedByte 0) ∷ Some (refusal UnexpectedByte 2)
+    ∷ Some (refusal UnexpectedByte 1) ∷ Some (refusal UnexpectedByte 2)
+    ∷ Some (refusal UnexpectedByte 2) ∷ Some (refusal UnexpectedByte 0)
+    ∷ Some (refusal UnexpectedByte 1) ∷ Some (refusal UnexpectedByte 0)
+    ∷ Some (refusal UnexpectedByte 0) ∷ Some (refusal UnexpectedByte 0)
+    ∷ Some (refusal UnexpectedByte 0) ∷ Some (refusal UnexpectedByte 2)
+    ∷ Some (refusal UnexpectedByte 0) ∷ Some (refusal UnexpectedByte 0)
+    ∷ Some (refusal UnexpectedByte 2) ∷ Some (refusal UnexpectedByte 0)
+    ∷ Some (refusal UnexpectedByte 0) ∷ Some (refusal UnexpectedByte 1)
+    ∷ Some (refusal UnexpectedByte 1) ∷ Some (refusal UnexpectedByte 1) ∷ Some (refusal NotUtf8 1)
+    ∷ Some (refusal NotUtf8 2) ∷ Some (refusal NotUtf8 2) ∷ Some (refusal NotUtf8 1)
+    ∷ Some (refusal NotUtf8 0) ∷ Some (refusal NotUtf8 3) ∷ Some (refusal NotUtf8 2)
+    ∷ Some (refusal NotUtf8 7) ∷ []
 unfolding on_literals
 from_outside = refl
 
@@ -125,7 +232,13 @@ abbrev lines : List (List ℕ) → List ℕ
 lines texts = flat_map (λ text. text ++ 10 ∷ []) texts
 
 abbrev triangle : List ℕ
-triangle = lines (codes "{" ∷ codes ".formatVersion = 3;" ∷ codes "familyName = Tri;" ∷ codes "fontMaster = (" ∷ codes "{" ∷ codes "id = m1;" ∷ codes "}" ∷ codes ");" ∷ codes "glyphs = (" ∷ codes "{" ∷ codes "glyphname = A;" ∷ codes "layers = (" ∷ codes "{" ∷ codes "layerId = m1;" ∷ codes "shapes = (" ∷ codes "{" ∷ codes "closed = 1;" ∷ codes "nodes = (" ∷ codes "(0,0,l)," ∷ codes "(500,0,l)," ∷ codes "(250,700,l)" ∷ codes ");" ∷ codes "}" ∷ codes ");" ∷ codes "width = 500;" ∷ codes "}" ∷ codes ");" ∷ codes "unicode = 65;" ∷ codes "}" ∷ codes ");" ∷ codes "unitsPerEm = 1000;" ∷ codes "}" ∷ [])
+triangle = lines (codes "{" ∷ codes ".formatVersion = 3;" ∷ codes "familyName = Tri;"
+    ∷ codes "fontMaster = (" ∷ codes "{" ∷ codes "id = m1;" ∷ codes "}" ∷ codes ");"
+    ∷ codes "glyphs = (" ∷ codes "{" ∷ codes "glyphname = A;" ∷ codes "layers = (" ∷ codes "{"
+    ∷ codes "layerId = m1;" ∷ codes "shapes = (" ∷ codes "{" ∷ codes "closed = 1;"
+    ∷ codes "nodes = (" ∷ codes "(0,0,l)," ∷ codes "(500,0,l)," ∷ codes "(250,700,l)" ∷ codes ");"
+    ∷ codes "}" ∷ codes ");" ∷ codes "width = 500;" ∷ codes "}" ∷ codes ");" ∷ codes "unicode = 65;"
+    ∷ codes "}" ∷ codes ");" ∷ codes "unitsPerEm = 1000;" ∷ codes "}" ∷ [])
 
 abbrev bracket_in : TreeNode → TreeValue → List (ℕ × ℕ)
 bracket_in node (tree.Text text) = []
@@ -137,9 +250,12 @@ abbrev brackets_in : Result Tree Refusal → List (ℕ × ℕ)
 brackets_in (Ok t) = flat_map (λ node. bracket_in node node.value) t.nodes
 brackets_in (Err r) = []
 
--- its lists and dictionaries, in the order in which they end: the nodes stand at 161, 170 and 181, their path at 137,
+-- its lists and dictionaries, in the order in which they end: the nodes stand at 161, 170 and 181,
+-- their path at 137,
 -- the layer at 110 and the glyph at 82
-triangle_brackets : brackets_in (read_of triangle) ≡ (55, 67) ∷ (53, 69) ∷ (161, 168) ∷ (170, 179) ∷ (181, 192) ∷ (159, 194) ∷ (137, 197) ∷ (135, 199) ∷ (110, 215) ∷ (108, 217) ∷ (82, 234) ∷ (80, 236) ∷ (0, 258) ∷ []
+triangle_brackets : brackets_in (read_of triangle)
+    ≡ (55, 67) ∷ (53, 69) ∷ (161, 168) ∷ (170, 179) ∷ (181, 192) ∷ (159, 194) ∷ (137, 197)
+    ∷ (135, 199) ∷ (110, 215) ∷ (108, 217) ∷ (82, 234) ∷ (80, 236) ∷ (0, 258) ∷ []
 unfolding on_literals
 triangle_brackets = refl
 
@@ -148,7 +264,8 @@ triangle_behind : outcomes ((triangle ++ codes "end") ∷ []) ≡ Some (refusal 
 unfolding on_literals
 triangle_behind = refl
 
-triangle_fronts : map (λ n. refusal_in (read_of (take n triangle))) (range_with_len 0 258) ≡ map (λ n. Some (refusal UnexpectedEnd n)) (range_with_len 0 258)
+triangle_fronts : map (λ n. refusal_in (read_of (take n triangle))) (range_with_len 0 258)
+    ≡ map (λ n. Some (refusal UnexpectedEnd n)) (range_with_len 0 258)
 unfolding on_literals
 triangle_fronts = refl
 
@@ -159,19 +276,30 @@ triangle_trimmed = refl
 
 -- ---- trees
 
--- a string may have line feeds as they are, and characters beyond ASCII of two, three and four bytes
-raw_string : read_of (34 ∷ 97 ∷ 10 ∷ 195 ∷ 169 ∷ 226 ∷ 130 ∷ 172 ∷ 240 ∷ 159 ∷ 152 ∷ 128 ∷ 34 ∷ []) ≡ Ok (record { nodes = record { place = 0; end = 13; value = tree.Text (97 ∷ 10 ∷ 195 ∷ 169 ∷ 226 ∷ 130 ∷ 172 ∷ 240 ∷ 159 ∷ 152 ∷ 128 ∷ []) } ∷ []; top = 0 })
+-- a string may have line feeds as they are, and characters beyond ASCII of two, three and four
+-- bytes
+raw_string : read_of (34 ∷ 97 ∷ 10 ∷ 195 ∷ 169 ∷ 226 ∷ 130 ∷ 172 ∷ 240 ∷ 159 ∷ 152 ∷ 128 ∷ 34 ∷ [])
+    ≡ Ok (record { nodes = record { place = 0; end = 13; value
+    = tree.Text (97 ∷ 10 ∷ 195 ∷ 169 ∷ 226 ∷ 130 ∷ 172 ∷ 240 ∷ 159 ∷ 152 ∷ 128 ∷ []) }
+    ∷ []; top = 0 })
 unfolding on_literals
 raw_string = refl
 
 -- escapes are undone, and each value has its place and end
-quoted_tree : read_of (codes " " ++ (34 ∷ (codes "a" ++ (92 ∷ (codes "n" ++ (92 ∷ (codes "Ud83d" ++ (92 ∷ (codes "Ude00" ++ (34 ∷ [])))))))))) ≡ Ok (record { nodes = record { place = 1; end = 18; value = tree.Text (97 ∷ 10 ∷ 240 ∷ 159 ∷ 152 ∷ 128 ∷ []) } ∷ []; top = 0 })
+quoted_tree : read_of (codes " " ++ (34 ∷
+    (codes "a" ++ (92 ∷ (codes "n" ++ (92 ∷
+    (codes "Ud83d" ++ (92 ∷ (codes "Ude00" ++ (34 ∷ []))))))))))
+    ≡ Ok (record { nodes = record { place = 1; end = 18; value
+    = tree.Text (97 ∷ 10 ∷ 240 ∷ 159 ∷ 152 ∷ 128 ∷ []) } ∷ []; top = 0 })
 unfolding on_literals
 quoted_tree = refl
 
 -- each escape: a carriage return, a tab, a quote, a backslash, a unit of UTF-16, and octal digits
-escaped_tree : read_of (34 ∷ 92 ∷ (codes "r" ++ (92 ∷ (codes "t" ++ (92 ∷ 34 ∷ 92 ∷ 92 ∷ 92 ∷ (codes "U00e9" ++ (92 ∷ (codes "101" ++ (34 ∷ [])))))))))
-    ≡ Ok (record { nodes = record { place = 0; end = 20; value = tree.Text (13 ∷ 9 ∷ 34 ∷ 92 ∷ 195 ∷ 169 ∷ 65 ∷ []) } ∷ []; top = 0 })
+escaped_tree : read_of (34 ∷ 92 ∷ (codes "r"
+    ++ (92 ∷ (codes "t" ++ (92 ∷ 34 ∷ 92 ∷ 92 ∷ 92
+    ∷ (codes "U00e9" ++ (92 ∷ (codes "101" ++ (34 ∷ [])))))))))
+    ≡ Ok (record { nodes = record { place = 0; end = 20; value
+        = tree.Text (13 ∷ 9 ∷ 34 ∷ 92 ∷ 195 ∷ 169 ∷ 65 ∷ []) } ∷ []; top = 0 })
 unfolding on_literals
 escaped_tree = refl
 

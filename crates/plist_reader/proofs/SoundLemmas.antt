@@ -1,5 +1,6 @@
 -- What holds of a reader at each place, and so of each tree that it gives.
-use Rattle.std.proofs.Common.{◌≡◌, ℕ, ◌+◌, ◌<◌, ◌≤◌, List, [], ◌∷◌, ◌++◌, length, refl, ap, subst, ◌∙◌, arith}
+use Rattle.std.proofs.Common.{◌≡◌, ℕ, ◌+◌, ◌<◌, ◌≤◌, List, [], ◌∷◌, ◌++◌, length, refl, ap, subst,
+    ◌∙◌, arith}
 use Rattle.std.specs.List.{All, AllByRecursion}
 use Rattle.std.proofs.lemmas.List.{length_push}
 use Rattle.std.proofs.lemmas.List.Elements.{All-push, All-weaker}
@@ -8,13 +9,16 @@ use Rattle.plist_reader.specs.declared.tree.TreeValue.{TreeValue}
 use Rattle.plist_reader.specs.declared.tree.TreeValue.TheVariants as tree
 use Rattle.plist_reader.specs.declared.reader.Reader.{Reader}
 use Rattle.plist_reader.specs.declared.reader.Phase.{Phase}
-use Rattle.plist_reader.specs.declared.reader.Phase.TheVariants.{Value, Item, ItemEnd, Key, KeyEnd, PairEnd, End}
+use Rattle.plist_reader.specs.declared.reader.Phase.TheVariants.{Value, Item, ItemEnd, Key, KeyEnd,
+    PairEnd, End}
 use Rattle.plist_reader.specs.declared.reader.Token.{Token}
-use Rattle.plist_reader.specs.declared.reader.Token.TheVariants.{Between, Word, Quoted, Escape, Bytes, Half}
+use Rattle.plist_reader.specs.declared.reader.Token.TheVariants.{Between, Word, Quoted, Escape,
+    Bytes, Half}
 use Rattle.plist_reader.specs.declared.reader.Open.{Open}
 use Rattle.plist_reader.specs.declared.reader.Open.TheVariants.{Items, Pairs}
 use Rattle.plist_reader.specs.declared.escape.Escape.{Escape as EscapeState}
-use Rattle.plist_reader.specs.declared.escape.Escape.TheVariants.{Begun, Octal, Octals, Unit0, Unit1, Unit2, Unit3, High, HighBackslash, Low, Low1, Low2, Low3}
+use Rattle.plist_reader.specs.declared.escape.Escape.TheVariants.{Begun, Octal, Octals, Unit0,
+    Unit1, Unit2, Unit3, High, HighBackslash, Low, Low1, Low2, Low3}
 use Rattle.plist_reader.specs.Reading.{with_node, ended_in, value_ended}
 
 -- ---- words
@@ -57,11 +61,13 @@ abbrev pub IsValueBy : ℕ → ℕ → TreeValue → Type 0
 IsValueBy count limit (tree.Text bytes) = length bytes ≤ limit
 IsValueBy count limit (tree.Bytes bytes) = length bytes ≤ limit
 IsValueBy count limit (tree.Items items) = (length items ≤ limit) × All (λ n. n < count) items
-IsValueBy count limit (tree.Pairs pairs) = (length pairs ≤ limit) × All (λ pair. (pair.0 < count) × (pair.1 < count)) pairs
+IsValueBy count limit (tree.Pairs pairs) = (length pairs ≤ limit)
+    × All (λ pair. (pair.0 < count) × (pair.1 < count)) pairs
 
 abbrev pub IsOpenBy : ℕ → Open → Type 0
 IsOpenBy count (Items at items) = (length items ≤ count) × All (λ n. n < count) items
-IsOpenBy count (Pairs d) = (length d.pairs ≤ count) × (d.key ≤ count) × All (λ pair. (pair.0 < count) × (pair.1 < count)) d.pairs
+IsOpenBy count (Pairs d) = (length d.pairs ≤ count) × (d.key ≤ count)
+    × All (λ pair. (pair.0 < count) × (pair.1 < count)) d.pairs
 
 abbrev pub IsPhaseBy : ℕ → Phase → Type 0
 IsPhaseBy count (End n) = n < count
@@ -86,42 +92,63 @@ pub record Sound (r : Reader) (place : ℕ) : Type 0 where
 
 -- ---- more values, a later place
 
-pub IsValueBy-more : (m n k l : ℕ) (value : TreeValue) → m ≤ n → k ≤ l → IsValueBy m k value → IsValueBy n l value
+pub IsValueBy-more : (m n k l : ℕ) (value : TreeValue) → m ≤ n → k ≤ l → IsValueBy m k value
+    → IsValueBy n l value
 IsValueBy-more m n k l (tree.Text bytes) h g v = omega (arith, v)
 IsValueBy-more m n k l (tree.Bytes bytes) h g v = omega (arith, v)
-IsValueBy-more m n k l (tree.Items items) h g v = (omega (arith, v.0), All-weaker (λ i. i < m) (λ i. i < n) (λ i q. omega arith) items v.1)
+IsValueBy-more m n k l (tree.Items items) h g v
+    = (omega (arith, v.0), All-weaker (λ i. i < m) (λ i. i < n) (λ i q. omega arith) items v.1)
 IsValueBy-more m n k l (tree.Pairs pairs) h g v =
-    (omega (arith, v.0), All-weaker (λ pair. (pair.0 < m) × (pair.1 < m)) (λ pair. (pair.0 < n) × (pair.1 < n)) (λ pair q. (omega (arith, q.0), omega (arith, q.1))) pairs v.1)
+    (omega (arith, v.0), All-weaker (λ pair. (pair.0 < m) × (pair.1 < m))
+        (λ pair. (pair.0 < n) × (pair.1 < n)) (λ pair q. (omega (arith, q.0), omega (arith, q.1)))
+        pairs v.1)
 
 pub IsOpenBy-more : (m n : ℕ) (bracket : Open) → m ≤ n → IsOpenBy m bracket → IsOpenBy n bracket
-IsOpenBy-more m n (Items at items) h v = (omega (arith, v.0), All-weaker (λ i. i < m) (λ i. i < n) (λ i q. omega arith) items v.1)
+IsOpenBy-more m n (Items at items) h v =
+    (omega (arith, v.0), All-weaker (λ i. i < m) (λ i. i < n) (λ i q. omega arith) items v.1)
 IsOpenBy-more m n (Pairs d) h v =
-    (omega (arith, v.0), omega (arith, v.1), All-weaker (λ pair. (pair.0 < m) × (pair.1 < m)) (λ pair. (pair.0 < n) × (pair.1 < n)) (λ pair q. (omega (arith, q.0), omega (arith, q.1))) d.pairs v.2)
+    (omega (arith, v.0), omega (arith, v.1), All-weaker (λ pair. (pair.0 < m) × (pair.1 < m))
+        (λ pair. (pair.0 < n) × (pair.1 < n)) (λ pair q. (omega (arith, q.0), omega (arith, q.1)))
+        d.pairs v.2)
 
-pub open_more : (m n : ℕ) (brackets : List Open) → m ≤ n → AllByRecursion (IsOpenBy m) brackets → AllByRecursion (IsOpenBy n) brackets
+pub open_more : (m n : ℕ) (brackets : List Open) → m ≤ n → AllByRecursion (IsOpenBy m) brackets
+    → AllByRecursion (IsOpenBy n) brackets
 open_more m n [] h v = tt
-open_more m n (bracket ∷ brackets) h v = (IsOpenBy-more m n bracket h v.0, open_more m n brackets h v.1)
+open_more m n (bracket ∷ brackets) h v =
+    (IsOpenBy-more m n bracket h v.0, open_more m n brackets h v.1)
 
 pub Inside-later : (r : Reader) (k l : ℕ) → k ≤ l → Inside r k → Inside r l
 Inside-later r k l h i = record {
-  nodes = All-weaker (λ node. IsValueBy (length r.nodes) k node.value) (λ node. IsValueBy (length r.nodes) l node.value) (λ node v. IsValueBy-more (length r.nodes) (length r.nodes) k l node.value (omega arith) h v) r.nodes i.nodes;
+  nodes = All-weaker (λ node. IsValueBy (length r.nodes) k node.value)
+      (λ node. IsValueBy (length r.nodes) l node.value)
+      (λ node v. IsValueBy-more (length r.nodes) (length r.nodes) k l node.value (omega arith) h v)
+      r.nodes i.nodes;
   brackets = i.brackets;
   phase = i.phase;
 }
 
 pub Sound-later : (r : Reader) (k l : ℕ) → k ≤ l → Sound r k → Sound r l
-Sound-later r k l h s = record { count = omega (arith, s.count); text = omega (arith, s.text); bytes = omega (arith, s.bytes); inside = Inside-later r k l h s.inside }
+Sound-later r k l h s = record { count = omega (arith, s.count); text = omega (arith, s.text); bytes
+    = omega (arith, s.bytes); inside = Inside-later r k l h s.inside }
 
 -- ---- a value ends
 
 -- all values of a longer list
-pub nodes_more : (nodes : List TreeNode) (place end limit : ℕ) (value : TreeValue) → All (λ node. IsValueBy (length nodes) limit node.value) nodes → IsValueBy (length nodes) limit value
-    → All (λ node. IsValueBy (length (nodes ++ record { place = place; end = end; value = value } ∷ [])) limit node.value) (nodes ++ record { place = place; end = end; value = value } ∷ [])
+pub nodes_more : (nodes : List TreeNode) (place end limit : ℕ) (value : TreeValue)
+    → All (λ node. IsValueBy (length nodes) limit node.value) nodes
+    → IsValueBy (length nodes) limit value
+    → All (λ node. IsValueBy (length (nodes ++ record { place = place; end = end; value = value }
+        ∷ [])) limit node.value) (nodes ++ record { place = place; end = end; value = value } ∷ [])
 nodes_more nodes place end limit value h v =
     let n = length (nodes ++ record { place = place; end = end; value = value } ∷ []) in
-    let long : n ≡ length nodes + 1 = length_push nodes (record { place = place; end = end; value = value }) in
-    All-push (λ node. IsValueBy n limit node.value) nodes (record { place = place; end = end; value = value })
-    (All-weaker (λ node. IsValueBy (length nodes) limit node.value) (λ node. IsValueBy n limit node.value) (λ node q. IsValueBy-more (length nodes) n limit limit node.value (omega arith) (omega arith) q) nodes h)
+    let long : n ≡ length nodes + 1 = length_push nodes
+        (record { place = place; end = end; value = value }) in
+    All-push (λ node. IsValueBy n limit node.value) nodes
+        (record { place = place; end = end; value = value })
+    (All-weaker (λ node. IsValueBy (length nodes) limit node.value)
+        (λ node. IsValueBy n limit node.value)
+        (λ node q. IsValueBy-more (length nodes) n limit limit node.value (omega arith)
+        (omega arith) q) nodes h)
     (IsValueBy-more (length nodes) n limit limit value (omega arith) (omega arith) v)
 
 -- what stays
@@ -132,20 +159,30 @@ pub record Same (r s : Reader) : Type 0 where
   nodes : s.nodes ≡ r.nodes
   brackets : length s.brackets ≡ length r.brackets
 
-ended_in-same : (r : Reader) (n : ℕ) (brackets : List Open) → brackets ≡ r.brackets → Same r (ended_in r n brackets)
-ended_in-same r n [] e = record { token = refl; text = refl; bytes = refl; nodes = refl; brackets = refl }
-ended_in-same r n (Items at items ∷ outer) e = record { token = refl; text = refl; bytes = refl; nodes = refl; brackets = ap length e }
-ended_in-same r n (Pairs d ∷ outer) e = record { token = refl; text = refl; bytes = refl; nodes = refl; brackets = ap length e }
+ended_in-same : (r : Reader) (n : ℕ) (brackets : List Open) → brackets ≡ r.brackets
+    → Same r (ended_in r n brackets)
+ended_in-same r n [] e = record { token = refl; text = refl; bytes = refl; nodes = refl; brackets
+    = refl }
+ended_in-same r n (Items at items ∷ outer) e
+    = record { token = refl; text = refl; bytes = refl; nodes = refl; brackets = ap length e }
+ended_in-same r n (Pairs d ∷ outer) e = record
+    { token = refl; text = refl; bytes = refl; nodes = refl; brackets = ap length e }
 
 -- a number goes into what is open around it
-ended_in-inside : (r : Reader) (n limit : ℕ) (brackets : List Open) → brackets ≡ r.brackets → length r.nodes ≡ n + 1
-    → All (λ node. IsValueBy (length r.nodes) limit node.value) r.nodes → AllByRecursion (IsOpenBy n) brackets → Inside (ended_in r n brackets) limit
-ended_in-inside r n limit [] e long v o = record { nodes = v; brackets = subst (λ b. AllByRecursion (IsOpenBy (length r.nodes)) b) e tt; phase = omega arith }
+ended_in-inside : (r : Reader) (n limit : ℕ) (brackets : List Open) → brackets ≡ r.brackets
+    → length r.nodes ≡ n + 1
+    → All (λ node. IsValueBy (length r.nodes) limit node.value) r.nodes
+        → AllByRecursion (IsOpenBy n) brackets → Inside (ended_in r n brackets) limit
+ended_in-inside r n limit [] e long v o = record
+    { nodes = v; brackets = subst (λ b. AllByRecursion (IsOpenBy (length r.nodes)) b) e tt; phase
+    = omega arith }
 ended_in-inside r n limit (Items at items ∷ outer) e long v o =
     let m = length r.nodes in
     record {
       nodes = v;
-      brackets = ((omega (arith, length_push items n, o.0.0), All-push (λ i. i < m) items n (All-weaker (λ i. i < n) (λ i. i < m) (λ i q. omega arith) items o.0.1) (omega arith)), open_more n m outer (omega arith) o.1);
+      brackets = ((omega (arith, length_push items n, o.0.0), All-push (λ i. i < m) items n
+          (All-weaker (λ i. i < n) (λ i. i < m) (λ i q. omega arith) items o.0.1) (omega arith)),
+          open_more n m outer (omega arith) o.1);
       phase = tt;
     }
 ended_in-inside r n limit (Pairs d ∷ outer) e long v o =
@@ -157,7 +194,9 @@ ended_in-inside r n limit (Pairs d ∷ outer) e long v o =
           omega (arith, length_push d.pairs (d.key, n), o.0.0),
           omega (arith, o.0.1),
           All-push (λ pair. (pair.0 < m) × (pair.1 < m)) d.pairs (d.key, n)
-              (All-weaker (λ pair. (pair.0 < n) × (pair.1 < n)) (λ pair. (pair.0 < m) × (pair.1 < m)) (λ pair q. (omega (arith, q.0), omega (arith, q.1))) d.pairs o.0.2)
+              (All-weaker (λ pair. (pair.0 < n) × (pair.1 < n))
+                  (λ pair. (pair.0 < m) × (pair.1 < m))
+                  (λ pair q. (omega (arith, q.0), omega (arith, q.1))) d.pairs o.0.2)
               (omega (arith, o.0.1), omega arith),
         ),
         open_more n m outer (omega arith) o.1,
@@ -165,24 +204,31 @@ ended_in-inside r n limit (Pairs d ∷ outer) e long v o =
       phase = tt;
     }
 
-value_ended-inside : (r : Reader) (at end limit : ℕ) (value : TreeValue) → Inside r limit → IsValueBy (length r.nodes) limit value → Inside (value_ended r at end value) limit
+value_ended-inside : (r : Reader) (at end limit : ℕ) (value : TreeValue) → Inside r limit
+    → IsValueBy (length r.nodes) limit value → Inside (value_ended r at end value) limit
 unfolding value_ended
 value_ended-inside r at end limit value i v =
-    ended_in-inside (with_node r at end value) (length r.nodes) limit r.brackets refl (length_push r.nodes (record { place = at; end = end; value = value }))
+    ended_in-inside (with_node r at end value) (length r.nodes) limit r.brackets refl
+        (length_push r.nodes (record { place = at; end = end; value = value }))
     (nodes_more r.nodes at end limit value i.nodes v) i.brackets
 
-value_ended-same : (r : Reader) (at end : ℕ) (value : TreeValue) → Same (with_node r at end value) (value_ended r at end value)
+value_ended-same : (r : Reader) (at end : ℕ) (value : TreeValue)
+    → Same (with_node r at end value) (value_ended r at end value)
 unfolding value_ended
-value_ended-same r at end value = ended_in-same (with_node r at end value) (length r.nodes) r.brackets refl
+value_ended-same r at end value = ended_in-same (with_node r at end value) (length r.nodes)
+    r.brackets refl
 
 -- the place is behind what the value weighs
-pub value_ended-sound : (r : Reader) (at end place : ℕ) (value : TreeValue) → Inside r place → IsValueBy (length r.nodes) place value
-    → length r.nodes + 1 + length r.brackets + token_weight r.token ≤ place → length r.text + text_weight r.token ≤ place → length r.bytes ≤ place
+pub value_ended-sound : (r : Reader) (at end place : ℕ) (value : TreeValue) → Inside r place
+    → IsValueBy (length r.nodes) place value
+    → length r.nodes + 1 + length r.brackets + token_weight r.token ≤ place
+        → length r.text + text_weight r.token ≤ place → length r.bytes ≤ place
     → Sound (value_ended r at end value) place
 value_ended-sound r at end place value i v count text bytes =
     let same = value_ended-same r at end value in
     let s = value_ended r at end value in
-    let nodes : length s.nodes ≡ length r.nodes + 1 = ap length same.nodes ∙ length_push r.nodes (record { place = at; end = end; value = value }) in
+    let nodes : length s.nodes ≡ length r.nodes + 1 = ap length same.nodes
+        ∙ length_push r.nodes (record { place = at; end = end; value = value }) in
     record {
       count = omega (arith, nodes, same.brackets, ap token_weight same.token, count);
       text = omega (arith, ap length same.text, ap text_weight same.token, text);

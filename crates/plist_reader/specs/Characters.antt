@@ -1,6 +1,8 @@
--- The characters of a property list, by their codes: white space, those of bare words, and digits. Fontc's own, narrowed
+-- The characters of a property list, by their codes: white space, those of bare words, and digits.
+-- Fontc's own, narrowed
 -- from the format of NeXTSTEP that Glyphs writes.
-use Rattle.std.specs.Prelude.{ℕ, ◌+◌, ◌-◌, ◌*◌, option_and_then, Bool, ◌&&◌, ◌||◌, not, ◌==◌, nat_le, Option, Some, None, if◌then◌else◌}
+use Rattle.std.specs.Prelude.{ℕ, ◌+◌, ◌-◌, ◌*◌, option_and_then, Bool, ◌&&◌, ◌||◌, not, ◌==◌,
+    nat_le, Option, Some, None, if◌then◌else◌}
 
 -- space, tab, carriage return and line feed
 unfoldable pub is_space : ℕ → Bool
@@ -12,7 +14,8 @@ is_between low high c = nat_le low c && nat_le c high
 
 -- { } ( ) = ; , " ' < > \
 abbrev pub is_mark : ℕ → Bool
-is_mark c = c == 123 || c == 125 || c == 40 || c == 41 || c == 61 || c == 59 || c == 44 || c == 34 || c == 39 || c == 60 || c == 62 || c == 92
+is_mark c = c == 123 || c == 125 || c == 40 || c == 41 || c == 61 || c == 59 || c == 44 || c == 34
+    || c == 39 || c == 60 || c == 62 || c == 92
 
 -- what a bare word is made of: each visible character of ASCII but the marks
 unfoldable pub is_word : ℕ → Bool
@@ -30,4 +33,5 @@ hex_value c = if is_between 48 57 c then Some (c - 48)
 
 -- the byte of two hexadecimal digits
 unfoldable pub byte_of : ℕ → ℕ → Option ℕ
-byte_of high low = option_and_then (λ a. option_and_then (λ b. Some (a * 16 + b)) (hex_value low)) (hex_value high)
+byte_of high low = option_and_then (λ a. option_and_then (λ b. Some (a * 16 + b)) (hex_value low))
+    (hex_value high)

@@ -1,4 +1,5 @@
--- Keys of a dictionary: two are the same where their bytes are, after escapes are undone. Fontc's own.
+-- Keys of a dictionary: two are the same where their bytes are, after escapes are undone. Fontc's
+-- own.
 use Rattle.std.specs.Prelude.{ℕ, Bool, List, nat_eq}
 use Rattle.std.specs.Cmp.Lexicographic.{pointwise}
 use Rattle.std.specs.List.{list_any}

@@ -1,23 +1,29 @@
--- What a source gives, computed a character at a time: its tree, or the refusal of the first character with which it
--- can't go on. Fontc's own. Nobody has to believe it: it computes what Grammar and Refusals say of whole texts, by the law
+-- What a source gives, computed a character at a time: its tree, or the refusal of the first
+-- character with which it
+-- can't go on. Fontc's own. Nobody has to believe it: it computes what Grammar and Refusals say of
+-- whole texts, by the law
 -- `sources_have_one_answer`.
-use Rattle.std.specs.Prelude.{ℕ, ◌+◌, ◌≡◌, Bool, true, false, not, ◌&&◌, ◌||◌, ◌==◌, nat_lt, List, [], ◌∷◌, ◌++◌, length, Option, Some, None, Result, Ok, Err, if◌then◌else◌, encode_utf8}
+use Rattle.std.specs.Prelude.{ℕ, ◌+◌, ◌≡◌, Bool, true, false, not, ◌&&◌, ◌||◌, ◌==◌, nat_lt, List,
+    [], ◌∷◌, ◌++◌, length, Option, Some, None, Result, Ok, Err, if◌then◌else◌, encode_utf8}
 use Rattle.std.specs.Char.{len_utf8}
 use Rattle.std.specs.Str.{is_utf8, chars}
 use Rattle.std.specs.Str.Lossy.{utf8_valid_len}
 use Rattle.refusal_codes.specs.declared.refusal.Refusal.{Refusal}
 use Rattle.refusal_codes.specs.declared.errors.ReadError.{ReadError}
 use Rattle.refusal_codes.specs.declared.rule.Rule.{Rule}
-use Rattle.refusal_codes.specs.declared.rule.Rule.TheVariants.{NotUtf8, UnexpectedByte, UnexpectedEnd, BadEscape, DuplicateKey, TooDeep, TrailingText}
+use Rattle.refusal_codes.specs.declared.rule.Rule.TheVariants.{NotUtf8, UnexpectedByte,
+    UnexpectedEnd, BadEscape, DuplicateKey, TooDeep, TrailingText}
 use Rattle.refusal_codes.specs.Gives.{RefusesRead, ◌>>=◌}
 use Rattle.plist_reader.specs.declared.tree.Tree.{Tree}
 use Rattle.plist_reader.specs.declared.tree.TreeValue.{TreeValue}
 use Rattle.plist_reader.specs.declared.tree.TreeValue.TheVariants as tree
 use Rattle.plist_reader.specs.declared.reader.Reader.{Reader}
 use Rattle.plist_reader.specs.declared.reader.Phase.{Phase}
-use Rattle.plist_reader.specs.declared.reader.Phase.TheVariants.{Value, Item, ItemEnd, Key, KeyEnd, PairEnd, End}
+use Rattle.plist_reader.specs.declared.reader.Phase.TheVariants.{Value, Item, ItemEnd, Key, KeyEnd,
+    PairEnd, End}
 use Rattle.plist_reader.specs.declared.reader.Token.{Token}
-use Rattle.plist_reader.specs.declared.reader.Token.TheVariants.{Between, Word, Quoted, Escape, Bytes, Half}
+use Rattle.plist_reader.specs.declared.reader.Token.TheVariants.{Between, Word, Quoted, Escape,
+    Bytes, Half}
 use Rattle.plist_reader.specs.declared.reader.Open.{Open}
 use Rattle.plist_reader.specs.declared.reader.Open.TheVariants.{Items, Pairs}
 use Rattle.plist_reader.specs.declared.escape.Escape.TheVariants.{Begun}
@@ -41,13 +47,17 @@ start = record { nodes = []; brackets = []; phase = Value; token = Between; text
 
 -- one more value has ended; its number is how many there were
 abbrev pub with_node : Reader → ℕ → ℕ → TreeValue → Reader
-with_node r place end value = record r { nodes = r.nodes ++ record { place = place; end = end; value = value } ∷ [] }
+with_node r place end value = record r { nodes = r.nodes
+    ++ record { place = place; end = end; value = value } ∷ [] }
 
 -- where the number of a value goes: into what is open around it
 abbrev pub ended_in : Reader → ℕ → List Open → Reader
 ended_in r number [] = record r { phase = End number }
-ended_in r number (Items place items ∷ outer) = record r { brackets = Items place (items ++ number ∷ []) ∷ outer; phase = ItemEnd }
-ended_in r number (Pairs d ∷ outer) = record r { brackets = Pairs (record d { pairs = d.pairs ++ (d.key, number) ∷ [] }) ∷ outer; phase = PairEnd }
+ended_in r number (Items place items ∷ outer)
+    = record r { brackets = Items place (items ++ number ∷ []) ∷ outer; phase = ItemEnd }
+ended_in r number (Pairs d ∷ outer) = record r
+    { brackets = Pairs (record d { pairs = d.pairs ++ (d.key, number) ∷ [] })
+    ∷ outer; phase = PairEnd }
 
 unfoldable pub value_ended : Reader → ℕ → ℕ → TreeValue → Reader
 value_ended r place end value = ended_in (with_node r place end value) (length r.nodes) r.brackets
@@ -56,7 +66,8 @@ value_ended r place end value = ended_in (with_node r place end value) (length r
 abbrev pub key_ended_in : Reader → ℕ → ℕ → List ℕ → List Open → Result Reader Refusal
 key_ended_in r place end text [] = Err (refusal UnexpectedByte place)
 key_ended_in r place end text (Items at items ∷ outer) = Err (refusal UnexpectedByte place)
-key_ended_in r place end text (Pairs d ∷ outer) = if is_among text d.keys then Err (refusal DuplicateKey place)
+key_ended_in r place end text (Pairs d ∷ outer)
+    = if is_among text d.keys then Err (refusal DuplicateKey place)
     else Ok (record r {
       nodes = r.nodes ++ record { place = place; end = end; value = tree.Text text } ∷ [];
       brackets = Pairs (record d { keys = d.keys ++ text ∷ []; key = length r.nodes }) ∷ outer;
@@ -78,7 +89,8 @@ is_key (End number) = false
 -- a word or a quoted string has ended
 unfoldable pub text_ended : Reader → ℕ → ℕ → Result Reader Refusal
 text_ended r place end = let s : Reader = record r { token = Between; text = [] } in
-    if is_key r.phase then key_ended s place end r.text else Ok (value_ended s place end (tree.Text r.text))
+    if is_key r.phase then key_ended s place end r.text else Ok
+        (value_ended s place end (tree.Text r.text))
 
 -- ---- refusals
 
@@ -110,17 +122,20 @@ unexpected r place c = Err (refusal (unexpected_rule r c) place)
 -- a word or a quoted string begins
 unfoldable pub text_begun : Reader → ℕ → ℕ → Result Reader Refusal
 text_begun r place c = if c == 34 then Ok (record r { token = Quoted place })
-    else (if is_word c then Ok (record r { token = Word place; text = r.text ++ encode_utf8 c }) else unexpected r place c)
+    else (if is_word c then Ok (record r { token = Word place; text = r.text ++ encode_utf8 c })
+        else unexpected r place c)
 
 -- a bracket opens
 abbrev pub list_opened : Reader → ℕ → Reader
 list_opened r place = record r { brackets = Items place [] ∷ r.brackets; phase = Item }
 
 abbrev pub dictionary_opened : Reader → ℕ → Reader
-dictionary_opened r place = record r { brackets = Pairs (record { place = place; keys = []; pairs = []; key = 0 }) ∷ r.brackets; phase = Key }
+dictionary_opened r place = record r { brackets
+    = Pairs (record { place = place; keys = []; pairs = []; key = 0 }) ∷ r.brackets; phase = Key }
 
 unfoldable pub bracket_opened : Reader → ℕ → ℕ → Result Reader Refusal
-bracket_opened r place c = if nat_lt (length r.brackets) max_depth then Ok (if c == 40 then list_opened r place else dictionary_opened r place)
+bracket_opened r place c = if nat_lt (length r.brackets) max_depth then Ok
+    (if c == 40 then list_opened r place else dictionary_opened r place)
     else unexpected r place c
 
 -- a value begins
@@ -132,7 +147,8 @@ value_begun r place c = if is_bracket c then bracket_opened r place c
 abbrev pub list_closed_in : Reader → ℕ → List Open → Result Reader Refusal
 list_closed_in r place [] = Err (refusal UnexpectedByte place)
 list_closed_in r place (Pairs d ∷ outer) = Err (refusal UnexpectedByte place)
-list_closed_in r place (Items at items ∷ outer) = Ok (value_ended (record r { brackets = outer }) at (place + 1) (tree.Items items))
+list_closed_in r place (Items at items ∷ outer)
+    = Ok (value_ended (record r { brackets = outer }) at (place + 1) (tree.Items items))
 
 unfoldable pub list_closed : Reader → ℕ → Result Reader Refusal
 list_closed r place = list_closed_in r place r.brackets
@@ -140,7 +156,8 @@ list_closed r place = list_closed_in r place r.brackets
 abbrev pub dictionary_closed_in : Reader → ℕ → List Open → Result Reader Refusal
 dictionary_closed_in r place [] = Err (refusal UnexpectedByte place)
 dictionary_closed_in r place (Items at items ∷ outer) = Err (refusal UnexpectedByte place)
-dictionary_closed_in r place (Pairs d ∷ outer) = Ok (value_ended (record r { brackets = outer }) d.place (place + 1) (tree.Pairs d.pairs))
+dictionary_closed_in r place (Pairs d ∷ outer)
+    = Ok (value_ended (record r { brackets = outer }) d.place (place + 1) (tree.Pairs d.pairs))
 
 unfoldable pub dictionary_closed : Reader → ℕ → Result Reader Refusal
 dictionary_closed r place = dictionary_closed_in r place r.brackets
@@ -148,7 +165,8 @@ dictionary_closed r place = dictionary_closed_in r place r.brackets
 abbrev pub awaited : Reader → ℕ → ℕ → Phase → Result Reader Refusal
 awaited r place c Value = value_begun r place c
 awaited r place c Item = if c == 41 then list_closed r place else value_begun r place c
-awaited r place c ItemEnd = if c == 41 then list_closed r place else (if c == 44 then Ok (record r { phase = Item }) else unexpected r place c)
+awaited r place c ItemEnd = if c == 41 then list_closed r place else
+    (if c == 44 then Ok (record r { phase = Item }) else unexpected r place c)
 awaited r place c Key = if c == 125 then dictionary_closed r place else text_begun r place c
 awaited r place c KeyEnd = if c == 61 then Ok (record r { phase = Value }) else unexpected r place c
 awaited r place c PairEnd = if c == 59 then Ok (record r { phase = Key }) else unexpected r place c
@@ -167,16 +185,19 @@ in_word r at place c = if is_word c then Ok (record r { text = r.text ++ encode_
 
 unfoldable pub in_quoted : Reader → ℕ → ℕ → ℕ → Result Reader Refusal
 in_quoted r at place c = if c == 34 then text_ended r at (place + 1)
-    else (if c == 92 then Ok (record r { token = Escape at place Begun }) else Ok (record r { text = r.text ++ encode_utf8 c }))
+    else (if c == 92 then Ok (record r { token = Escape at place Begun }) else Ok
+        (record r { text = r.text ++ encode_utf8 c }))
 
 abbrev pub after_escape : Reader → ℕ → ℕ → Escaped → Result Reader Refusal
 after_escape r at backslash (More escape) = Ok (record r { token = Escape at backslash escape })
-after_escape r at backslash (Whole character) = Ok (record r { token = Quoted at; text = r.text ++ encode_utf8 character })
+after_escape r at backslash (Whole character)
+    = Ok (record r { token = Quoted at; text = r.text ++ encode_utf8 character })
 after_escape r at backslash Wrong = Err (refusal BadEscape backslash)
 
 abbrev pub after_half : Reader → ℕ → ℕ → ℕ → Option ℕ → Result Reader Refusal
 after_half r at place c None = unexpected r place c
-after_half r at place c (Some byte) = Ok (record r { token = Bytes at; bytes = r.bytes ++ byte ∷ [] })
+after_half r at place c (Some byte) = Ok
+    (record r { token = Bytes at; bytes = r.bytes ++ byte ∷ [] })
 
 abbrev pub after_hex : Reader → ℕ → ℕ → ℕ → Option ℕ → Result Reader Refusal
 after_hex r at place c None = unexpected r place c
@@ -185,7 +206,8 @@ after_hex r at place c (Some digit) = Ok (record r { token = Half at c })
 -- two digits make a byte, and white space may stand anywhere
 unfoldable pub in_bytes : Reader → ℕ → ℕ → ℕ → Result Reader Refusal
 in_bytes r at place c = if is_space c then Ok r
-    else (if c == 62 then Ok (value_ended (record r { token = Between; bytes = [] }) at (place + 1) (tree.Bytes r.bytes)) else after_hex r at place c (hex_value c))
+    else (if c == 62 then Ok (value_ended (record r { token = Between; bytes = [] }) at (place + 1)
+        (tree.Bytes r.bytes)) else after_hex r at place c (hex_value c))
 
 unfoldable pub in_half : Reader → ℕ → ℕ → ℕ → ℕ → Result Reader Refusal
 in_half r at high place c = if is_space c then Ok r else after_half r at place c (byte_of high c)
@@ -219,7 +241,8 @@ whole r length = whole_in r length r.phase
 -- only a word outside all brackets is ended by the text's end
 abbrev pub finish_in : Reader → ℕ → Token → Result Tree Refusal
 finish_in r end Between = whole r end
-finish_in r end (Word at) = if length r.brackets == 0 then (text_ended r at end >>= λ s. whole s end) else Err (refusal UnexpectedEnd end)
+finish_in r end (Word at) = if length r.brackets == 0 then
+    (text_ended r at end >>= λ s. whole s end) else Err (refusal UnexpectedEnd end)
 finish_in r end (Quoted at) = Err (refusal UnexpectedEnd end)
 finish_in r end (Escape at backslash escape) = Err (refusal UnexpectedEnd end)
 finish_in r end (Bytes at) = Err (refusal UnexpectedEnd end)
@@ -235,4 +258,5 @@ run r place (c ∷ cs) = step r place c >>= λ s. run s (place + len_utf8 c) cs
 
 -- what a source gives: its tree, or the refusal that explains why it has none
 unfoldable pub read_of : List ℕ → Result Tree Refusal
-read_of source = if is_utf8 source then run start 0 (chars source) else Err (refusal NotUtf8 (utf8_valid_len source))
+read_of source = if is_utf8 source then run start 0 (chars source) else Err
+    (refusal NotUtf8 (utf8_valid_len source))

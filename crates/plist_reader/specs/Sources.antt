@@ -1,7 +1,10 @@
--- What holds of each tree of a source: where its values stand, which bytes its texts are, how many brackets are open at a
--- place, that the keys of a dictionary differ, and what is found under a key. Fontc's own; all of it follows from
+-- What holds of each tree of a source: where its values stand, which bytes its texts are, how many
+-- brackets are open at a
+-- place, that the keys of a dictionary differ, and what is found under a key. Fontc's own; all of
+-- it follows from
 -- Grammar, by the laws `trees_stand_in_their_sources` and `keys_lead_to_their_values`.
-use Rattle.std.specs.Prelude.{◌≡◌, ℕ, ◌+◌, ◌<◌, ◌≤◌, false, List, [], ◌∷◌, ◌++◌, ◌↔◌, length, map, Some, All}
+use Rattle.std.specs.Prelude.{◌≡◌, ℕ, ◌+◌, ◌<◌, ◌≤◌, false, List, [], ◌∷◌, ◌++◌, ◌↔◌, length, map,
+    Some, All}
 use Rattle.std.specs.Str.{chars}
 use Rattle.plist_reader.specs.declared.tree.Tree.{Tree}
 use Rattle.plist_reader.specs.declared.tree.TreeNode.{TreeNode}
@@ -12,7 +15,8 @@ use Rattle.plist_reader.specs.Keys.{is_among}
 use Rattle.plist_reader.specs.Grammar.{node, width, IsText}
 use Rattle.plist_reader.specs.Refusals.{open_at}
 
--- between two places stands a word or a quoted string, which is these bytes after its escapes are undone
+-- between two places stands a word or a quoted string, which is these bytes after its escapes are
+-- undone
 pub record IsTextAt (cs : List ℕ) (place end : ℕ) (bytes : List ℕ) : Type 0 where
   pub before : List ℕ
   pub text : List ℕ
@@ -58,12 +62,14 @@ pub record HasPair (t : Tree) (dictionary : ℕ) (key : List ℕ) (value : ℕ) 
   pub earlier : List (ℕ × ℕ)
   pub number : ℕ
   pub later : List (ℕ × ℕ)
-  pub dictionary_is : node_at t dictionary ≡ Some (node place end (tree.Pairs (earlier ++ (number, value) ∷ later)))
+  pub dictionary_is : node_at t dictionary
+      ≡ Some (node place end (tree.Pairs (earlier ++ (number, value) ∷ later)))
   pub key_is : text_at t.nodes number ≡ Some key
 
 -- a value is found under a key exactly where the dictionary has a pair of the two
 abbrev pub FindsPairs : Tree → Type 0
-FindsPairs t = (dictionary value : ℕ) (key : List ℕ) → (find_in t dictionary key ≡ Some value) ↔ HasPair t dictionary key value
+FindsPairs t = (dictionary value : ℕ) (key : List ℕ)
+    → (find_in t dictionary key ≡ Some value) ↔ HasPair t dictionary key value
 
 -- what holds of each tree of a source
 pub record StandsInSource (source : List ℕ) (t : Tree) : Type 0 where

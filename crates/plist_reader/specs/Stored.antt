@@ -1,4 +1,5 @@
--- How the values of a tree are stored: a pool holds what many values hold, one behind the other, and a value says where its
+-- How the values of a tree are stored: a pool holds what many values hold, one behind the other,
+-- and a value says where its
 -- part lies. Fontc's own. A caller of `Nodes` sees the list of the nodes alone.
 use Rattle.std.specs.Prelude.{◌≡◌, ◌≤◌, List, ◌++◌, length, slice_range}
 use Rattle.std.specs.Str.{IsUtf8}
@@ -26,7 +27,8 @@ value_of pools (content.Items span) = tree.Items (part pools.items.items span)
 value_of pools (content.Pairs span) = tree.Pairs (part pools.pairs.items span)
 
 abbrev pub node_of : Pools → StoredNode → TreeNode
-node_of pools entry = record { place = entry.place; end = entry.end; value = value_of pools entry.content }
+node_of pools entry = record { place = entry.place; end = entry.end; value
+    = value_of pools entry.content }
 
 -- a part lies inside its pool
 abbrev pub IsPart : {T : Type 0} → List T → Span → Type 0
@@ -34,7 +36,8 @@ IsPart pool span = (span.start ≤ span.end) × (span.end ≤ length pool)
 
 -- what a value holds lies inside its pool, and a text is UTF-8
 abbrev pub IsIn : Pools → Content → Type 0
-IsIn pools (content.Text span) = IsPart pools.bytes.items span × IsUtf8 (part pools.bytes.items span)
+IsIn pools (content.Text span) = IsPart pools.bytes.items span
+    × IsUtf8 (part pools.bytes.items span)
 IsIn pools (content.Bytes span) = IsPart pools.bytes.items span
 IsIn pools (content.Items span) = IsPart pools.items.items span
 IsIn pools (content.Pairs span) = IsPart pools.pairs.items span

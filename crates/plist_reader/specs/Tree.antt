@@ -1,6 +1,8 @@
--- What a tree of numbered values says. A number that no value has names nothing. Fontc's own, as is the limit of a
+-- What a tree of numbered values says. A number that no value has names nothing. Fontc's own, as is
+-- the limit of a
 -- source's length.
-use Rattle.std.specs.Prelude.{ℕ, ◌<◌, ◌≤◌, Bool, false, List, [], ◌∷◌, length, Option, Some, None, slice_get, All, nat_eq, option_and_then, if◌then◌else◌}
+use Rattle.std.specs.Prelude.{ℕ, ◌<◌, ◌≤◌, Bool, false, List, [], ◌∷◌, length, Option, Some, None,
+    slice_get, All, nat_eq, option_and_then, if◌then◌else◌}
 use Rattle.std.specs.Cmp.Lexicographic.{pointwise}
 use Rattle.plist_reader.specs.declared.tree.Tree.{Tree}
 use Rattle.plist_reader.specs.declared.tree.TreeNode.{TreeNode}
@@ -52,7 +54,8 @@ is_key t key n = spells key (text_at t.nodes n)
 -- the value of the first pair with this key
 abbrev pub value_with : Tree → List ℕ → List (ℕ × ℕ) → Option ℕ
 value_with t key [] = None
-value_with t key (pair ∷ pairs) = if is_key t key pair.0 then Some pair.1 else value_with t key pairs
+value_with t key (pair ∷ pairs) = if is_key t key pair.0 then Some pair.1 else value_with t key
+    pairs
 
 abbrev pub value_in : Tree → List ℕ → Option (List (ℕ × ℕ)) → Option ℕ
 value_in t key None = None
@@ -62,12 +65,14 @@ value_in t key (Some pairs) = value_with t key pairs
 abbrev pub find_in : Tree → ℕ → List ℕ → Option ℕ
 find_in t n key = value_in t key (option_and_then (λ node. pairs_of node.value) (node_at t n))
 
--- each number inside is that of a value of the tree, and no value holds more bytes, values or pairs than a source may have bytes
+-- each number inside is that of a value of the tree, and no value holds more bytes, values or pairs
+-- than a source may have bytes
 abbrev pub IsValue : ℕ → TreeValue → Type 0
 IsValue count (tree.Text bytes) = length bytes ≤ source_limit
 IsValue count (tree.Bytes bytes) = length bytes ≤ source_limit
 IsValue count (tree.Items items) = (length items ≤ source_limit) × All (λ n. n < count) items
-IsValue count (tree.Pairs pairs) = (length pairs ≤ source_limit) × All (λ pair. (pair.0 < count) × (pair.1 < count)) pairs
+IsValue count (tree.Pairs pairs) = (length pairs ≤ source_limit)
+    × All (λ pair. (pair.0 < count) × (pair.1 < count)) pairs
 
 -- what holds of each tree that is read from a source
 pub record IsTree (t : Tree) : Type 0 where

@@ -5,7 +5,8 @@ use plain_lists::Text;
 use std::alloc::{AllocFailed, Global};
 use std::marker::Model;
 
-/// The keys of a dictionary that is being read. A contract sees them as the list of their bytes, in order.
+/// The keys of a dictionary that is being read. A contract sees them as the list of their bytes, in
+/// order.
 #[derive(Drop)]
 pub(crate) struct Keys {
     texts: IndexSet<Text>,
@@ -34,7 +35,8 @@ impl Keys {
     /// Adds a key at the end, unless it is there. The answer says whether it is new.
     pub(crate) fn insert(&mut self, key: Text) -> Result<bool, AllocFailed<Text>>
         ensures added { IfOk result (λ added. added ≡ not (is_among key self.old)) }
-        ensures keys { IfOk result (λ added. self.new ≡ (if added then self.old ++ key ∷ [] else self.old)) }
+        ensures keys { IfOk result (λ added. self.new
+            ≡ (if added then self.old ++ key ∷ [] else self.old)) }
     {
         self.texts.insert(key)
     }

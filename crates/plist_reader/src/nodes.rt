@@ -1,4 +1,5 @@
-ghost use Rattle.std.specs.Prelude.{◌≡◌, ◌==◌, [], ◌∷◌, ◌++◌, length, option_map, slice_get, OnOk, OnErr};
+ghost use Rattle.std.specs.Prelude.{◌≡◌, ◌==◌, [], ◌∷◌, ◌++◌, length, option_map, slice_get, OnOk,
+    OnErr};
 ghost use Rattle.std.specs.Cmp.{partial_equiv_from_equiv};
 ghost use Rattle.std.specs.Cmp.Lexicographic.{pointwise};
 ghost use Rattle.plist_reader.specs.Grammar.{node};
@@ -18,7 +19,8 @@ struct StoredNode {
     content: Content,
 }
 
-/// The values of a tree, in a form that takes little memory: 20 bytes for a value, beside what it holds. A contract sees
+/// The values of a tree, in a form that takes little memory: 20 bytes for a value, beside what it
+/// holds. A contract sees
 /// them as a list of nodes.
 #[derive(Debug, Drop)]
 pub struct Nodes {

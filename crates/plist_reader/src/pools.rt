@@ -35,7 +35,8 @@ pub(crate) struct Pools {
 /// Adds items to a pool, and tells where they are.
 fn append<T: Copy>(pool: &mut Vec<T>, items: &[T]) -> Result<Span, AllocError>
     ensures ok { OnOk result (pool.new.items ≡ pool.old.items ++ items.now) }
-    ensures span { IfOk result (λ span. (span.start ≡ length pool.old.items) × (span.end ≡ length pool.new.items)) }
+    ensures span { IfOk result (λ span. (span.start ≡ length pool.old.items)
+        × (span.end ≡ length pool.new.items)) }
     ensures err { OnErr result (pool.new.items ≡ pool.old.items) }
 {
     let start = pool.len();

@@ -1,4 +1,5 @@
-ghost use Rattle.std.specs.Prelude.{◌≡◌, ◌+◌, ◌<◌, ◌^◌, [], ◌∷◌, ◌++◌, length, if◌then◌else◌, not, nat_lt, IfOk, IfErr, Ok, Err};
+ghost use Rattle.std.specs.Prelude.{◌≡◌, ◌+◌, ◌<◌, ◌^◌, [], ◌∷◌, ◌++◌, length, if◌then◌else◌, not,
+    nat_lt, IfOk, IfErr, Ok, Err};
 ghost use Rattle.refusal_codes.specs.declared.errors.ReadError.TheVariants as read_errors;
 ghost use Rattle.refusal_codes.specs.Gives.{Gives};
 ghost use Rattle.plist_reader.specs.Refusals.{refusal};
@@ -104,8 +105,11 @@ pub(crate) fn refusal(alloc: Global, rule: Rule, place: u32) -> ReadError
 }
 
 impl Reader {
-    ghost use Rattle.plist_reader.specs.Reading.{start, Changes, with_node, value_ended, key_ended, text_ended, unexpected_rule, unexpected, text_begun};
-    ghost use Rattle.plist_reader.specs.Reading.{bracket_opened, value_begun, list_closed, dictionary_closed, between, in_word, in_quoted, after_escape, in_bytes, in_half, step, whole, finish};
+    ghost use Rattle.plist_reader.specs.Reading.{start, Changes, with_node, value_ended, key_ended,
+        text_ended, unexpected_rule, unexpected, text_begun};
+    ghost use Rattle.plist_reader.specs.Reading.{bracket_opened, value_begun, list_closed,
+        dictionary_closed, between, in_word, in_quoted, after_escape, in_bytes, in_half, step,
+        whole, finish};
 
     /// What is known before the first character.
     #[tactic(auto, unfolding(crate::specs::Reading::start))]
@@ -124,7 +128,8 @@ impl Reader {
 
     /// Numbers a value that has ended.
     fn number(&mut self, place: u32, end: u32, value: TreeValue) -> Result<u32, ReadError>
-        ensures ok { IfOk result (λ number. (number ≡ length self.old.nodes) × (self.new ≡ with_node self.old place end value)) }
+        ensures ok { IfOk result (λ number. (number ≡ length self.old.nodes)
+            × (self.new ≡ with_node self.old place end value)) }
         ensures err { IfErr result (λ e. e ≡ read_errors.NoMemory) }
     {
         let Ok(number) = u32::try_from(self.nodes.len()) else {
@@ -208,7 +213,8 @@ impl Reader {
 
     /// The refusal of a character with which the text can't go on.
     fn unexpected(&self, alloc: Global, place: u32, character: char) -> Result<(), ReadError>
-        ensures { result ≡ Err (read_errors.Refused (refusal (unexpected_rule self.now character) place)) }
+        ensures { result ≡ Err (read_errors.Refused
+            (refusal (unexpected_rule self.now character) place)) }
     {
         Err(refusal(alloc, self.unexpected_rule(character), place))
     }

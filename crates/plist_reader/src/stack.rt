@@ -3,7 +3,8 @@ ghost use Rattle.std.specs.Prelude.{◌≡◌, List, [], ◌∷◌, length, reve
 use std::alloc::{AllocFailed, Global};
 use std::marker::Model;
 
-/// Items of which the last one added is taken first. A contract sees a stack as the list of its items, the last one
+/// Items of which the last one added is taken first. A contract sees a stack as the list of its
+/// items, the last one
 /// added first.
 #[derive(Drop)]
 pub(crate) struct Stack<T> {
@@ -44,7 +45,8 @@ impl<T> Stack<T> {
 
     /// Takes the last item that was added.
     pub(crate) fn pop(&mut self) -> Option<T>
-        ensures { MatchOption result ((self.old ≡ []) × (self.new ≡ [])) (λ item. self.old ≡ item ∷ self.new) }
+        ensures { MatchOption result ((self.old ≡ []) × (self.new ≡ []))
+            (λ item. self.old ≡ item ∷ self.new) }
     {
         self.items.pop()
     }

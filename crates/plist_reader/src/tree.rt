@@ -7,7 +7,8 @@ ghost use Rattle.plist_reader.specs.Stored.{seen, seen_node};
 use crate::nodes::Nodes;
 use plain_lists::{Sequence, Text};
 
-/// What a value is, as contracts see it and as it is put into a tree. Values inside it are named by their numbers in the tree. A
+/// What a value is, as contracts see it and as it is put into a tree. Values inside it are named by
+/// their numbers in the tree. A
 /// caller borrows a `ValueRef`.
 #[derive(Debug, PartialEq, Eq, Drop)]
 pub enum TreeValue {
@@ -92,7 +93,8 @@ impl Eq for NodeRef<'_> {
     ghost laws = { on_equiv seen_node same_node_equiv };
 }
 
-/// A property list. Its values are numbered in the order in which they end, so each value stands behind those in it.
+/// A property list. Its values are numbered in the order in which they end, so each value stands
+/// behind those in it.
 #[derive(Debug, PartialEq, Eq, Drop)]
 pub struct Tree {
     /// All values, keys of dictionaries among them, by their numbers.
@@ -104,7 +106,8 @@ pub struct Tree {
 impl Tree {
     ghost use Rattle.plist_reader.specs.Tree.{find_in, value_with, is_key};
 
-    /// The number of the value that the dictionary `pairs` has under this key; `None` where it has none, where `pairs` is no
+    /// The number of the value that the dictionary `pairs` has under this key; `None` where it has
+    /// none, where `pairs` is no
     /// dictionary, or where no value has that number. It takes no memory.
     pub fn find(&self, pairs: u32, key: &[u8]) -> Option<u32>
         ensures { result ≡ find_in self.now pairs key.now }

@@ -7,7 +7,8 @@ use std::test::Fail;
 /// A list of a string with a surrogate pair, a line feed and an octal escape, and of a byte string.
 const ESCAPES: &[u8] = b"(\"\\Ud83d\\Ude00\\n\\101\",<0aF f>,\n)";
 
-/// The rule and the place of the refusal; `None` where there is a tree. Want of memory is no answer.
+/// The rule and the place of the refusal; `None` where there is a tree. Want of memory is no
+/// answer.
 fn refused(alloc: Global, source: &[u8]) -> Result<Option<(Rule, u64)>, Fail> {
     if source.len() > 67_108_864 {
         return Err("a source that is too long".into());

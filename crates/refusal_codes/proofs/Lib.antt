@@ -1,4 +1,1 @@
-pub mod FirstLaws
-pub mod JudgedLaws
-pub mod Noting
 pub mod Ordered

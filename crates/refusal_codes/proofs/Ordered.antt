@@ -9,7 +9,16 @@ use Rattle.std.proofs.lemmas.Map.Lookups.{exact_unsigned, exact_bytes, exact_pai
 use Rattle.refusal_codes.specs.Order.{refusal_cmp}
 use Rattle.refusal_codes.specs.Rules.{rule_number}
 use Rattle.refusal_codes.specs.declared.rule.Rule.{Rule}
-use Rattle.refusal_codes.specs.declared.rule.Rule.TheVariants.{NotUtf8, UnexpectedByte, UnexpectedEnd, BadEscape, DuplicateKey, TooDeep, TrailingText, WrongShape, MissingKey, WrongVersion, NotWhole, OutOfRange, TooManyAxes, TooManyMasters, NoMaster, AxisCount, SameLocation, AxisMapNotRising, DuplicateGlyph, OriginUnknown, BadTag, TooLarge, DuplicateMaster, MissingLayer, CubicNode, OpenContour, Incompatible, UnknownComponent, ComponentCycle, UnsupportedTransform, CoordinateTooLarge, DeltaTooLarge, TooManyPoints, TooManyComponents, DuplicateUnicode, LayerPlace, SameLayerPlace, TooManyLayers, AlternateName, TooManyRules, Syntax, Unsupported, UnknownGlyph, UnknownName, ConflictingRule, ClassSizes, MixedLookup, BadContextCall, TooManyGlyphs, CmapTooLarge, LayoutTooLarge, RowTooLarge, TableTooLarge, TooManyRegions, TooManyCells}
+use Rattle.refusal_codes.specs.declared.rule.Rule.TheVariants.{NotUtf8, UnexpectedByte,
+    UnexpectedEnd, BadEscape, DuplicateKey, TooDeep, TrailingText, WrongShape, MissingKey,
+    WrongVersion, NotWhole, OutOfRange, TooManyAxes, TooManyMasters, NoMaster, AxisCount,
+    SameLocation, AxisMapNotRising, DuplicateGlyph, OriginUnknown, BadTag, TooLarge,
+    DuplicateMaster, MissingLayer, CubicNode, OpenContour, Incompatible, UnknownComponent,
+    ComponentCycle, UnsupportedTransform, CoordinateTooLarge, DeltaTooLarge, TooManyPoints,
+    TooManyComponents, DuplicateUnicode, LayerPlace, SameLayerPlace, TooManyLayers, AlternateName,
+    TooManyRules, Syntax, Unsupported, UnknownGlyph, UnknownName, ConflictingRule, ClassSizes,
+    MixedLookup, BadContextCall, TooManyGlyphs, CmapTooLarge, LayoutTooLarge, RowTooLarge,
+    TableTooLarge, TooManyRegions, TooManyCells}
 use Rattle.refusal_codes.specs.declared.refusal.Refusal.{Refusal}
 
 pub refusal_cmp_total : IsTotalOrder refusal_cmp
@@ -17,11 +26,21 @@ refusal_cmp_total =
     then_total (on_total (λ (r : Refusal). r.stratum) nat_cmp_total)
     (then_total (on_total (λ (r : Refusal). r.kind) nat_cmp_total)
     (then_total (on_total (λ (r : Refusal). r.name) nat_list_cmp_total)
-    (then_total (on_total (λ (r : Refusal). rule_number r.rule) nat_cmp_total) (on_total (λ (r : Refusal). r.place) nat_cmp_total))))
+    (then_total (on_total (λ (r : Refusal). rule_number r.rule) nat_cmp_total)
+        (on_total (λ (r : Refusal). r.place) nat_cmp_total))))
 
 -- the rules in the order of their numbers
 abbrev rules : List Rule
-rules = NotUtf8 ∷ UnexpectedByte ∷ UnexpectedEnd ∷ BadEscape ∷ DuplicateKey ∷ TooDeep ∷ TrailingText ∷ WrongShape ∷ MissingKey ∷ WrongVersion ∷ NotWhole ∷ OutOfRange ∷ TooManyAxes ∷ TooManyMasters ∷ NoMaster ∷ AxisCount ∷ SameLocation ∷ AxisMapNotRising ∷ DuplicateGlyph ∷ OriginUnknown ∷ BadTag ∷ TooLarge ∷ DuplicateMaster ∷ MissingLayer ∷ CubicNode ∷ OpenContour ∷ Incompatible ∷ UnknownComponent ∷ ComponentCycle ∷ UnsupportedTransform ∷ CoordinateTooLarge ∷ DeltaTooLarge ∷ TooManyPoints ∷ TooManyComponents ∷ DuplicateUnicode ∷ LayerPlace ∷ SameLayerPlace ∷ TooManyLayers ∷ AlternateName ∷ TooManyRules ∷ Syntax ∷ Unsupported ∷ UnknownGlyph ∷ UnknownName ∷ ConflictingRule ∷ ClassSizes ∷ MixedLookup ∷ BadContextCall ∷ TooManyGlyphs ∷ CmapTooLarge ∷ LayoutTooLarge ∷ RowTooLarge ∷ TableTooLarge ∷ TooManyRegions ∷ TooManyCells ∷ []
+rules = NotUtf8 ∷ UnexpectedByte ∷ UnexpectedEnd ∷ BadEscape ∷ DuplicateKey ∷ TooDeep ∷ TrailingText
+    ∷ WrongShape ∷ MissingKey ∷ WrongVersion ∷ NotWhole ∷ OutOfRange ∷ TooManyAxes ∷ TooManyMasters
+    ∷ NoMaster ∷ AxisCount ∷ SameLocation ∷ AxisMapNotRising ∷ DuplicateGlyph ∷ OriginUnknown
+    ∷ BadTag ∷ TooLarge ∷ DuplicateMaster ∷ MissingLayer ∷ CubicNode ∷ OpenContour ∷ Incompatible
+    ∷ UnknownComponent ∷ ComponentCycle ∷ UnsupportedTransform ∷ CoordinateTooLarge ∷ DeltaTooLarge
+    ∷ TooManyPoints ∷ TooManyComponents ∷ DuplicateUnicode ∷ LayerPlace ∷ SameLayerPlace
+    ∷ TooManyLayers ∷ AlternateName ∷ TooManyRules ∷ Syntax ∷ Unsupported ∷ UnknownGlyph
+    ∷ UnknownName ∷ ConflictingRule ∷ ClassSizes ∷ MixedLookup ∷ BadContextCall ∷ TooManyGlyphs
+    ∷ CmapTooLarge ∷ LayoutTooLarge ∷ RowTooLarge ∷ TableTooLarge ∷ TooManyRegions ∷ TooManyCells
+    ∷ []
 
 rule_numbered : (r : Rule) → slice_index_or rules (rule_number r) NotUtf8 ≡ r
 rule_numbered NotUtf8 = refl
@@ -82,7 +101,8 @@ rule_numbered TooManyCells = refl
 
 -- two rules with one number are one rule
 rule_from_number : (a b : Rule) → rule_number a ≡ rule_number b → a ≡ b
-rule_from_number a b e = sym (rule_numbered a) ∙ ap (λ (n : ℕ). slice_index_or rules n NotUtf8) e ∙ rule_numbered b
+rule_from_number a b e = sym (rule_numbered a) ∙ ap (λ (n : ℕ). slice_index_or rules n NotUtf8) e
+    ∙ rule_numbered b
 
 exact_rules : (a b : Rule) → nat_cmp (rule_number a) (rule_number b) ≡ Equal → a ≡ b
 exact_rules a b e = rule_from_number a b (exact_unsigned (rule_number a) (rule_number b) e)
@@ -92,12 +112,14 @@ abbrev parts : Refusal → ℕ × (ℕ × (List ℕ × (Rule × ℕ)))
 parts r = (r.stratum, (r.kind, (r.name, (r.rule, r.place))))
 
 abbrev whole : ℕ × (ℕ × (List ℕ × (Rule × ℕ))) → Refusal
-whole p = record { stratum = p.0; kind = p.1.0; name = p.1.1.0; rule = p.1.1.1.0; place = p.1.1.1.1 }
+whole p = record { stratum = p.0; kind = p.1.0; name = p.1.1.0; rule = p.1.1.1.0; place
+    = p.1.1.1.1 }
 
 pub refusal_cmp_exact : (a b : Refusal) → refusal_cmp a b ≡ Equal → a ≡ b
 refusal_cmp_exact a b e =
     ap whole (exact_pairs nat_cmp _ exact_unsigned
     (exact_pairs nat_cmp _ exact_unsigned
     (exact_pairs (slice_cmp nat_cmp) _ exact_bytes
-    (exact_pairs (λ (x y : Rule). nat_cmp (rule_number x) (rule_number y)) nat_cmp exact_rules exact_unsigned)))
+    (exact_pairs (λ (x y : Rule). nat_cmp (rule_number x) (rule_number y)) nat_cmp exact_rules
+        exact_unsigned)))
     (parts a) (parts b) e)

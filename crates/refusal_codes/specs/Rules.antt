@@ -1,7 +1,17 @@
--- The written rules: of each its number, which is its place among the rules, its letter and number, and its name. fontc's own.
+-- The written rules: of each its number, which is its place among the rules, its letter and number,
+-- and its name. fontc's own.
 use Rattle.std.specs.Prelude.{ℕ, List, codes}
 use Rattle.refusal_codes.specs.declared.rule.Rule.{Rule}
-use Rattle.refusal_codes.specs.declared.rule.Rule.TheVariants.{NotUtf8, UnexpectedByte, UnexpectedEnd, BadEscape, DuplicateKey, TooDeep, TrailingText, WrongShape, MissingKey, WrongVersion, NotWhole, OutOfRange, TooManyAxes, TooManyMasters, NoMaster, AxisCount, SameLocation, AxisMapNotRising, DuplicateGlyph, OriginUnknown, BadTag, TooLarge, DuplicateMaster, MissingLayer, CubicNode, OpenContour, Incompatible, UnknownComponent, ComponentCycle, UnsupportedTransform, CoordinateTooLarge, DeltaTooLarge, TooManyPoints, TooManyComponents, DuplicateUnicode, LayerPlace, SameLayerPlace, TooManyLayers, AlternateName, TooManyRules, Syntax, Unsupported, UnknownGlyph, UnknownName, ConflictingRule, ClassSizes, MixedLookup, BadContextCall, TooManyGlyphs, CmapTooLarge, LayoutTooLarge, RowTooLarge, TableTooLarge, TooManyRegions, TooManyCells}
+use Rattle.refusal_codes.specs.declared.rule.Rule.TheVariants.{NotUtf8, UnexpectedByte,
+    UnexpectedEnd, BadEscape, DuplicateKey, TooDeep, TrailingText, WrongShape, MissingKey,
+    WrongVersion, NotWhole, OutOfRange, TooManyAxes, TooManyMasters, NoMaster, AxisCount,
+    SameLocation, AxisMapNotRising, DuplicateGlyph, OriginUnknown, BadTag, TooLarge,
+    DuplicateMaster, MissingLayer, CubicNode, OpenContour, Incompatible, UnknownComponent,
+    ComponentCycle, UnsupportedTransform, CoordinateTooLarge, DeltaTooLarge, TooManyPoints,
+    TooManyComponents, DuplicateUnicode, LayerPlace, SameLayerPlace, TooManyLayers, AlternateName,
+    TooManyRules, Syntax, Unsupported, UnknownGlyph, UnknownName, ConflictingRule, ClassSizes,
+    MixedLookup, BadContextCall, TooManyGlyphs, CmapTooLarge, LayoutTooLarge, RowTooLarge,
+    TableTooLarge, TooManyRegions, TooManyCells}
 
 -- one row for each rule
 abbrev pub rule_row : Rule → ℕ × List ℕ × List ℕ

@@ -1,4 +1,5 @@
--- How a refusal reads: its rule's letter and number, the rule's name, the kind of the job that found it, the name where
+-- How a refusal reads: its rule's letter and number, the rule's name, the kind of the job that
+-- found it, the name where
 -- there is one, and the place, as `G2 CubicNode Raw A at 181`. fontc's own.
 use Rattle.std.specs.Prelude.{ℕ, List, [], ◌∷◌, ◌++◌, codes}
 use Rattle.std.specs.List.{slice_index_or}
@@ -10,7 +11,8 @@ use Rattle.refusal_codes.specs.declared.refusal.Refusal.{Refusal}
 abbrev pub kind_names : List (List ℕ)
 kind_names =
     codes "Tree" ∷ codes "Header" ∷ codes "Index" ∷ codes "Raw" ∷ codes "Flat" ∷ codes "Simple"
-    ∷ codes "Composite" ∷ codes "Variations" ∷ codes "FeatureParse" ∷ codes "Order" ∷ codes "Advances"
+    ∷ codes "Composite" ∷ codes "Variations" ∷ codes "FeatureParse" ∷ codes "Order"
+        ∷ codes "Advances"
     ∷ codes "Kern" ∷ codes "Marks" ∷ codes "Rules" ∷ codes "Lookup" ∷ codes "Store" ∷ codes "Table"
     ∷ codes "Font" ∷ codes "Alternates" ∷ []
 
@@ -25,4 +27,5 @@ spaced_name (byte ∷ bytes) = codes " " ++ byte ∷ bytes
 
 -- the whole text
 abbrev pub refusal_text : Refusal → List ℕ
-refusal_text r = rule_code r.rule ++ codes " " ++ rule_name r.rule ++ codes " " ++ kind_name r.kind ++ spaced_name r.name ++ codes " at " ++ decimal r.place
+refusal_text r = rule_code r.rule ++ codes " " ++ rule_name r.rule ++ codes " " ++ kind_name r.kind
+    ++ spaced_name r.name ++ codes " at " ++ decimal r.place

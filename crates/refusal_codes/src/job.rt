@@ -1,6 +1,7 @@
 //! The kinds of jobs that a compilation is made of. All of them are fontc's own.
 
-/// A kind of job: the stratum that its jobs are of, and the number of the kind. Refusals are ordered by these first.
+/// A kind of job: the stratum that its jobs are of, and the number of the kind. Refusals are
+/// ordered by these first.
 #[derive(Clone, Copy, Debug, PartialEq, Eq)]
 pub struct Job {
     pub stratum: u8,

@@ -1,4 +1,5 @@
-//! The numbers of which the rules speak. Those of counts and lengths are the most that is allowed. All of them are fontc's
+//! The numbers of which the rules speak. Those of counts and lengths are the most that is allowed.
+//! All of them are fontc's
 //! own.
 
 /// Bytes of a source.

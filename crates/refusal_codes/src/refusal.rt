@@ -56,7 +56,8 @@ impl Refusal {
         })
     }
 
-    /// What the console shows: the rule's code and name, the kind of the job, the name where there is one, and the place.
+    /// What the console shows: the rule's code and name, the kind of the job, the name where there
+    /// is one, and the place.
     pub fn text(&self, alloc: Global) -> Result<String, NoMemory>
         ensures { IfOk result (λ text. string_bytes text ≡ refusal_text self.now) }
     {
@@ -84,7 +85,8 @@ fn push_name(text: &mut String, name: &Text) -> Result<(), AllocError>
     text.push_str(name.as_str())
 }
 
-/// The order of refusals is total, and two refusals that are equal in it are one. A law: the function does nothing.
+/// The order of refusals is total, and two refusals that are equal in it are one. A law: the
+/// function does nothing.
 pub fn refusals_are_ordered()
     ensures total { IsTotalOrder refusal_cmp }
     ensures exact { (a b : Refusal) → refusal_cmp a b ≡ Equal → a ≡ b }

@@ -3,7 +3,8 @@ ghost use Rattle.refusal_codes.specs.Rules.{rule_number, rule_code, rule_name};
 
 /// The written rules that a source can fail, in the order in which they win at one place.
 ///
-/// P rules are of the property list, S rules of the header and the glyph index, G rules of glyphs, F rules of feature
+/// P rules are of the property list, S rules of the header and the glyph index, G rules of glyphs,
+/// F rules of feature
 /// code, and B rules of what is built. All of them are fontc's own.
 #[derive(Clone, Copy, Debug, PartialEq, Eq)]
 pub enum Rule {
@@ -67,7 +68,8 @@ pub enum Rule {
     ComponentCycle,
     /// A component is slanted, turned by no multiple of 90 degrees, or a piece of a smart one.
     UnsupportedTransform,
-    /// A coordinate is beyond 16383 in size. The place is the coordinate, or the glyph once it is flattened.
+    /// A coordinate is beyond 16383 in size. The place is the coordinate, or the glyph once it is
+    /// flattened.
     CoordinateTooLarge,
     /// A delta is outside -32768 to 32767. The place is the glyph, or the kerning.
     DeltaTooLarge,
@@ -75,19 +77,24 @@ pub enum Rule {
     TooManyPoints,
     /// More than 256 components in a layer. The place is the layer.
     TooManyComponents,
-    /// A character code stands a second time among the exported glyphs. The place is the glyph in which it does.
+    /// A character code stands a second time among the exported glyphs. The place is the glyph in
+    /// which it does.
     DuplicateUnicode,
-    /// An intermediate layer's coordinates aren't one per axis within the axis. The place is the list.
+    /// An intermediate layer's coordinates aren't one per axis within the axis. The place is the
+    /// list.
     LayerPlace,
-    /// An intermediate layer has the location of a master or of an earlier layer. The place is the later layer.
+    /// An intermediate layer has the location of a master or of an earlier layer. The place is the
+    /// later layer.
     SameLayerPlace,
     /// More than 64 masters and intermediate layers. The place is the glyph.
     TooManyLayers,
-    /// The name of a glyph's alternate is a glyph's name, or longer than 255 bytes. The place is the glyph.
+    /// The name of a glyph's alternate is a glyph's name, or longer than 255 bytes. The place is
+    /// the glyph.
     AlternateName,
     /// A glyph has more than 64 bracket layer rules. The place is the glyph.
     TooManyRules,
-    /// The feature grammar can't go on. The place is the token in the feature text, as of every F rule.
+    /// The feature grammar can't go on. The place is the token in the feature text, as of every F
+    /// rule.
     Syntax,
     /// A statement or a token of the feature language that fontc doesn't compile.
     Unsupported,
@@ -107,7 +114,8 @@ pub enum Rule {
     TooManyGlyphs,
     /// The format 4 character map is longer than 65,535 bytes. The place is its length.
     CmapTooLarge,
-    /// An offset of a layout table exceeds its width, or a table or store has too many lookups or rows.
+    /// An offset of a layout table exceeds its width, or a table or store has too many lookups or
+    /// rows.
     LayoutTooLarge,
     /// A pair subtable of one row is longer than 65,535 bytes. The place is its length.
     RowTooLarge,
@@ -115,12 +123,14 @@ pub enum Rule {
     TableTooLarge,
     /// HVAR has more than 1,024 regions. The place is their number.
     TooManyRegions,
-    /// The bracket layers divide the design space into more than 65,536 cells. The place is their number.
+    /// The bracket layers divide the design space into more than 65,536 cells. The place is their
+    /// number.
     TooManyCells,
 }
 
 impl Rule {
-    /// The rule's place among the rules. Of two that fail at one place, the rule with the lower number wins.
+    /// The rule's place among the rules. Of two that fail at one place, the rule with the lower
+    /// number wins.
     pub fn number(self) -> u8
         ensures { result ≡ rule_number self }
     {

@@ -1,17 +1,22 @@
--- The rules that each kind of value fails: a value of another kind than the one asked is of a wrong shape, a number
--- with a fraction isn't whole, and a number or a length may be outside its range. Of these only the first is found at one
+-- The rules that each kind of value fails: a value of another kind than the one asked is of a wrong
+-- shape, a number
+-- with a fraction isn't whole, and a number or a length may be outside its range. Of these only the
+-- first is found at one
 -- value. A dictionary that lacks a key fails itself. fontc's own.
-use Rattle.std.specs.Prelude.{ℕ, Bool, false, ◌&&◌, ◌==◌, nat_le, List, [], ◌∷◌, length, Option, Some, None, is_some, flat_map, if◌then◌else◌}
+use Rattle.std.specs.Prelude.{ℕ, Bool, false, ◌&&◌, ◌==◌, nat_le, List, [], ◌∷◌, length, Option,
+    Some, None, is_some, flat_map, if◌then◌else◌}
 use Rattle.plist_reader.specs.declared.tree.Tree.{Tree}
 use Rattle.plist_reader.specs.Tree.{text_at, find_in}
 use Rattle.refusal_codes.specs.declared.rule.Rule.{Rule}
-use Rattle.refusal_codes.specs.declared.rule.Rule.TheVariants.{WrongShape, MissingKey, NotWhole, OutOfRange, CoordinateTooLarge}
+use Rattle.refusal_codes.specs.declared.rule.Rule.TheVariants.{WrongShape, MissingKey, NotWhole,
+    OutOfRange, CoordinateTooLarge}
 use Rattle.refusal_codes.specs.declared.first.Failure.{Failure}
 use Rattle.source_values.specs.declared.decimals.Decimal.{Decimal}
 use Rattle.source_values.specs.declared.kinds.Range.{Range}
 use Rattle.source_values.specs.declared.kinds.Range.TheVariants.{Any, Natural, Code, Coordinate}
 use Rattle.source_values.specs.Decimals.{is_whole}
-use Rattle.source_values.specs.Values.{place_at, items_at, pairs_at, is_dictionary, decimal_at, in_range}
+use Rattle.source_values.specs.Values.{place_at, items_at, pairs_at, is_dictionary, decimal_at,
+    in_range}
 
 -- this rule fails at this value
 abbrev pub fails : Rule → Tree → ℕ → List Failure
@@ -92,7 +97,8 @@ under_by failures missing (Some n) = failures n
 
 -- a key that a dictionary must have
 abbrev pub required : List ℕ → (Tree → ℕ → List Failure) → Tree → ℕ → List Failure
-required key failures t pairs = under_by (failures t) (fails MissingKey t pairs) (find_in t pairs key)
+required key failures t pairs = under_by (failures t) (fails MissingKey t pairs)
+    (find_in t pairs key)
 
 -- a key that a dictionary may have
 abbrev pub optional : List ℕ → (Tree → ℕ → List Failure) → Tree → ℕ → List Failure

@@ -1,7 +1,10 @@
--- Which values of a source fail which rule. A way leads from a value to others inside it; a table says of each way what is
--- asked of the values that it reaches, and by which rule they fail. A law above the rules that the readers note, in words
+-- Which values of a source fail which rule. A way leads from a value to others inside it; a table
+-- says of each way what is
+-- asked of the values that it reaches, and by which rule they fail. A law above the rules that the
+-- readers note, in words
 -- that know no order. fontc's own.
-use Rattle.std.specs.Prelude.{◌≡◌, ℕ, Bool, true, false, List, [], ◌∷◌, ◌++◌, length, Option, Some, None, is_some, slice_get, ◌⊎◌, ◌↔◌, ◌==◌, if◌then◌else◌}
+use Rattle.std.specs.Prelude.{◌≡◌, ℕ, Bool, true, false, List, [], ◌∷◌, ◌++◌, length, Option, Some,
+    None, is_some, slice_get, ◌⊎◌, ◌↔◌, ◌==◌, if◌then◌else◌}
 use Rattle.std.specs.Option.{option_map_or}
 use Rattle.plist_reader.specs.declared.tree.Tree.{Tree}
 use Rattle.plist_reader.specs.Tree.{find_in}
@@ -15,7 +18,8 @@ abbrev pub IsOneOf : {X : Type 0} → List X → X → Type 0
 IsOneOf [] x = ⊥
 IsOneOf (y ∷ ys) x = (x ≡ y) ⊎ IsOneOf ys x
 
--- a step of a way: to the value under a key, to each value of a list, to the value at a place of a list, or none, from a
+-- a step of a way: to the value under a key, to each value of a list, to the value at a place of a
+-- list, or none, from a
 -- value that passes a test
 pub data Step : Type 0 where
   under : List ℕ → Step
@@ -27,7 +31,8 @@ pub data Step : Type 0 where
 abbrev pub Leads : Tree → Step → ℕ → ℕ → Type 0
 Leads t (under key) n m = find_in t n key ≡ Some m
 Leads t each_item n m = (items : List ℕ) × (items_at t n ≡ Some items) × IsOneOf items m
-Leads t (item place) n m = (items : List ℕ) × (items_at t n ≡ Some items) × (slice_get items place ≡ Some m)
+Leads t (item place) n m = (items : List ℕ) × (items_at t n ≡ Some items)
+    × (slice_get items place ≡ Some m)
 Leads t (when test) n m = (test t n ≡ true) × (m ≡ n)
 
 -- the values that a way reaches
@@ -35,7 +40,8 @@ abbrev pub Reaches : Tree → List Step → ℕ → ℕ → Type 0
 Reaches t [] n m = m ≡ n
 Reaches t (step ∷ way) n m = (k : ℕ) × Leads t step n k × Reaches t way k m
 
--- what is asked of the values that a way reaches, and the rule that those fail of which it doesn't hold
+-- what is asked of the values that a way reaches, and the rule that those fail of which it doesn't
+-- hold
 pub record Row : Type 0 where
   pub way : List Step
   pub rule : Rule

@@ -1,11 +1,14 @@
-ghost use Rattle.std.specs.Prelude.{◌≡◌, ◌↔◌, List, ℕ, Some, ◌==◌, ◌+◌, ◌-◌, ◌*◌, ◌<◌, ◌≤◌, min, length, position, option_map, IfSome};
+ghost use Rattle.std.specs.Prelude.{◌≡◌, ◌↔◌, List, ℕ, Some, ◌==◌, ◌+◌, ◌-◌, ◌*◌, ◌<◌, ◌≤◌, min,
+    length, position, option_map, IfSome};
 ghost use Rattle.source_values.specs.declared.decimals.Decimal.{Decimal as SeenDecimal};
 ghost use Rattle.source_values.specs.Spelling.{Spells};
-ghost use Rattle.source_values.specs.Decimals.{are_digits, digits_value, billionths_of, fraction_of, unsigned_of, decimal_of, cut};
+ghost use Rattle.source_values.specs.Decimals.{are_digits, digits_value, billionths_of, fraction_of,
+    unsigned_of, decimal_of, cut};
 
 /// A number, exact to nine digits of fraction.
 ///
-/// A whole part above 1,000,000,000, which is greater than each number that a source may have, is cut to that.
+/// A whole part above 1,000,000,000, which is greater than each number that a source may have, is
+/// cut to that.
 #[derive(Clone, Copy, Debug, PartialEq, Eq)]
 pub struct Decimal {
     /// Whether it has a minus sign.
@@ -16,10 +19,12 @@ pub struct Decimal {
     pub billionths: u32,
 }
 
-/// A text spells a decimal exactly where the definition of reading gives it: digits of a fraction after the ninth don't count.
+/// A text spells a decimal exactly where the definition of reading gives it: digits of a fraction
+/// after the ninth don't count.
 /// A law: the function does nothing.
 pub fn texts_spell_their_decimals()
-    ensures { (text : List ℕ) (decimal : SeenDecimal) → (decimal_of text ≡ Some decimal) ↔ Spells text decimal }
+    ensures { (text : List ℕ) (decimal : SeenDecimal)
+        → (decimal_of text ≡ Some decimal) ↔ Spells text decimal }
 {}
 
 /// The bound to which the parts of a decimal are cut.

@@ -1,4 +1,5 @@
-//! What a source's values say: texts, decimals, lists and keys of a property list, and what each kind of value fails.
+//! What a source's values say: texts, decimals, lists and keys of a property list, and what each
+//! kind of value fails.
 #![tactic(auto)]
 
 mod asking;

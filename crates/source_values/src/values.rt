@@ -2,7 +2,8 @@ ghost use Rattle.std.specs.Prelude.{◌≡◌, ◌≤◌, option_copied, option_
 ghost use Rattle.plist_reader.specs.Tree.{text_at, is_key};
 ghost use Rattle.refusal_codes.specs.First.{noted};
 ghost use Rattle.source_values.specs.Decimals.{cut};
-ghost use Rattle.source_values.specs.Values.{place_at, items_at, is_list, is_dictionary, decimal_at, natural_in, natural_or, items_under, text_under, decimal_under};
+ghost use Rattle.source_values.specs.Values.{place_at, items_at, is_list, is_dictionary, decimal_at,
+    natural_in, natural_or, items_under, text_under, decimal_under};
 ghost use Rattle.source_values.specs.Asking.{fails};
 
 use crate::decimals::{Decimal, read_decimal};
@@ -118,7 +119,8 @@ pub fn copied(alloc: Global, text: Option<&str>) -> Result<Text, AllocError>
     }
 }
 
-/// The whole number that a dictionary has under a key; `missing` where it has none, and `low` where it is not from `low`
+/// The whole number that a dictionary has under a key; `missing` where it has none, and `low` where
+/// it is not from `low`
 /// to `high`.
 pub fn natural_or(tree: &Tree, pairs: u32, key: &[u8], low: u16, high: u16, missing: u16) -> u16
     requires { low ≤ high }

@@ -11,6 +11,9 @@ Entry = Vec ℕ Global × ℕ
 abbrev pub pair : Entry → List ℕ × ℕ
 pair entry = (entry.0.items, entry.1)
 
-pub lookup-map : (key : List ℕ) (entries : List Entry) → lookup (λ k. pointwise nat_eq key k.items) entries ≡ lookup (pointwise nat_eq key) (map pair entries)
+pub lookup-map : (key : List ℕ) (entries : List Entry)
+    → lookup (λ k. pointwise nat_eq key k.items) entries
+    ≡ lookup (pointwise nat_eq key) (map pair entries)
 lookup-map key [] = refl
-lookup-map key (e ∷ entries) = ap (λ (r : Option ℕ). cond (pointwise nat_eq key e.0.items) (Some e.1) r) (lookup-map key entries)
+lookup-map key (e ∷ entries) = ap (λ (r : Option ℕ). cond (pointwise nat_eq key e.0.items)
+    (Some e.1) r) (lookup-map key entries)

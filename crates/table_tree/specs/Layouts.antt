@@ -1,15 +1,21 @@
--- The bytes of a tree of offsets (OpenType 1.9, "Data types": an Offset16 or an Offset32 counts from the first byte of the
--- table that has it, and 0 is an offset to nothing). Which part stands where is fontc's own. The near part of a node is its fields,
--- and behind them the near parts of the nodes that its offsets lead to, in the order of the fields; a node that is equal to an earlier
--- such node of the same parent stands once. Behind the near part of the whole tree stand the layouts of the nodes that its far
+-- The bytes of a tree of offsets (OpenType 1.9, "Data types": an Offset16 or an Offset32 counts
+-- from the first byte of the
+-- table that has it, and 0 is an offset to nothing). Which part stands where is fontc's own. The
+-- near part of a node is its fields,
+-- and behind them the near parts of the nodes that its offsets lead to, in the order of the fields;
+-- a node that is equal to an earlier
+-- such node of the same parent stands once. Behind the near part of the whole tree stand the
+-- layouts of the nodes that its far
 -- offsets lead to, in the order in which these offsets stand there; such a node is never shared.
-use Rattle.std.specs.Prelude.{ℕ, ◌+◌, ◌-◌, List, [], ◌∷◌, ◌++◌, length, map, nat_eq, nat_lt, if◌then◌else◌, Option, Some, None, is_some}
+use Rattle.std.specs.Prelude.{ℕ, ◌+◌, ◌-◌, List, [], ◌∷◌, ◌++◌, length, map, nat_eq, nat_lt,
+    if◌then◌else◌, Option, Some, None, is_some}
 use Rattle.std.specs.List.{flat_map}
 use Rattle.std.specs.Option.{unwrap_or}
 use Rattle.std.specs.Map.{lookup}
 use Rattle.std.specs.Cmp.Lexicographic.{pointwise}
 use Rattle.table_bytes.specs.DataTypes.{uint16, uint32}
-use Rattle.table_tree.specs.Trees.{Width, one, two, four, bytes_in, Tree, end, number, bytes, null, near, far, spelling}
+use Rattle.table_tree.specs.Trees.{Width, one, two, four, bytes_in, Tree, end, number, bytes, null,
+    near, far, spelling}
 
 -- the sum over a list
 abbrev pub total_by : {X : Type 0} → (X → ℕ) → List X → ℕ
@@ -53,11 +59,13 @@ greatest_of four = 4294967295
 abbrev pub first_above : List Piece → Option ℕ
 first_above [] = None
 first_above (written content ∷ pieces) = first_above pieces
-first_above (offset width value ∷ pieces) = if nat_lt (greatest_of width) value then Some value else first_above pieces
+first_above (offset width value ∷ pieces)
+    = if nat_lt (greatest_of width) value then Some value else first_above pieces
 
 -- ---- near parts
 
--- What a near part has in order: pieces, and far offsets. Of a far offset, where the node that has it begins in the near part, and
+-- What a near part has in order: pieces, and far offsets. Of a far offset, where the node that has
+-- it begins in the near part, and
 -- the layout of the node that it leads to.
 pub data Cell : Type 0 where
   settled : Piece → Cell
@@ -75,7 +83,8 @@ abbrev pub moved : ℕ → Cell → Cell
 moved place (settled piece) = settled piece
 moved place (far_offset start layout) = far_offset (place + start) layout
 
--- a field of a node: its bytes; or the width of an offset, and the spelling and the near part of the node that it leads to; or
+-- a field of a node: its bytes; or the width of an offset, and the spelling and the near part of
+-- the node that it leads to; or
 -- the layout of the node that a far offset leads to
 pub data Item : Type 0 where
   plain_item : List ℕ → Item
@@ -87,7 +96,8 @@ item_length (plain_item content) = length content
 item_length (near_item width spelled cells) = bytes_in width
 item_length (far_item layout) = bytes_in four
 
--- Where nodes stand, by their spellings, and where the next one will. A node stands where one with its spelling does, and else it
+-- Where nodes stand, by their spellings, and where the next one will. A node stands where one with
+-- its spelling does, and else it
 -- is the next.
 abbrev pub Places : Type 0
 Places = List (List ℕ × ℕ)
@@ -99,15 +109,18 @@ abbrev pub place_of : Places → ℕ → List ℕ → ℕ
 place_of places next spelled = unwrap_or (standing places spelled) next
 
 abbrev pub places_with : Places → ℕ → List ℕ → Places
-places_with places next spelled = if is_some (standing places spelled) then places else places ++ (spelled, next) ∷ []
+places_with places next spelled = if is_some (standing places spelled) then places else places
+    ++ (spelled, next) ∷ []
 
 abbrev pub next_after : Places → ℕ → List ℕ → List Cell → ℕ
-next_after places next spelled cells = if is_some (standing places spelled) then next else next + cells_length cells
+next_after places next spelled cells = if is_some (standing places spelled) then next else next
+    + cells_length cells
 
 -- the fields' own cells
 abbrev pub own_cells : Places → ℕ → List Item → List Cell
 own_cells places next [] = []
-own_cells places next (plain_item content ∷ items) = settled (written content) ∷ own_cells places next items
+own_cells places next (plain_item content ∷ items) = settled (written content)
+    ∷ own_cells places next items
 own_cells places next (near_item width spelled cells ∷ items) =
     settled (offset width (place_of places next spelled))
     ∷ own_cells (places_with places next spelled) (next_after places next spelled cells) items
@@ -125,11 +138,13 @@ cells_behind places next (far_item layout ∷ items) = cells_behind places next 
 -- the first node stands behind the fields
 abbrev pub near_cells : List Item → List Cell
 near_cells items =
-    let fields = total_by item_length items in own_cells [] fields items ++ cells_behind [] fields items
+    let fields = total_by item_length items
+        in own_cells [] fields items ++ cells_behind [] fields items
 
 -- ---- far parts
 
--- the cells of a near part, where so many bytes stand before the next far part: a far offset counts from its own node
+-- the cells of a near part, where so many bytes stand before the next far part: a far offset counts
+-- from its own node
 abbrev pub settled_cells : ℕ → List Cell → List Piece
 settled_cells next [] = []
 settled_cells next (settled piece ∷ cells) = piece ∷ settled_cells next cells
@@ -152,7 +167,8 @@ items_of end = []
 items_of (number width n others) = plain_item (number_bytes width n) ∷ items_of others
 items_of (bytes content others) = plain_item content ∷ items_of others
 items_of (null width others) = plain_item (number_bytes width 0) ∷ items_of others
-items_of (near width node others) = near_item width (spelling node) (near_cells (items_of node)) ∷ items_of others
+items_of (near width node others) = near_item width (spelling node) (near_cells (items_of node))
+    ∷ items_of others
 items_of (far node others) = far_item (settled_all (near_cells (items_of node))) ∷ items_of others
 
 abbrev pub near_part : Tree → List Cell

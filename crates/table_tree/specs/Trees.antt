@@ -1,4 +1,5 @@
--- Trees of offsets as plain values, and how a tree is spelled as a list of numbers. That nodes with the same spelling are one node
+-- Trees of offsets as plain values, and how a tree is spelled as a list of numbers. That nodes with
+-- the same spelling are one node
 -- is `spelling_injective`.
 use Rattle.std.specs.Prelude.{◌≡◌, ℕ, ◌+◌, List, [], ◌∷◌, ◌++◌}
 use Rattle.std.specs.Coded.{Coded, coded_ℕ, coded_list}
@@ -15,8 +16,10 @@ bytes_in one = 1
 bytes_in two = 2
 bytes_in four = 4
 
--- A node is the list of its fields (OpenType 1.9, "Data types"): unsigned numbers, bytes, offsets to nothing, offsets to a node
--- that stands near, and offsets of 32 bits to one that stands far. Each constructor puts one field before the others.
+-- A node is the list of its fields (OpenType 1.9, "Data types"): unsigned numbers, bytes, offsets
+-- to nothing, offsets to a node
+-- that stands near, and offsets of 32 bits to one that stands far. Each constructor puts one field
+-- before the others.
 pub data Tree : Type 0 where
   end : Tree
   number : Width → ℕ → Tree → Tree
@@ -70,7 +73,8 @@ width_injective two four e = absurd (omega arith)
 width_injective four one e = absurd (omega arith)
 width_injective four two e = absurd (omega arith)
 
-pub spelled_bytes-append : (content r s : List ℕ) → spelled_bytes content r ++ s ≡ spelled_bytes content (r ++ s)
+pub spelled_bytes-append : (content r s : List ℕ)
+    → spelled_bytes content r ++ s ≡ spelled_bytes content (r ++ s)
 spelled_bytes-append [] r s = refl
 spelled_bytes-append (b ∷ content) r s = ap (λ xs. (b + 1) ∷ xs) (spelled_bytes-append content r s)
 
@@ -85,7 +89,8 @@ bytes_injective (x ∷ a) (y ∷ b) r s e =
     (content, same.1)
 
 -- what two spellings with something behind them say
-pub spelling_prefix : (a b : Tree) (r s : List ℕ) → spelling a ++ r ≡ spelling b ++ s → (a ≡ b) × (r ≡ s)
+pub spelling_prefix : (a b : Tree) (r s : List ℕ) → spelling a ++ r ≡ spelling b ++ s
+    → (a ≡ b) × (r ≡ s)
 spelling_prefix end end r s e = (refl, ap others_of e)
 spelling_prefix (number v m a) (number w n b) r s e =
     let rest = spelling_prefix a b r s (ap (λ xs. others_of (others_of (others_of xs))) e) in
@@ -94,7 +99,9 @@ spelling_prefix (number v m a) (number w n b) r s e =
     let same : number v m a ≡ number w n b = cc (width, value, rest.0) in
     (same, rest.1)
 spelling_prefix (bytes x a) (bytes y b) r s e =
-    let contents = bytes_injective x y _ _ (sym (spelled_bytes-append x (spelling a) r) ∙ ap others_of e ∙ spelled_bytes-append y (spelling b) s) in
+    let contents = bytes_injective x y _ _
+        (sym (spelled_bytes-append x (spelling a) r) ∙ ap others_of e
+        ∙ spelled_bytes-append y (spelling b) s) in
     let rest = spelling_prefix a b r s contents.1 in
     let same : bytes x a ≡ bytes y b = cc (contents.0, rest.0) in
     (same, rest.1)
@@ -105,14 +112,16 @@ spelling_prefix (null v a) (null w b) r s e =
     (same, rest.1)
 spelling_prefix (near v x a) (near w y b) r s e =
     let node = spelling_prefix x y (spelling a ++ r) (spelling b ++ s)
-    (sym (append_assoc (spelling x) (spelling a) r) ∙ ap (λ xs. others_of (others_of xs)) e ∙ append_assoc (spelling y) (spelling b) s) in
+    (sym (append_assoc (spelling x) (spelling a) r) ∙ ap (λ xs. others_of (others_of xs)) e
+        ∙ append_assoc (spelling y) (spelling b) s) in
     let rest = spelling_prefix a b r s node.1 in
     let width : v ≡ w = width_injective v w (ap (λ xs. first_of (others_of xs)) e) in
     let same : near v x a ≡ near w y b = cc (width, node.0, rest.0) in
     (same, rest.1)
 spelling_prefix (far x a) (far y b) r s e =
     let node = spelling_prefix x y (spelling a ++ r) (spelling b ++ s)
-    (sym (append_assoc (spelling x) (spelling a) r) ∙ ap others_of e ∙ append_assoc (spelling y) (spelling b) s) in
+    (sym (append_assoc (spelling x) (spelling a) r) ∙ ap others_of e
+        ∙ append_assoc (spelling y) (spelling b) s) in
     let rest = spelling_prefix a b r s node.1 in
     let same : far x a ≡ far y b = cc (node.0, rest.0) in
     (same, rest.1)

@@ -1,4 +1,5 @@
--- What is built while a tree is laid out, seen as the pieces and cells of its layout, and what laying out answered.
+-- What is built while a tree is laid out, seen as the pieces and cells of its layout, and what
+-- laying out answered.
 use Rattle.std.specs.Prelude.{◌≡◌, ℕ, List, [], ◌∷◌, map, Option, Some, None, Result, Ok, Err}
 use Rattle.std.specs.declared.alloc.Global.{Global}
 use Rattle.std.specs.Prelude.{Vec}
@@ -29,11 +30,13 @@ cell_of (Far start layout) = layouts.far_offset start (pieces_of layout.items)
 abbrev pub cells_of : List Cell → List layouts.Cell
 cells_of cells = map cell_of cells
 
--- The first offset that is above its width is the error, if there is one; else the bytes are the answer. Memory may run out.
+-- The first offset that is above its width is the error, if there is one; else the bytes are the
+-- answer. Memory may run out.
 abbrev pub RefusesLayout : LayoutError → Option ℕ → Type 0
 RefusesLayout (layout_errors.Offset n) above = above ≡ Some n
 RefusesLayout layout_errors.NoMemory above = Unit {0}
 
 abbrev pub LaysOut : Result (Vec ℕ Global) LayoutError → List layouts.Piece → Type 0
-LaysOut (Ok bytes) pieces = (bytes.items ≡ layouts.bytes_of pieces) × (layouts.first_above pieces ≡ None)
+LaysOut (Ok bytes) pieces = (bytes.items ≡ layouts.bytes_of pieces)
+    × (layouts.first_above pieces ≡ None)
 LaysOut (Err e) pieces = RefusesLayout e (layouts.first_above pieces)

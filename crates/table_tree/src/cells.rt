@@ -1,5 +1,6 @@
 ghost use Rattle.std.specs.Prelude.{◌≡◌, ◌+◌, IfOk, IfSome};
-ghost use Rattle.table_tree.specs.Layouts.{piece_length, length_of, cell_length, cells_length, moved as moved_cell, settled_all};
+ghost use Rattle.table_tree.specs.Layouts.{piece_length, length_of, cell_length, cells_length, moved
+    as moved_cell, settled_all};
 ghost use Rattle.table_tree.specs.Views.{piece_of, pieces_of, cell_of, cells_of};
 
 use refusal_codes::NoMemory;
@@ -16,7 +17,8 @@ pub enum Piece<'a> {
     Off32(u64),
 }
 
-/// What a near part has in order: a piece; or a far offset, with where the node that has it begins in the near part, and with the
+/// What a near part has in order: a piece; or a far offset, with where the node that has it begins
+/// in the near part, and with the
 /// layout of the node that it leads to.
 #[derive(Drop)]
 pub enum Cell<'a> {

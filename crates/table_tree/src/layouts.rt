@@ -12,15 +12,20 @@ use refusal_codes::NoMemory;
 use std::alloc::Global;
 use table_bytes::{push_uint16, push_uint32};
 
-/// The bytes of a tree of offsets (OpenType 1.9, "Data types"): the near part of the tree, its fields and behind them the near parts
-/// of the nodes that its offsets lead to, in the order of the fields; then the layouts of the nodes that far offsets lead to, in the
-/// order in which these offsets stand in the near part. A node that is equal to an earlier one that a near offset of the same
+/// The bytes of a tree of offsets (OpenType 1.9, "Data types"): the near part of the tree, its
+/// fields and behind them the near parts
+/// of the nodes that its offsets lead to, in the order of the fields; then the layouts of the nodes
+/// that far offsets lead to, in the
+/// order in which these offsets stand in the near part. A node that is equal to an earlier one that
+/// a near offset of the same
 /// parent leads to stands once. Each offset counts from the first byte of the node that has it.
 ///
-/// The error is `Offset` exactly where an offset is greater than its width holds, and has the first such, by its place in the
+/// The error is `Offset` exactly where an offset is greater than its width holds, and has the first
+/// such, by its place in the
 /// bytes. Else memory can run out.
 ///
-/// Of any node, each near offset leads to the near part of its node, and each far offset to the layout of its node. Nodes are
+/// Of any node, each near offset leads to the near part of its node, and each far offset to the
+/// layout of its node. Nodes are
 /// compared by their spellings, and those with one spelling are equal.
 pub fn layout(alloc: Global, tree: &Node) -> Result<Vec<u8>, LayoutError>
     ensures bytes { LaysOut result (layout_of tree.now) }
@@ -57,7 +62,8 @@ fn pieces_of<'a>(alloc: Global, tree: &'a Node) -> Result<Vec<Piece<'a>>, NoMemo
 }
 
 /// The bytes of pieces.
-#[tactic(auto, using(crate::proofs::PieceLemmas::above_more, crate::proofs::PieceLemmas::refuses_more))]
+#[tactic(auto, using(crate::proofs::PieceLemmas::above_more,
+    crate::proofs::PieceLemmas::refuses_more))]
 fn bytes_of(alloc: Global, pieces: &[Piece<'_>]) -> Result<Vec<u8>, LayoutError>
     ensures { LaysOut result (pieces_of pieces.now) }
 {
@@ -70,7 +76,10 @@ fn bytes_of(alloc: Global, pieces: &[Piece<'_>]) -> Result<Vec<u8>, LayoutError>
 
 /// Appends the bytes of a piece, unless it is an offset that is greater than its width holds.
 fn push_piece(bytes: &mut Vec<u8>, piece: &Piece<'_>) -> Result<(), LayoutError>
-    ensures { MatchResult result (λ _. (bytes.new.items ≡ bytes.old.items ++ piece_bytes (piece_of piece.now)) × (first_above (piece_of piece.now ∷ []) ≡ None)) (λ e. RefusesLayout e (first_above (piece_of piece.now ∷ []))) }
+    ensures { MatchResult result (λ _. (bytes.new.items
+        ≡ bytes.old.items ++ piece_bytes (piece_of piece.now))
+        × (first_above (piece_of piece.now ∷ []) ≡ None))
+        (λ e. RefusesLayout e (first_above (piece_of piece.now ∷ []))) }
 {
     match piece {
         Piece::U8(n) => bytes.push(*n)?,

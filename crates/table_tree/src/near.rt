@@ -1,7 +1,10 @@
-ghost use Rattle.std.specs.Prelude.{◌≡◌, ◌+◌, ◌++◌, [], ◌∷◌, None, map, if◌then◌else◌, is_some, IfOk, OnOk};
+ghost use Rattle.std.specs.Prelude.{◌≡◌, ◌+◌, ◌++◌, [], ◌∷◌, None, map, if◌then◌else◌, is_some,
+    IfOk, OnOk};
 ghost use Rattle.table_tree.specs.Trees.{Tree, end, spelling};
 ghost use Rattle.table_tree.specs.TreeOf.{before, tree_of};
-ghost use Rattle.table_tree.specs.Layouts.{cells_length as length_of_cells, moved, standing, place_of, places_with, next_after, item_length, items_of, total_by, own_cells, cells_behind, near_part as near_part_of};
+ghost use Rattle.table_tree.specs.Layouts.{cells_length as length_of_cells, moved, standing,
+    place_of, places_with, next_after, item_length, items_of, total_by, own_cells, cells_behind,
+    near_part as near_part_of};
 ghost use Rattle.table_tree.specs.Views.{cell_of, cells_of};
 ghost use Rattle.table_tree.specs.Standing.{places_in};
 
@@ -12,7 +15,8 @@ use indexmap::IndexMap;
 use refusal_codes::NoMemory;
 use std::alloc::Global;
 
-/// The nodes that stand behind the fields of a node: their cells, where each begins, by its spelling, and where the next will.
+/// The nodes that stand behind the fields of a node: their cells, where each begins, by its
+/// spelling, and where the next will.
 #[derive(Drop)]
 pub struct Behind<'a> {
     cells: Vec<Cell<'a>>,
@@ -47,8 +51,14 @@ fn own_cell<'a>(
     field: &'a Field,
     behind: &mut Behind<'a>,
 ) -> Result<Cell<'a>, NoMemory>
-    ensures own { IfOk result (λ cell. (others : Tree) → own_cells (places_in behind.old) behind.old.next (items_of (before field.now others)) ≡ cell_of cell ∷ own_cells (places_in behind.new) behind.new.next (items_of others)) }
-    ensures cells { OnOk result ((others : Tree) → cells_of behind.old.cells.items ++ cells_behind (places_in behind.old) behind.old.next (items_of (before field.now others)) ≡ cells_of behind.new.cells.items ++ cells_behind (places_in behind.new) behind.new.next (items_of others)) }
+    ensures own { IfOk result (λ cell. (others : Tree)
+        → own_cells (places_in behind.old) behind.old.next (items_of (before field.now others))
+        ≡ cell_of cell ∷ own_cells (places_in behind.new) behind.new.next (items_of others)) }
+    ensures cells { OnOk result ((others : Tree)
+        → cells_of behind.old.cells.items ++ cells_behind (places_in behind.old) behind.old.next
+        (items_of (before field.now others))
+        ≡ cells_of behind.new.cells.items ++ cells_behind (places_in behind.new) behind.new.next
+        (items_of others)) }
 {
     match field {
         Field::U8(n) => Ok(Cell::Settled(Piece::U8(*n))),
@@ -72,17 +82,25 @@ fn own_cell<'a>(
     }
 }
 
-/// Where a node stands behind the fields of its parent. Unless one that is equal to it stands there, it becomes the last.
+/// Where a node stands behind the fields of its parent. Unless one that is equal to it stands
+/// there, it becomes the last.
 #[cycle(near_part)]
 fn place_of_child<'a>(
     alloc: Global,
     child: &'a Node,
     behind: &mut Behind<'a>,
 ) -> Result<u64, NoMemory>
-    ensures place { IfOk result (λ place. place ≡ place_of (places_in behind.old) behind.old.next (spelling child.now)) }
-    ensures places { OnOk result (places_in behind.new ≡ places_with (places_in behind.old) behind.old.next (spelling child.now)) }
-    ensures next { OnOk result (behind.new.next ≡ next_after (places_in behind.old) behind.old.next (spelling child.now) (near_part_of child.now)) }
-    ensures cells { OnOk result (cells_of behind.new.cells.items ≡ cells_of behind.old.cells.items ++ (if is_some (standing (places_in behind.old) (spelling child.now)) then [] else map (moved behind.old.next) (near_part_of child.now))) }
+    ensures place { IfOk result (λ place. place
+        ≡ place_of (places_in behind.old) behind.old.next (spelling child.now)) }
+    ensures places { OnOk result (places_in behind.new
+        ≡ places_with (places_in behind.old) behind.old.next (spelling child.now)) }
+    ensures next { OnOk result (behind.new.next
+        ≡ next_after (places_in behind.old) behind.old.next (spelling child.now)
+        (near_part_of child.now)) }
+    ensures cells { OnOk result (cells_of behind.new.cells.items
+        ≡ cells_of behind.old.cells.items ++
+        (if is_some (standing (places_in behind.old) (spelling child.now)) then [] else map
+        (moved behind.old.next) (near_part_of child.now))) }
 {
     let spelled = spelling_of(alloc, child)?;
     match behind.standing(spelled.as_slice()) {
@@ -106,9 +124,13 @@ impl<'a> Behind<'a> {
     fn put(&mut self, spelled: Vec<u32>, cells: Vec<Cell<'a>>) -> Result<u64, NoMemory>
         requires { standing (places_in self.old) spelled.items ≡ None }
         ensures place { IfOk result (λ place. place ≡ self.old.next) }
-        ensures places { OnOk result (places_in self.new ≡ places_in self.old ++ (spelled.items, self.old.next) ∷ []) }
-        ensures next { OnOk result (self.new.next ≡ self.old.next + length_of_cells (cells_of cells.entry.items)) }
-        ensures cells { OnOk result (cells_of self.new.cells.items ≡ cells_of self.old.cells.items ++ map (moved self.old.next) (cells_of cells.entry.items)) }
+        ensures places { OnOk result (places_in self.new
+            ≡ places_in self.old ++ (spelled.items, self.old.next) ∷ []) }
+        ensures next { OnOk result (self.new.next
+            ≡ self.old.next + length_of_cells (cells_of cells.entry.items)) }
+        ensures cells { OnOk result (cells_of self.new.cells.items
+            ≡ cells_of self.old.cells.items ++ map (moved self.old.next)
+            (cells_of cells.entry.items)) }
     {
         let place = self.next;
         self.next = sum(place, cells_length(cells.as_slice())?)?;
@@ -123,7 +145,8 @@ impl<'a> Behind<'a> {
 /// How many bytes the fields of a node have.
 #[tactic(auto, using(crate::proofs::TreeLemmas::length_before))]
 fn fields_length(fields: &[Field]) -> Result<u64, NoMemory>
-    ensures { IfOk result (λ length. length ≡ total_by item_length (items_of (tree_of fields.now))) }
+    ensures { IfOk result (λ length. length ≡ total_by item_length (items_of (tree_of fields.now)))
+        }
 {
     let mut length = 0;
     for field in fields {

@@ -43,7 +43,9 @@ fn spell(node: &Node, numbers: &mut Vec<u32>) -> Result<(), NoMemory>
 /// Appends what a field puts before the spelling of the others.
 #[cycle(spell)]
 fn spell_field(field: &Field, numbers: &mut Vec<u32>) -> Result<(), NoMemory>
-    ensures { OnOk result ((others : Tree) → numbers.new.items ++ spelling others ≡ numbers.old.items ++ spelling (before field.now others)) }
+    ensures { OnOk result ((others : Tree)
+        → numbers.new.items ++ spelling others
+        ≡ numbers.old.items ++ spelling (before field.now others)) }
 {
     match field {
         Field::U8(n) => numbers.extend_from_slice(&[NUMBER, 1, u32::from(*n)])?,
@@ -70,7 +72,8 @@ fn spell_field(field: &Field, numbers: &mut Vec<u32>) -> Result<(), NoMemory>
 
 /// Appends the spelling of bytes.
 fn spell_bytes(content: &[u8], numbers: &mut Vec<u32>) -> Result<(), NoMemory>
-    ensures { OnOk result (numbers.new.items ≡ numbers.old.items ++ 2 ∷ spelled_bytes content.now []) }
+    ensures { OnOk result (numbers.new.items
+        ≡ numbers.old.items ++ 2 ∷ spelled_bytes content.now []) }
 {
     numbers.push(BYTES)?;
     for byte in content {

@@ -1,5 +1,6 @@
 -- Tickets in line, and entries of one worker, as a step leaves them.
-use Rattle.std.proofs.Common.{◌≡◌, ◌≢◌, ℕ, ◌+◌, ◌<◌, cond, eqb, List, [], ◌∷◌, ◌++◌, length, drop, refl, sym, ap, ◌∙◌, subst, inl, inr, arith, append_assoc, append-nil, ne_eqb, eq-eqb}
+use Rattle.std.proofs.Common.{◌≡◌, ◌≢◌, ℕ, ◌+◌, ◌<◌, cond, eqb, List, [], ◌∷◌, ◌++◌, length, drop,
+    refl, sym, ap, ◌∙◌, subst, inl, inr, arith, append_assoc, append-nil, ne_eqb, eq-eqb}
 use Rattle.std.proofs.lemmas.List.Elements.{filter-append}
 use Rattle.std.proofs.lemmas.List.Prefix.{front_rest}
 use Rattle.std.specs.List.{sum_by, count_by}
@@ -11,26 +12,31 @@ use Rattle.turnstile.specs.declared.knowledge.Stage.{Stage}
 use Rattle.turnstile.specs.declared.knowledge.Stage.TheVariants.{Away, Waiting, Served, Noted}
 use Rattle.turnstile.specs.declared.knowledge.Member.{Member}
 
-pub in_longer_line : (served next : ℕ) (st : Stage) → IsInLine served next st → IsInLine served (next + 1) st
+pub in_longer_line : (served next : ℕ) (st : Stage) → IsInLine served next st
+    → IsInLine served (next + 1) st
 in_longer_line served next Away h = tt
 in_longer_line served next (Waiting t) h = let a = h.0 in let b = h.1 in (a, omega arith)
 in_longer_line served next (Served t) h = let a = h.0 in let b = h.1 in (a, omega arith)
 in_longer_line served next (Noted t) h = let a = h.0 in let b = h.1 in (a, omega arith)
 
 -- the first leaves
-pub in_shorter_line : (served next : ℕ) (st : Stage) → (HasTicket st served → ⊥) → IsInLine served next st → IsInLine (served + 1) next st
+pub in_shorter_line : (served next : ℕ) (st : Stage) → (HasTicket st served → ⊥)
+    → IsInLine served next st → IsInLine (served + 1) next st
 in_shorter_line served next Away other h = tt
-in_shorter_line served next (Waiting t) other h = let a = h.0 in let b = h.1 in let c : t ≢ served = other in (omega arith, b)
+in_shorter_line served next (Waiting t) other h = let a = h.0 in let b = h.1
+    in let c : t ≢ served = other in (omega arith, b)
 in_shorter_line served next (Served t) other h = absurd (other h.0)
 in_shorter_line served next (Noted t) other h = absurd (other h.0)
 
-pub below_next : (served next : ℕ) (st : Stage) (t : ℕ) → HasTicket st t → IsInLine served next st → t < next
+pub below_next : (served next : ℕ) (st : Stage) (t : ℕ) → HasTicket st t → IsInLine served next st
+    → t < next
 below_next served next Away t has h = absurd has
 below_next served next (Waiting u) t has h = let e : u ≡ t = has in let b = h.1 in omega arith
 below_next served next (Served u) t has h = let e : u ≡ t = has in let b = h.1 in omega arith
 below_next served next (Noted u) t has h = let e : u ≡ t = has in let b = h.1 in omega arith
 
-pub ticket_of_served : (served next : ℕ) (st : Stage) → IsServed st → IsInLine served next st → HasTicket st served
+pub ticket_of_served : (served next : ℕ) (st : Stage) → IsServed st → IsInLine served next st
+    → HasTicket st served
 ticket_of_served served next Away is h = absurd is
 ticket_of_served served next (Waiting t) is h = absurd is
 ticket_of_served served next (Served t) is h = h.0
@@ -43,7 +49,8 @@ one_ticket (Served t) is = refl
 one_ticket (Noted t) is = refl
 
 module _ {E : Type 0} where
-  pub entries_of-append : (k : ℕ) (xs ys : List (ℕ × E)) → entries_of k (xs ++ ys) ≡ entries_of k xs ++ entries_of k ys
+  pub entries_of-append : (k : ℕ) (xs ys : List (ℕ × E))
+      → entries_of k (xs ++ ys) ≡ entries_of k xs ++ entries_of k ys
   entries_of-append k xs ys = filter-append (λ (e : ℕ × E). eqb e.0 k) xs ys
 
   pub entries_of-own : (k : ℕ) (e : E) → entries_of k ((k, e) ∷ []) ≡ (k, e) ∷ []
@@ -61,16 +68,21 @@ module _ {E : Type 0} where
   added-own w added nothing = refl
   added-own w added (one e) = entries_of-own w e
 
-  pub added-other : (w k : ℕ) (added : List (ℕ × E)) → w ≢ k → Added w added → entries_of k added ≡ []
+  pub added-other : (w k : ℕ) (added : List (ℕ × E)) → w ≢ k → Added w added
+      → entries_of k added ≡ []
   added-other w k added ne nothing = refl
   added-other w k added ne (one e) = entries_of-other k w e ne
 
-  pub same_after : (w k : ℕ) (history added : List (ℕ × E)) → w ≢ k → Added w added → entries_of k (history ++ added) ≡ entries_of k history
+  pub same_after : (w k : ℕ) (history added : List (ℕ × E)) → w ≢ k → Added w added
+      → entries_of k (history ++ added) ≡ entries_of k history
   same_after w k history added ne a =
-      entries_of-append k history added ∙ (ap (λ xs. entries_of k history ++ xs) (added-other w k added ne a) ∙ append-nil (entries_of k history))
+      entries_of-append k history added ∙ (ap (λ xs. entries_of k history ++ xs)
+          (added-other w k added ne a) ∙ append-nil (entries_of k history))
 
-  pub begins_longer : (history added seen : List (ℕ × E)) → BeginsWith history seen → BeginsWith (history ++ added) seen
-  begins_longer history added seen b = (b.0 ++ added, ap (λ xs. xs ++ added) b.1 ∙ append_assoc seen b.0 added)
+  pub begins_longer : (history added seen : List (ℕ × E)) → BeginsWith history seen
+      → BeginsWith (history ++ added) seen
+  begins_longer history added seen b = (b.0 ++ added, ap (λ xs. xs ++ added) b.1
+      ∙ append_assoc seen b.0 added)
 
 module _ {E : Type 0} where
   pub added_of : (w : ℕ) (added : List (ℕ × E)) → AddsAtMostOne w [] added → Added w added
@@ -90,15 +102,18 @@ module _ {E : Type 0} where
 
 module _ {E T : Type 0} (origin : T) where
   -- members with other numbers know as much of a history that a worker added to
-  pub know_longer : (w : ℕ) (history added : List (ℕ × E)) → Added w added → (ms : List (Member E T))
-      → count_by (λ (m : Member E T). eqb m.worker w) ms ≡ 0 → AllKnow history origin ms → AllKnow (history ++ added) origin ms
+  pub know_longer : (w : ℕ) (history added : List (ℕ × E)) → Added w added
+      → (ms : List (Member E T))
+      → count_by (λ (m : Member E T). eqb m.worker w) ms ≡ 0 → AllKnow history origin ms
+          → AllKnow (history ++ added) origin ms
   know_longer w history added a [] none all = tt
   know_longer w history added a (m ∷ ms) none all =
       let f : Member E T → ℕ = λ x. cond (eqb x.worker w) 1 0 in
       let sum : sum_by f (m ∷ ms) ≡ f m + sum_by f ms = sum_by-cons f m ms in
       let here : f m ≡ 0 = omega arith in
       let rest : sum_by f ms ≡ 0 = omega arith in
-      let ne : w ≢ m.worker = λ e. absurd (let one : f m ≡ 1 = ap (λ b. cond {A = ℕ} b 1 0) (eq-eqb m.worker w (sym e)) in omega arith) in
+      let ne : w ≢ m.worker = λ e. absurd (let one : f m
+          ≡ 1 = ap (λ b. cond {A = ℕ} b 1 0) (eq-eqb m.worker w (sym e)) in omega arith) in
       let k = all.0 in (
         record {
           begins = begins_longer history added m.seen k.begins;

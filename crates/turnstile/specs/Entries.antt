@@ -12,4 +12,5 @@ module _ {E : Type 0} where
 
   -- the list has what was seen, and then at most one entry more, of this worker
   abbrev pub AddsAtMostOne : ℕ → List (ℕ × E) → List (ℕ × E) → Type 0
-  AddsAtMostOne worker seen list = (list ≡ seen) ⊎ ((entry : E) × (list ≡ seen ++ (worker, entry) ∷ []))
+  AddsAtMostOne worker seen list = (list ≡ seen)
+      ⊎ ((entry : E) × (list ≡ seen ++ (worker, entry) ∷ []))

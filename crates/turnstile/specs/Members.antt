@@ -1,5 +1,7 @@
--- What the seats at a turnstile's table know of the history, and how it is given out and taken in. fontc's own.
--- A seat has members: one for a pass, all of them for the first seat and for the last, and none once it was joined.
+-- What the seats at a turnstile's table know of the history, and how it is given out and taken in.
+-- fontc's own.
+-- A seat has members: one for a pass, all of them for the first seat and for the last, and none
+-- once it was joined.
 use Rattle.std.specs.Prelude.{◌≡◌, ℕ, zero, suc, ◌+◌, nat_eq, count_by, List, [], ◌∷◌, ◌++◌, length}
 use Rattle.turnstile.specs.Entries.{BeginsWith, entries_of}
 use Rattle.turnstile.specs.declared.knowledge.Stage.TheVariants.{Away}
@@ -28,7 +30,8 @@ module _ {E T : Type 0} where
   others_of [] = []
   others_of (m ∷ ms) = ms
 
-  -- the seat of one pass is cut off: it has the first member, and the seat that it is cut off keeps the others
+  -- the seat of one pass is cut off: it has the first member, and the seat that it is cut off keeps
+  -- the others
   abbrev pub pass_of : Knowledge E T → Knowledge E T
   pass_of v = record { stage = Away; members = first_of v.members }
 
@@ -59,7 +62,8 @@ module _ {E T : Type 0} where
   size v = length v.members
 
   module _ (history : List (ℕ × E)) (origin : T) where
-    -- what a member has seen begins the history, what it made is what the history has of it, and its root is that of the start
+    -- what a member has seen begins the history, what it made is what the history has of it, and
+    -- its root is that of the start
     pub record Knows (m : Member E T) : Type 0 where
       pub begins : BeginsWith history m.seen
       pub mine : entries_of m.worker history ≡ m.mine

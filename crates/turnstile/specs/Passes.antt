@@ -1,5 +1,6 @@
 -- What contracts see of a turnstile and of a pass. fontc's own.
-use Rattle.std.specs.Prelude.{◌≡◌, ℕ, ◌%◌, ◌^◌, suc, zero, ◌+◌, Bool, true, false, List, [], ◌∷◌, ◌++◌, length, drop, Option, None}
+use Rattle.std.specs.Prelude.{◌≡◌, ℕ, ◌%◌, ◌^◌, suc, zero, ◌+◌, Bool, true, false, List, [], ◌∷◌,
+    ◌++◌, length, drop, Option, None}
 use Rattle.atomic_table.specs.Table.{Me}
 use Rattle.atomic_table.specs.Seated.{TableId}
 use Rattle.turnstile.specs.Entries.{BeginsWith, entries_of}
@@ -14,7 +15,8 @@ pub record TurnstileView : Type 0 where
   pub table : TableId
   pub passes : ℕ
 
--- of which turnstile the pass is, its number, what it has seen of the history, which entries it made, the root of the
+-- of which turnstile the pass is, its number, what it has seen of the history, which entries it
+-- made, the root of the
 -- value, and whether it has a turn out
 pub record PassView (E T : Type 0) : Type 0 where
   pub table : TableId
@@ -27,7 +29,8 @@ pub record PassView (E T : Type 0) : Type 0 where
 module _ {E T : Type 0} where
   -- a pass of a new turnstile
   abbrev pub new_pass : TableId → T → ℕ → PassView E T
-  new_pass table root worker = record { table = table; worker = worker; seen = []; mine = []; root = root; is_out = false }
+  new_pass table root worker = record { table = table; worker = worker; seen = []; mine = []; root
+      = root; is_out = false }
 
   -- so many of them, numbered from `from` on
   abbrev pub new_passes : TableId → T → ℕ → ℕ → List (PassView E T)
@@ -42,11 +45,14 @@ module _ {E T : Type 0} where
   abbrev pub entered : List (ℕ × E) → PassView E T → PassView E T
   entered list p = record p { seen = list; is_out = true }
 
-  -- the pass as it leaves: it has seen the whole list, and what the list has beyond what it saw as it entered is its own
+  -- the pass as it leaves: it has seen the whole list, and what the list has beyond what it saw as
+  -- it entered is its own
   abbrev pub has_left : List (ℕ × E) → PassView E T → PassView E T
-  has_left list p = record p { seen = list; mine = p.mine ++ drop (length p.seen) list; is_out = false }
+  has_left list p = record p { seen = list; mine = p.mine
+      ++ drop (length p.seen) list; is_out = false }
 
-  -- a list of entries, and a root, that a pass agrees with: the list begins with what the pass has seen, and has of its
+  -- a list of entries, and a root, that a pass agrees with: the list begins with what the pass has
+  -- seen, and has of its
   -- number just the entries that it made
   pub record IsHistoryOf (list : List (ℕ × E)) (root : T) (p : PassView E T) : Type 0 where
     pub begins : BeginsWith list p.seen
@@ -60,7 +66,8 @@ has_ticket (Waiting t) = true
 has_ticket (Served t) = true
 has_ticket (Noted t) = true
 
--- between two calls a pass has no ticket and no slot, or its ticket is served and it has the empty slot
+-- between two calls a pass has no ticket and no slot, or its ticket is served and it has the empty
+-- slot
 abbrev pub Rests : {B : Type 0} → ℕ → Stage → List (ℕ × Option B) → Type 0
 Rests ticket Away slots = slots ≡ []
 Rests ticket (Waiting t) slots = ⊥
@@ -69,6 +76,8 @@ Rests ticket (Noted t) slots = ⊥
 
 module _ {B E T : Type 0} where
   -- what a pass keeps of its seat
-  pub record IsPass (worker ticket : ℕ) (root : T) (me : Me (Option B) (Knowledge E T)) : Type 0 where
-    pub one : me.0.members ≡ record { worker = worker; seen = seen_of me.0.members; mine = mine_of me.0.members; root = root } ∷ []
+  pub record IsPass (worker ticket : ℕ) (root : T) (me : Me (Option B) (Knowledge E T))
+      : Type 0 where
+    pub one : me.0.members ≡ record { worker = worker; seen = seen_of me.0.members; mine
+        = mine_of me.0.members; root = root } ∷ []
     pub rests : Rests ticket me.0.stage me.1

@@ -1,6 +1,9 @@
--- The rule of a turnstile: what holds of its words, its slot and what its seats know, between any two steps. fontc's own.
--- Word 0 is the history's length, word 1 the next ticket, and word 2 the ticket that is served. The one slot has the value.
-use Rattle.std.specs.Prelude.{◌≡◌, ◌⊎◌, ℕ, ◌+◌, ◌%◌, ◌^◌, ◌<◌, ◌≤◌, List, [], ◌∷◌, length, Option, Some}
+-- The rule of a turnstile: what holds of its words, its slot and what its seats know, between any
+-- two steps. fontc's own.
+-- Word 0 is the history's length, word 1 the next ticket, and word 2 the ticket that is served. The
+-- one slot has the value.
+use Rattle.std.specs.Prelude.{◌≡◌, ◌⊎◌, ℕ, ◌+◌, ◌%◌, ◌^◌, ◌<◌, ◌≤◌, List, [], ◌∷◌, length, Option,
+    Some}
 use Rattle.std.specs.List.{sum_by}
 use mathlib.Core.Option.{some, none}
 use lib.ListN.{get_elem?}
@@ -15,8 +18,10 @@ abbrev pub held : {E T : Type 0} → Knowledge E T → ℕ
 held v = tickets v.stage
 
 module _ {E T : Type 0} where
-  -- what a seat knows fits the history and the tickets; a seat with a ticket is the seat of one pass
-  pub record Agrees (history : List (ℕ × E)) (origin : T) (served next : ℕ) (v : Knowledge E T) : Type 0 where
+  -- what a seat knows fits the history and the tickets; a seat with a ticket is the seat of one
+  -- pass
+  pub record Agrees (history : List (ℕ × E)) (origin : T) (served next : ℕ) (v : Knowledge E T)
+      : Type 0 where
     pub members : AllKnow history origin v.members
     pub in_line : IsInLine served next v.stage
     pub alone : held v ≡ 1 → size v ≡ 1
@@ -25,11 +30,14 @@ module _ {E T : Type 0} where
   abbrev pub TicketsDiffer : List (Knowledge E T) → Type 0
   TicketsDiffer views =
       (i j : ℕ) (v w : Knowledge E T) (ticket : ℕ)
-      → get_elem? views i ≡ some v → get_elem? views j ≡ some w → HasTicket v.stage ticket → HasTicket w.stage ticket → i ≡ j
+      → get_elem? views i ≡ some v → get_elem? views j ≡ some w → HasTicket v.stage ticket
+          → HasTicket w.stage ticket → i ≡ j
 
 module _ {B E T : Type 0} (entries : B → List (ℕ × E)) (root : B → T) where
-  -- no ticket is served: the slot is at home, and its value has the history as its list, and the root of the start
-  pub record IsHome (history : List (ℕ × E)) (origin : T) (s : State (Option B) (Knowledge E T)) : Type 0 where
+  -- no ticket is served: the slot is at home, and its value has the history as its list, and the
+  -- root of the start
+  pub record IsHome (history : List (ℕ × E)) (origin : T) (s : State (Option B) (Knowledge E T))
+      : Type 0 where
     pub value : B
     pub home : s.homes ≡ some (Some value) ∷ []
     pub list : entries value ≡ history
@@ -61,7 +69,8 @@ module _ {B E T : Type 0} (entries : B → List (ℕ × E)) (root : B → T) whe
       pub out : served + sum_by held s.views ≡ next
       pub differ : TicketsDiffer s.views
       -- what each seat knows
-      pub each : (j : ℕ) (v : Knowledge E T) → get_elem? s.views j ≡ some v → Agrees history origin served next v
+      pub each : (j : ℕ) (v : Knowledge E T) → get_elem? s.views j ≡ some v
+          → Agrees history origin served next v
       -- where the value is
       pub slot : IsHome history origin s ⊎ IsOut history s
       -- nobody else made an entry

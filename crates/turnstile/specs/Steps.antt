@@ -1,5 +1,6 @@
 -- What each kind of step at a turnstile's table tells the seat that takes it. fontc's own.
-use Rattle.std.specs.Prelude.{◌≡◌, ℕ, ◌%◌, ◌^◌, List, [], ◌∷◌, ◌++◌, length, drop, Option, Some, None}
+use Rattle.std.specs.Prelude.{◌≡◌, ℕ, ◌%◌, ◌^◌, List, [], ◌∷◌, ◌++◌, length, drop, Option, Some,
+    None}
 use Rattle.atomic_table.specs.Table.{Me, Step, rest}
 use Rattle.turnstile.specs.Entries.{BeginsWith, entries_of, AddsAtMostOne}
 use Rattle.turnstile.specs.declared.knowledge.Stage.{Stage}
@@ -35,7 +36,8 @@ module _ {B E T : Type 0} where
       × (me'.1 ≡ me.1)
 
   module _ (entries : B → List (ℕ × E)) (root : B → T) where
-    -- the slot is taken, and the value's list is seen: it begins with what was seen, and has of the worker what it made
+    -- the slot is taken, and the value's list is seen: it begins with what was seen, and has of the
+    -- worker what it made
     pub record Takes (ticket : ℕ) (m : Member E T) (me : Sat B E T) : Type 0 where
       pub value : B
       pub view : me.0 ≡ seat_of (Served ticket) (after_seeing (entries value) m)
@@ -50,10 +52,12 @@ module _ {B E T : Type 0} where
         (ticket : ℕ) (m : Member E T)
         → me.0 ≡ seat_of (Waiting ticket) m
         → me.1 ≡ []
-        → (found ≡ ticket % 2 ^ 64 → Takes ticket m me') × ((found ≡ ticket % 2 ^ 64 → ⊥) → me' ≡ me)
+        → (found ≡ ticket % 2 ^ 64 → Takes ticket m me')
+            × ((found ≡ ticket % 2 ^ 64 → ⊥) → me' ≡ me)
 
   -- the list is seen, and what was added is the worker's own
-  abbrev pub noted : List (ℕ × E) → List (ℕ × E) → Step (Option B) → Sat B E T → ℕ → Sat B E T → Type 0
+  abbrev pub noted : List (ℕ × E) → List (ℕ × E) → Step (Option B) → Sat B E T → ℕ → Sat B E T
+      → Type 0
   noted list added st me stored me' =
       (ticket : ℕ) (m : Member E T)
       → me.0 ≡ seat_of (Served ticket) m
@@ -61,10 +65,13 @@ module _ {B E T : Type 0} where
 
   -- the slot is given back, and the ticket with it
   abbrev pub gave : Step (Option B) → Sat B E T → ℕ → Sat B E T → Type 0
-  gave st me stored me' = (me'.0 ≡ record { stage = Away; members = me.0.members }) × (me'.1 ≡ rest me.1)
+  gave st me stored me' = (me'.0 ≡ record { stage = Away; members = me.0.members })
+      × (me'.1 ≡ rest me.1)
 
-  -- the pass has taken a turn: it has the value, the slot is empty, and the rest as where the slot is taken
-  pub record HasTurn (entries : B → List (ℕ × E)) (root : B → T) (m : Member E T) (ticket : ℕ) (value : B) (me : Sat B E T) : Type 0 where
+  -- the pass has taken a turn: it has the value, the slot is empty, and the rest as where the slot
+  -- is taken
+  pub record HasTurn (entries : B → List (ℕ × E)) (root : B → T) (m : Member E T) (ticket : ℕ)
+      (value : B) (me : Sat B E T) : Type 0 where
     pub at : ℕ
     pub is_ticket : ticket ≡ at % 2 ^ 64
     pub view : me.0 ≡ seat_of (Served at) (after_seeing (entries value) m)
@@ -73,9 +80,11 @@ module _ {B E T : Type 0} where
     pub mine : entries_of m.worker (entries value) ≡ m.mine
     pub same_root : root value ≡ m.root
 
-  -- the pass has a turn out, and may end it with this value: its list has at most one entry more, of this worker, and its
+  -- the pass has a turn out, and may end it with this value: its list has at most one entry more,
+  -- of this worker, and its
   -- root is as it was
-  pub record MayLeave (entries : B → List (ℕ × E)) (root : B → T) (m : Member E T) (ticket : ℕ) (value : B) (me : Sat B E T) : Type 0 where
+  pub record MayLeave (entries : B → List (ℕ × E)) (root : B → T) (m : Member E T) (ticket : ℕ)
+      (value : B) (me : Sat B E T) : Type 0 where
     pub at : ℕ
     pub is_ticket : ticket ≡ at % 2 ^ 64
     pub view : me.0 ≡ seat_of (Served at) m

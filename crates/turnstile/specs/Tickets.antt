@@ -1,4 +1,5 @@
--- Tickets. They are counted from 0 without an end, and a word holds a ticket's remainder modulo 2^64. fontc's own.
+-- Tickets. They are counted from 0 without an end, and a word holds a ticket's remainder modulo
+-- 2^64. fontc's own.
 use Rattle.std.specs.Prelude.{◌≡◌, ℕ, ◌<◌, ◌≤◌}
 use Rattle.turnstile.specs.declared.knowledge.Stage.{Stage}
 use Rattle.turnstile.specs.declared.knowledge.Stage.TheVariants.{Away, Waiting, Served, Noted}
@@ -24,7 +25,8 @@ IsServed (Waiting t) = ⊥
 IsServed (Served t) = Unit {0}
 IsServed (Noted t) = Unit {0}
 
--- a ticket lies from the one that is served to just before the next; one whose turn it is, is the one that is served
+-- a ticket lies from the one that is served to just before the next; one whose turn it is, is the
+-- one that is served
 abbrev pub IsInLine : ℕ → ℕ → Stage → Type 0
 IsInLine served next Away = Unit {0}
 IsInLine served next (Waiting t) = (served ≤ t) × (t < next)

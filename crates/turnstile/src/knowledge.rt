@@ -1,4 +1,5 @@
-//! What the seats at the table know. No value of these types is made: they are read by proofs alone.
+//! What the seats at the table know. No value of these types is made: they are read by proofs
+//! alone.
 use crate::counted::Counted;
 use crate::rule::{Beginning, Turns};
 use atomic_table::{Seat, Shared, Table};
@@ -27,7 +28,8 @@ pub struct Member<E, T> {
     pub root: T,
 }
 
-/// What a seat knows. The seat of a pass has one member, and one that was joined into another has none.
+/// What a seat knows. The seat of a pass has one member, and one that was joined into another has
+/// none.
 pub struct Knowledge<E, T> {
     pub stage: Stage,
     pub members: LinkedList<Member<E, T>>,

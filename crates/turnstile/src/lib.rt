@@ -1,6 +1,8 @@
-//! A turnstile: one value, and passes that take turns with it, in the order of the tickets that they draw.
+//! A turnstile: one value, and passes that take turns with it, in the order of the tickets that
+//! they draw.
 //!
-//! The value stands for a list of entries, each with the number of the worker that made it. Every pass knows how much
+//! The value stands for a list of entries, each with the number of the worker that made it. Every
+//! pass knows how much
 //! of the one list it has seen and which entries are its own, and no turn can take an entry back.
 #![tactic(auto)]
 

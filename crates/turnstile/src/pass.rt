@@ -10,8 +10,10 @@ use crate::rule::Beginning;
 use std::marker::Model;
 use std::snapshot::Snapshot;
 
-/// The right to take turns at one turnstile. A contract sees which turnstile it is, the pass's number, what the pass has
-/// seen of the list of entries, which of them it made, the value's root, and whether it has a turn out.
+/// The right to take turns at one turnstile. A contract sees which turnstile it is, the pass's
+/// number, what the pass has
+/// seen of the list of entries, which of them it made, the value's root, and whether it has a turn
+/// out.
 #[derive(Drop)]
 pub struct Pass<B: Counted> {
     worker: u32,
@@ -26,9 +28,12 @@ impl<B: Counted> Model for Pass<B> {
 
     ghost Value = { PassView B.Entry B.Root };
 
-    ghost view = { λ p. record { table = p.seat.table_id; worker = p.worker; seen = seen_of p.seat.me.0.members; mine = mine_of p.seat.me.0.members; root = B.root p.origin.value.value.value; is_out = has_ticket p.seat.me.0.stage } };
+    ghost view = { λ p. record { table = p.seat.table_id; worker = p.worker; seen
+        = seen_of p.seat.me.0.members; mine = mine_of p.seat.me.0.members; root
+        = B.root p.origin.value.value.value; is_out = has_ticket p.seat.me.0.stage } };
 
-    ghost invariant = { λ p. IsPass p.worker p.ticket (B.root p.origin.value.value.value) p.seat.me };
+    ghost invariant = { λ p. IsPass p.worker p.ticket (B.root p.origin.value.value.value) p.seat.me
+        };
 }
 
 impl<B: Counted> Pass<B> {
@@ -48,7 +53,8 @@ impl<B: Counted> Pass<B> {
     /// The seat of a pass that has no turn out.
     pub(crate) fn into_seat(self) -> Place<B>
         requires { self.is_out ≡ false }
-        ensures { (result.table_id ≡ self.table) × (result.me ≡ (seat_of Away (member_of self), [])) }
+        ensures { (result.table_id ≡ self.table)
+            × (result.me ≡ (seat_of Away (member_of self), [])) }
     {
         let Pass {
             worker: _,
@@ -59,7 +65,8 @@ impl<B: Counted> Pass<B> {
         seat
     }
 
-    /// The pass's number. The passes of a turnstile are numbered from 0, in their order. It takes no memory.
+    /// The pass's number. The passes of a turnstile are numbered from 0, in their order. It takes
+    /// no memory.
     pub fn worker(&self) -> u32
         ensures { result ≡ self.now.worker }
     {

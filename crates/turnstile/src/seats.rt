@@ -19,8 +19,10 @@ pub(crate) fn deal<B: Counted>(
 )
     requires table { (seat.table_id ≡ common.now.table_id) × (common.now.table_id.words ≡ 3) }
     requires first { seat.me ≡ (everyone (B.root about.now.value.value) about.now.passes, []) }
-    requires room { (all.old.items ≡ []) × (vec_len all.old ≡ 0) × (about.now.passes ≤ vec_capacity all.old) }
-    ensures { all.new.items ≡ new_passes common.now.table_id (B.root about.now.value.value) 0 about.now.passes }
+    requires room { (all.old.items ≡ []) × (vec_len all.old ≡ 0)
+        × (about.now.passes ≤ vec_capacity all.old) }
+    ensures { all.new.items ≡ new_passes common.now.table_id (B.root about.now.value.value) 0
+        about.now.passes }
 {
     for worker in 0..about.passes {
         let one = common.split_seat::<Cut>(&mut seat);
@@ -34,7 +36,8 @@ pub(crate) fn gather<B: Counted>(common: &Common<B>, mut passes: Vec<Pass<B>>) -
     requires some { 0 < vec_len passes }
     requires each { All (λ p. (p.table ≡ common.now.table_id) × (p.is_out ≡ false)) passes.items }
     ensures table { result.table_id ≡ common.now.table_id }
-    ensures everyone { result.me ≡ (record { stage = Away; members = map member_of passes.items }, []) }
+    ensures everyone { result.me ≡ (record { stage = Away; members = map member_of passes.items },
+        []) }
 {
     let Some(last) = passes.pop() else {
         unreachable!()

@@ -1,9 +1,12 @@
 //! A turn, step by step.
-ghost use Rattle.std.specs.Prelude.{◌≡◌, ℕ, ◌+◌, ◌%◌, ◌^◌, ◌<◌, List, [], ◌∷◌, ◌++◌, Some, None, drop, length};
-ghost use Rattle.turnstile.specs.declared.knowledge.Stage.TheVariants.{Away, Waiting, Served, Noted};
+ghost use Rattle.std.specs.Prelude.{◌≡◌, ℕ, ◌+◌, ◌%◌, ◌^◌, ◌<◌, List, [], ◌∷◌, ◌++◌, Some, None,
+    drop, length};
+ghost use Rattle.turnstile.specs.declared.knowledge.Stage.TheVariants.{Away, Waiting, Served,
+    Noted};
 ghost use Rattle.turnstile.specs.declared.knowledge.Member.{Member};
 ghost use Rattle.turnstile.specs.Entries.{AddsAtMostOne};
-ghost use Rattle.turnstile.specs.Steps.{seat_of, after_adding, after_leaving, Takes, HasTurn, MayLeave};
+ghost use Rattle.turnstile.specs.Steps.{seat_of, after_adding, after_leaving, Takes, HasTurn,
+    MayLeave};
 
 use crate::counted::Counted;
 use crate::knowledge::{Common, Place};
@@ -32,7 +35,8 @@ fn draw<B: Counted>(common: &Common<B>, seat: &mut Place<B>) -> u64
     requires table { (seat.old.table_id ≡ common.now.table_id) × (common.now.table_id.words ≡ 3) }
     requires away { (m : Member B.Entry B.Root) × (seat.old.me ≡ (seat_of Away m, [])) }
     ensures table { seat.new.table_id ≡ seat.old.table_id }
-    ensures drawn { (m : Member B.Entry B.Root) → seat.old.me ≡ (seat_of Away m, []) → (at : ℕ) × (result ≡ at % 2 ^ 64) × (seat.new.me ≡ (seat_of (Waiting at) m, [])) }
+    ensures drawn { (m : Member B.Entry B.Root) → seat.old.me ≡ (seat_of Away m, [])
+        → (at : ℕ) × (result ≡ at % 2 ^ 64) × (seat.new.me ≡ (seat_of (Waiting at) m, [])) }
 {
     common.fetch_add::<Draw>(seat, NEXT, 1)
 }
@@ -40,9 +44,11 @@ fn draw<B: Counted>(common: &Common<B>, seat: &mut Place<B>) -> u64
 /// Waits until the ticket is served, and takes the slot.
 fn wait_for<B: Counted, R: Wait>(rt: &R, common: &Common<B>, seat: &mut Place<B>, ticket: u64)
     requires table { (seat.old.table_id ≡ common.now.table_id) × (common.now.table_id.words ≡ 3) }
-    requires waiting { (at : ℕ) × (m : Member B.Entry B.Root) × (ticket ≡ at % 2 ^ 64) × (seat.old.me ≡ (seat_of (Waiting at) m, [])) }
+    requires waiting { (at : ℕ) × (m : Member B.Entry B.Root) × (ticket ≡ at % 2 ^ 64)
+        × (seat.old.me ≡ (seat_of (Waiting at) m, [])) }
     ensures table { seat.new.table_id ≡ seat.old.table_id }
-    ensures taken { (at : ℕ) (m : Member B.Entry B.Root) → ticket ≡ at % 2 ^ 64 → seat.old.me ≡ (seat_of (Waiting at) m, []) → Takes B.entries B.root at m seat.new.me }
+    ensures taken { (at : ℕ) (m : Member B.Entry B.Root) → ticket ≡ at % 2 ^ 64
+        → seat.old.me ≡ (seat_of (Waiting at) m, []) → Takes B.entries B.root at m seat.new.me }
 {
     let mut looks = 0;
     for _ in rt.forever() {
@@ -69,7 +75,8 @@ pub(crate) fn take_turn<B: Counted, R: Wait>(
     requires table { (seat.old.table_id ≡ common.now.table_id) × (common.now.table_id.words ≡ 3) }
     requires away { (m : Member B.Entry B.Root) × (seat.old.me ≡ (seat_of Away m, [])) }
     ensures table { seat.new.table_id ≡ seat.old.table_id }
-    ensures turn { (m : Member B.Entry B.Root) → seat.old.me ≡ (seat_of Away m, []) → HasTurn B.entries B.root m result.0 result.1 seat.new.me }
+    ensures turn { (m : Member B.Entry B.Root) → seat.old.me ≡ (seat_of Away m, [])
+        → HasTurn B.entries B.root m result.0 result.1 seat.new.me }
 {
     let ticket = draw(common, seat);
     wait_for(rt, common, seat, ticket);
@@ -81,9 +88,13 @@ pub(crate) fn take_turn<B: Counted, R: Wait>(
 fn note<B: Counted, J: Leaving<B::Entry>>(common: &Common<B>, seat: &mut Place<B>, value: &B)
     requires table { (seat.old.table_id ≡ common.now.table_id) × (common.now.table_id.words ≡ 3) }
     requires list { J.list ≡ B.entries value.now }
-    requires served { (at : ℕ) × (m : Member B.Entry B.Root) × (seat.old.me.0 ≡ seat_of (Served at) m) × (J.list ≡ m.seen ++ J.added) × AddsAtMostOne m.worker [] J.added }
+    requires served { (at : ℕ) × (m : Member B.Entry B.Root)
+        × (seat.old.me.0 ≡ seat_of (Served at) m) × (J.list ≡ m.seen ++ J.added)
+        × AddsAtMostOne m.worker [] J.added }
     ensures table { seat.new.table_id ≡ seat.old.table_id }
-    ensures noted { (at : ℕ) (m : Member B.Entry B.Root) → seat.old.me.0 ≡ seat_of (Served at) m → (seat.new.me.0 ≡ seat_of (Noted at) (after_adding J.list J.added m)) × (seat.new.me.1 ≡ seat.old.me.1) }
+    ensures noted { (at : ℕ) (m : Member B.Entry B.Root) → seat.old.me.0 ≡ seat_of (Served at) m
+        → (seat.new.me.0 ≡ seat_of (Noted at) (after_adding J.list J.added m))
+        × (seat.new.me.1 ≡ seat.old.me.1) }
 {
     common.store::<Note<J>>(seat, LENGTH, value.count());
 }
@@ -91,9 +102,12 @@ fn note<B: Counted, J: Leaving<B::Entry>>(common: &Common<B>, seat: &mut Place<B
 /// Stores how many entries the value has, puts it back, and gives the slot and the ticket back.
 pub(crate) fn give_back<B: Counted>(common: &Common<B>, seat: &mut Place<B>, ticket: u64, value: B)
     requires table { (seat.old.table_id ≡ common.now.table_id) × (common.now.table_id.words ≡ 3) }
-    requires served { (m : Member B.Entry B.Root) × MayLeave B.entries B.root m ticket value seat.old.me }
+    requires served { (m : Member B.Entry B.Root)
+        × MayLeave B.entries B.root m ticket value seat.old.me }
     ensures table { seat.new.table_id ≡ seat.old.table_id }
-    ensures left { (m : Member B.Entry B.Root) → MayLeave B.entries B.root m ticket value seat.old.me → seat.new.me ≡ (seat_of Away (after_leaving (B.entries value) m), []) }
+    ensures left { (m : Member B.Entry B.Root)
+        → MayLeave B.entries B.root m ticket value seat.old.me
+        → seat.new.me ≡ (seat_of Away (after_leaving (B.entries value) m), []) }
 {
     note::<B, Brand>(common, seat, &value);
     let empty = common.exchange(seat, VALUE, Some(value));

@@ -1,4 +1,5 @@
-ghost use Rattle.std.specs.Prelude.{◌≡◌, ℕ, ◌<◌, ◌≤◌, ◌^◌, false, true, [], ◌∷◌, All, length, IfOk, IfErr, Some};
+ghost use Rattle.std.specs.Prelude.{◌≡◌, ℕ, ◌<◌, ◌≤◌, ◌^◌, false, true, [], ◌∷◌, All, length, IfOk,
+    IfErr, Some};
 ghost use Rattle.turnstile.specs.Members.{everyone};
 ghost use Rattle.turnstile.specs.Entries.{BeginsWith, AddsAtMostOne, entries_of};
 ghost use Rattle.turnstile.specs.Passes.{new_passes, entered, has_left, IsHistoryOf};
@@ -17,7 +18,8 @@ use std::marker::Model;
 use std::snapshot::Snapshot;
 use std::sync::Wait;
 
-/// One value, and passes that take turns with it. A contract sees which turnstile it is, and how many passes it has.
+/// One value, and passes that take turns with it. A contract sees which turnstile it is, and how
+/// many passes it has.
 #[derive(Drop)]
 pub struct Turnstile<B: Counted> {
     table: Gate<B>,
@@ -32,11 +34,14 @@ impl<B: Counted> Model for Turnstile<B> {
 
     ghost view = { λ t. record { table = t.table.shared.table_id; passes = t.passes } };
 
-    ghost invariant = { λ t. (t.table.shared.table_id.words ≡ 3) × (t.table.shared.table_id.slots ≡ 1) × (t.table.shared.key.passes ≡ t.passes) × (0 < t.passes) };
+    ghost invariant = { λ t. (t.table.shared.table_id.words ≡ 3)
+        × (t.table.shared.table_id.slots ≡ 1) × (t.table.shared.key.passes ≡ t.passes)
+        × (0 < t.passes) };
 }
 
 impl<B: Counted + Drop> Turnstile<B> {
-    /// A turnstile around a value whose list is empty, and its passes, numbered from 0 in their order.
+    /// A turnstile around a value whose list is empty, and its passes, numbered from 0 in their
+    /// order.
     pub fn new(
         alloc: Global,
         value: B,
@@ -69,8 +74,10 @@ fn open_table<B: Counted + Drop>(
     requires slots { slots.items ≡ Some about.now.value.value ∷ [] }
     requires empty { B.entries about.now.value.value ≡ [] }
     requires few { about.now.passes < 2 ^ 32 }
-    ensures sizes { IfOk result (λ t. (t.0.shared.table_id.words ≡ 3) × (t.0.shared.table_id.slots ≡ 1) × (t.0.shared.key ≡ about.now)) }
-    ensures seat { IfOk result (λ t. (t.1.table_id ≡ t.0.shared.table_id) × (t.1.me ≡ (everyone (B.root about.now.value.value) about.now.passes, []))) }
+    ensures sizes { IfOk result (λ t. (t.0.shared.table_id.words ≡ 3)
+        × (t.0.shared.table_id.slots ≡ 1) × (t.0.shared.key ≡ about.now)) }
+    ensures seat { IfOk result (λ t. (t.1.table_id ≡ t.0.shared.table_id)
+        × (t.1.me ≡ (everyone (B.root about.now.value.value) about.now.passes, []))) }
 {
     match Table::new(alloc, &[0, 0, 0], slots, about) {
         Ok(opened) => Ok(opened),
@@ -79,13 +86,17 @@ fn open_table<B: Counted + Drop>(
 }
 
 impl<B: Counted> Turnstile<B> {
-    /// Ends the turnstile: takes all its passes, none of which may have a turn out, and gives the value back. It takes no
-    /// memory. The other answer, which is free for want of memory, would hand back what was handed in.
+    /// Ends the turnstile: takes all its passes, none of which may have a turn out, and gives the
+    /// value back. It takes no
+    /// memory. The other answer, which is free for want of memory, would hand back what was handed
+    /// in.
     pub fn close(self, passes: Vec<Pass<B>>) -> Result<B, (Turnstile<B>, Vec<Pass<B>>)>
         requires mine { All (λ p. (p.table ≡ self.table) × (p.is_out ≡ false)) passes.items }
         requires all { length passes.items ≡ self.passes }
-        ensures history { IfOk result (λ b. All (λ p. IsHistoryOf (B.entries b) (B.root b) p) passes.items) }
-        ensures nobody_else { IfOk result (λ b. (k : ℕ) → self.passes ≤ k → entries_of k (B.entries b) ≡ []) }
+        ensures history { IfOk result (λ b. All (λ p. IsHistoryOf (B.entries b) (B.root b) p)
+            passes.items) }
+        ensures nobody_else { IfOk result (λ b. (k : ℕ) → self.passes ≤ k
+            → entries_of k (B.entries b) ≡ []) }
         ensures back { IfErr result (λ e. (e.0 ≡ self) × (e.1.items ≡ passes.items)) }
     {
         let Turnstile { table, passes: _ } = self;
@@ -96,7 +107,8 @@ impl<B: Counted> Turnstile<B> {
         Ok(value.unwrap())
     }
 
-    /// Waits for the pass's turn, and lends the value. The list has all that the pass has seen, and of its number just
+    /// Waits for the pass's turn, and lends the value. The list has all that the pass has seen, and
+    /// of its number just
     /// the entries that it made. It takes no memory.
     pub fn enter<R: Wait>(&self, rt: &R, pass: &mut Pass<B>) -> Turn<B>
         requires pass { pass.old.table ≡ self.now.table }
@@ -111,7 +123,8 @@ impl<B: Counted> Turnstile<B> {
         Turn { value }
     }
 
-    /// Ends the pass's turn, and takes the value back. The value may have one entry more, of the pass's number. It takes no memory.
+    /// Ends the pass's turn, and takes the value back. The value may have one entry more, of the
+    /// pass's number. It takes no memory.
     pub fn leave(&self, pass: &mut Pass<B>, turn: Turn<B>)
         requires pass { pass.old.table ≡ self.now.table }
         requires out { pass.old.is_out ≡ true }

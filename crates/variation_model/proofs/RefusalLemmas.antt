@@ -1,5 +1,6 @@
 -- The delta that is refused is the first outside an i16.
-use Rattle.std.proofs.Common.{◌≡◌, ℕ, zero, suc, ◌+◌, ◌<◌, true, false, ⊎_elim, List, [], ◌∷◌, sym, ap, ◌∙◌, arith, length, get_or, subst, ℤ, pos, FitsSigned, Some, None, Result, Ok, Err, Vec}
+use Rattle.std.proofs.Common.{◌≡◌, ℕ, zero, suc, ◌+◌, ◌<◌, true, false, ⊎_elim, List, [], ◌∷◌, sym,
+    ap, ◌∙◌, arith, length, get_or, subst, ℤ, pos, FitsSigned, Some, None, Result, Ok, Err, Vec}
 use Rattle.std.proofs.lemmas.Bool.{cases_Bool, cond-true, cond-false}
 use Rattle.std.proofs.lemmas.Int.{ints}
 use Rattle.std.specs.Prelude.{EachIndex}
@@ -23,7 +24,8 @@ not_storable d e f = let storable = fits_storable d f in cc
 abbrev FirstFrom : ℕ → List ℤ → ℕ → ℤ → Type 0
 FirstFrom n deltas at value = (j : ℕ) × (at ≡ n + j) × IsFirstOutside deltas j value
 
-first_here : (n : ℕ) (delta : ℤ) (deltas : List ℤ) (at : ℕ) (value : ℤ) → is_storable delta ≡ false → ◌≡◌ {A = ℕ × ℤ} (n, delta) (at, value) → FirstFrom n (delta ∷ deltas) at value
+first_here : (n : ℕ) (delta : ℤ) (deltas : List ℤ) (at : ℕ) (value : ℤ) → is_storable delta ≡ false
+    → ◌≡◌ {A = ℕ × ℤ} (n, delta) (at, value) → FirstFrom n (delta ∷ deltas) at value
 first_here n delta deltas at value e f =
     let number : n ≡ at = ap (λ (p : ℕ × ℤ). p.0) f in
     let same : delta ≡ value = ap (λ (p : ℕ × ℤ). p.1) f in
@@ -37,11 +39,14 @@ first_here n delta deltas at value e f =
     } in
     (0, start, first)
 
-fits_before : (delta : ℤ) (deltas : List ℤ) (j : ℕ) → FitsSigned w16 delta → ((k : ℕ) → k < j → FitsSigned w16 (get_or deltas k (pos 0))) → (k : ℕ) → k < suc j → FitsSigned w16 (get_or (delta ∷ deltas) k (pos 0))
+fits_before : (delta : ℤ) (deltas : List ℤ) (j : ℕ) → FitsSigned w16 delta
+    → ((k : ℕ) → k < j → FitsSigned w16 (get_or deltas k (pos 0))) → (k : ℕ) → k < suc j
+    → FitsSigned w16 (get_or (delta ∷ deltas) k (pos 0))
 fits_before delta deltas j f g zero h = f
 fits_before delta deltas j f g (suc k) h = g k (omega arith)
 
-first_later : (n : ℕ) (delta : ℤ) (deltas : List ℤ) (at : ℕ) (value : ℤ) → is_storable delta ≡ true → FirstFrom (n + 1) deltas at value → FirstFrom n (delta ∷ deltas) at value
+first_later : (n : ℕ) (delta : ℤ) (deltas : List ℤ) (at : ℕ) (value : ℤ) → is_storable delta ≡ true
+    → FirstFrom (n + 1) deltas at value → FirstFrom n (delta ∷ deltas) at value
 first_later n delta deltas at value e f =
     let start : at ≡ n + suc f.0 = omega (arith, f.1) in
     let later = f.2 in
@@ -56,23 +61,29 @@ first_later n delta deltas at value e f =
 pair_of : (p q : ℕ × ℤ) → Some p ≡ Some q → p ≡ q
 pair_of p q e = cc
 
-first_from : (n : ℕ) (deltas : List ℤ) (at : ℕ) (value : ℤ) → first_large n deltas ≡ Some (at, value) → FirstFrom n deltas at value
+first_from : (n : ℕ) (deltas : List ℤ) (at : ℕ) (value : ℤ)
+    → first_large n deltas ≡ Some (at, value) → FirstFrom n deltas at value
 first_from n [] at value e = cc
 first_from n (delta ∷ deltas) at value e =
     ⊎_elim
     (λ h. first_later n delta deltas at value h
-    (first_from (n + 1) deltas at value (sym (cond-true (is_storable delta) (first_large (n + 1) deltas) (Some (n, delta)) h) ∙ e)))
+    (first_from (n + 1) deltas at value (sym
+        (cond-true (is_storable delta) (first_large (n + 1) deltas) (Some (n, delta)) h) ∙ e)))
     (λ h. first_here n delta deltas at value h
-    (pair_of (n, delta) (at, value) (sym (cond-false (is_storable delta) (first_large (n + 1) deltas) (Some (n, delta)) h) ∙ e)))
+    (pair_of (n, delta) (at, value) (sym (cond-false (is_storable delta)
+        (first_large (n + 1) deltas) (Some (n, delta)) h) ∙ e)))
     (cases_Bool (is_storable delta))
 
-none_from : (n : ℕ) (deltas : List ℤ) → first_large n deltas ≡ None → EachIndex deltas (λ k. FitsSigned w16 (get_or deltas k (pos 0)))
+none_from : (n : ℕ) (deltas : List ℤ) → first_large n deltas ≡ None
+    → EachIndex deltas (λ k. FitsSigned w16 (get_or deltas k (pos 0)))
 none_from n [] e = λ k h. absurd (omega arith)
 none_from n (delta ∷ deltas) e =
     ⊎_elim
     (λ h. λ k l. fits_before delta deltas (length deltas) (storable_fits delta h)
-    (none_from (n + 1) deltas (sym (cond-true (is_storable delta) (first_large (n + 1) deltas) (Some (n, delta)) h) ∙ e)) k l)
-    (λ h. λ k l. let refused = sym (cond-false (is_storable delta) (first_large (n + 1) deltas) (Some (n, delta)) h) ∙ e in cc)
+    (none_from (n + 1) deltas (sym (cond-true (is_storable delta) (first_large (n + 1) deltas)
+        (Some (n, delta)) h) ∙ e)) k l)
+    (λ h. λ k l. let refused = sym (cond-false (is_storable delta) (first_large (n + 1) deltas)
+        (Some (n, delta)) h) ∙ e in cc)
     (cases_Bool (is_storable delta))
 
 refused_first : (e : DeltaError) (deltas : List ℤ) → RefusesDeltas e deltas → RefusesFirst e deltas
@@ -83,6 +94,7 @@ refused_first (delta_errors.TooLarge at value) deltas given =
     subst P same first.2
 refused_first delta_errors.NoMemory deltas given = tt
 
-pub given_refuses_first : (result : Result (Vec ℤ Global) DeltaError) (deltas : List ℤ) → GivesDeltas result deltas → RefusesFirstOutside result deltas
+pub given_refuses_first : (result : Result (Vec ℤ Global) DeltaError) (deltas : List ℤ)
+    → GivesDeltas result deltas → RefusesFirstOutside result deltas
 given_refuses_first (Ok answer) deltas given = none_from 0 deltas given.1
 given_refuses_first (Err e) deltas given = refused_first e deltas given

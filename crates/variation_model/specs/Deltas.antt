@@ -1,8 +1,13 @@
--- The deltas of a value that has a number at each place, and the number that they give at a place. A default value and deltas
--- over regions stand for a value at each master, and their sum by scalars is the value at an instance (OpenType 1.9, "Font
--- variations common table formats", "Algorithm for interpolation of instance values"). That each delta is formed from the
+-- The deltas of a value that has a number at each place, and the number that they give at a place.
+-- A default value and deltas
+-- over regions stand for a value at each master, and their sum by scalars is the value at an
+-- instance (OpenType 1.9, "Font
+-- variations common table formats", "Algorithm for interpolation of instance values"). That each
+-- delta is formed from the
 -- earlier ones as they are stored, and so rounded, is fontc's own.
-use Rattle.std.specs.Prelude.{◌≡◌, ℕ, ◌+◌, Bool, ◌&&◌, if◌then◌else◌, List, [], ◌∷◌, ◌++◌, map, slice_index_or, ℤ, pos, negsuc, ◌+ℤ◌, ◌-ℤ◌, ◌*ℤ◌, int_le, Option, Some, None, Result, Ok, Err, Vec}
+use Rattle.std.specs.Prelude.{◌≡◌, ℕ, ◌+◌, Bool, ◌&&◌, if◌then◌else◌, List, [], ◌∷◌, ◌++◌, map,
+    slice_index_or, ℤ, pos, negsuc, ◌+ℤ◌, ◌-ℤ◌, ◌*ℤ◌, int_le, Option, Some, None, Result, Ok, Err,
+    Vec}
 use Rattle.std.specs.declared.alloc.Global.{Global}
 use Rattle.fixed_math.specs.declared.F2Dot14.{F2Dot14}
 use Rattle.fixed_math.specs.declared.Fixed.{Fixed}
@@ -24,7 +29,8 @@ value_of (region ∷ regions) (delta ∷ deltas) place =
 abbrev pub region_at : List Region → ℕ → Region
 region_at regions i = slice_index_or regions i (record { sides = [] })
 
--- the deltas of the places that are left, after those of the earlier ones: what a value lacks there of what the earlier deltas
+-- the deltas of the places that are left, after those of the earlier ones: what a value lacks there
+-- of what the earlier deltas
 -- give, rounded
 abbrev pub deltas_after : List Region → List ℤ → List (List F2Dot14) → List ℤ → List ℤ
 deltas_after regions earlier [] values = []
@@ -37,10 +43,12 @@ deltas_after regions earlier (place ∷ places) (value ∷ values) =
 abbrev pub value_at_place : List Fixed → ℕ → ℤ
 value_at_place values i = (slice_index_or values i (record { 0 = pos 0 })).0
 
--- the deltas of values that stand in the order of the places, in the model's order: whole numbers without bounds
+-- the deltas of values that stand in the order of the places, in the model's order: whole numbers
+-- without bounds
 unfoldable pub deltas_of : List (List F2Dot14) → List Fixed → List ℤ
 deltas_of places values =
-    deltas_after (supports_of places) [] (ordered places) (map (value_at_place values) (order_of places))
+    deltas_after (supports_of places) [] (ordered places)
+        (map (value_at_place values) (order_of places))
 
 -- whether a delta can be stored
 abbrev pub is_storable : ℤ → Bool
@@ -49,7 +57,8 @@ is_storable delta = int_le (negsuc 32767) delta && int_le delta (pos 32767)
 -- the first delta that can't be stored, with its number
 abbrev pub first_large : ℕ → List ℤ → Option (ℕ × ℤ)
 first_large at [] = None
-first_large at (delta ∷ deltas) = if is_storable delta then first_large (at + 1) deltas else Some (at, delta)
+first_large at (delta ∷ deltas) = if is_storable delta then first_large (at + 1) deltas else Some
+    (at, delta)
 
 -- deltas are answered where all can be stored; else the first that can't, unless memory ran out
 abbrev pub RefusesDeltas : DeltaError → List ℤ → Type 0

@@ -1,6 +1,8 @@
--- What a model keeps: its places, their order and regions, and by how much each region counts at the places after its own. That
+-- What a model keeps: its places, their order and regions, and by how much each region counts at
+-- the places after its own. That
 -- is fontc's own.
-use Rattle.std.specs.Prelude.{◌≡◌, ℕ, ◌+◌, ◌≤◌, List, [], ◌∷◌, ◌++◌, map, take, slice_index_or, ℤ, pos, ◌+ℤ◌, ◌-ℤ◌, ◌*ℤ◌, All, unsigned_abs}
+use Rattle.std.specs.Prelude.{◌≡◌, ℕ, ◌+◌, ◌≤◌, List, [], ◌∷◌, ◌++◌, map, take, slice_index_or, ℤ,
+    pos, ◌+ℤ◌, ◌-ℤ◌, ◌*ℤ◌, All, unsigned_abs}
 use Rattle.fixed_math.specs.declared.F2Dot14.{F2Dot14}
 use Rattle.fixed_math.specs.declared.Fixed.{Fixed}
 use Rattle.fixed_math.specs.FixedPoint.{half_up}
@@ -19,7 +21,8 @@ scalars_at regions place = map (scalar_at place) regions
 -- at each place, from the k-th on, those of the regions before its own
 abbrev pub rows_from : List Region → ℕ → List (List F2Dot14) → List (List Fixed)
 rows_from regions k [] = []
-rows_from regions k (place ∷ places) = scalars_at (take k regions) place ∷ rows_from regions (k + 1) places
+rows_from regions k (place ∷ places) = scalars_at (take k regions) place
+    ∷ rows_from regions (k + 1) places
 
 abbrev pub row_at : List (List Fixed) → ℕ → List Fixed
 row_at rows k = slice_index_or rows k []
@@ -28,7 +31,8 @@ row_at rows k = slice_index_or rows k []
 abbrev pub AreSmall : List Fixed → Type 0
 AreSmall scalars = All (λ s. unsigned_abs s.0 ≤ 65536) scalars
 
-pub record IsModel (places : List (List F2Dot14)) (order : List ℕ) (regions : List Region) (rows : List (List Fixed)) : Type 0 where
+pub record IsModel (places : List (List F2Dot14)) (order : List ℕ) (regions : List Region)
+    (rows : List (List Fixed)) : Type 0 where
   pub are_places : ArePlaces places
   pub in_order : order ≡ order_of places
   pub are_supports : regions ≡ supports_of places

@@ -1,5 +1,7 @@
 -- The order in which a variation model takes its places, which is fontc's own.
-use Rattle.std.specs.Prelude.{◌≡◌, ◌≢◌, ℕ, ◌<◌, ◌^◌, Bool, not, ◌&&◌, ◌==◌, if◌then◌else◌, List, [], ◌∷◌, ◌++◌, length, map, replicate, slice_index_or, pos, int_lt, unsigned_abs, filter, count_by, position, unwrap_or, Contains, EachIndex}
+use Rattle.std.specs.Prelude.{◌≡◌, ◌≢◌, ℕ, ◌<◌, ◌^◌, Bool, not, ◌&&◌, ◌==◌, if◌then◌else◌, List, [],
+    ◌∷◌, ◌++◌, length, map, replicate, slice_index_or, pos, int_lt, unsigned_abs, filter, count_by,
+    position, unwrap_or, Contains, EachIndex}
 use Rattle.std.specs.List.{enumerate_from, list_any, flat_map, range_with_len}
 use Rattle.std.specs.Ordering.{nat_cmp, is_lt, int_eq}
 use Rattle.std.specs.Cmp.Lexicographic.{slice_cmp}
@@ -30,13 +32,15 @@ is_on_axis on_axis coordinate = list_any (λ x. same_coordinate x coordinate) on
 abbrev pub sign_of : ℕ × F2Dot14 → ℕ
 sign_of coordinate = if int_lt coordinate.1.0 (pos 0) then 0 else 1
 
--- what places are compared by, the first difference deciding: how many coordinates are active; how many of them are not on
+-- what places are compared by, the first difference deciding: how many coordinates are active; how
+-- many of them are not on
 -- an axis; the axes of the active ones; their signs, minus first; their absolute values
 abbrev pub key_among : List (ℕ × F2Dot14) → List (ℕ × F2Dot14) → List ℕ
 key_among on_axis coordinates =
     length coordinates
     ∷ count_by (λ c. not (is_on_axis on_axis c)) coordinates
-    ∷ (map (λ c. c.0) coordinates ++ (map sign_of coordinates ++ map (λ c. unsigned_abs c.1.0) coordinates))
+    ∷ (map (λ c. c.0) coordinates ++ (map sign_of coordinates
+        ++ map (λ c. unsigned_abs c.1.0) coordinates))
 
 abbrev pub key : List (List F2Dot14) → List F2Dot14 → List ℕ
 key places place = key_among (all_on_axis places) (active place)
@@ -55,7 +59,8 @@ rank_among keys own = count_by (λ other. is_less_key other own) keys
 abbrev pub ranks : List (List F2Dot14) → List ℕ
 ranks places = map (rank_among (keys_of places)) (keys_of places)
 
--- the positions of the places in their order: at each number the place that so many others come before
+-- the positions of the places in their order: at each number the place that so many others come
+-- before
 abbrev pub of_rank : List ℕ → ℕ → ℕ
 of_rank numbers k = unwrap_or (position (λ number. number == k) numbers) 0
 

@@ -1,5 +1,7 @@
--- The scalar of a region at a place, in 16.16: by how much the region's deltas count there (OpenType 1.9, "Font variations
--- common table formats", "Algorithm for interpolation of instance values"). The rounding and its order are fontc's own.
+-- The scalar of a region at a place, in 16.16: by how much the region's deltas count there
+-- (OpenType 1.9, "Font variations
+-- common table formats", "Algorithm for interpolation of instance values"). The rounding and its
+-- order are fontc's own.
 use Rattle.std.specs.Prelude.{◌||◌, if◌then◌else◌, List, [], ◌∷◌, ℤ, pos, ◌-ℤ◌, int_lt, int_le}
 use Rattle.std.specs.Ordering.{int_eq}
 use Rattle.fixed_math.specs.declared.F2Dot14.{F2Dot14}
@@ -17,7 +19,8 @@ axis_scalar side v =
 abbrev pub scalar_from : ℤ → List (F2Dot14 × F2Dot14 × F2Dot14) → List F2Dot14 → ℤ
 scalar_from before [] vs = before
 scalar_from before (side ∷ sides) [] = before
-scalar_from before (side ∷ sides) (v ∷ vs) = scalar_from (product before (axis_scalar side v)) sides vs
+scalar_from before (side ∷ sides) (v ∷ vs)
+    = scalar_from (product before (axis_scalar side v)) sides vs
 
 abbrev pub scalar_of : List (F2Dot14 × F2Dot14 × F2Dot14) → List F2Dot14 → ℤ
 scalar_of sides place = scalar_from (pos 65536) sides place

@@ -4,7 +4,8 @@ use thiserror::Error;
 /// Why deltas could not be formed.
 #[derive(Debug, Drop, Error)]
 pub enum DeltaError {
-    /// The first delta, in the model's order, that is outside an `i16`: its number there, counted from 0, and its value.
+    /// The first delta, in the model's order, that is outside an `i16`: its number there, counted
+    /// from 0, and its value.
     #[error("delta {at} would be {value}")]
     TooLarge { at: u32, value: i64 },
     /// Memory ran out.

@@ -1,4 +1,5 @@
-ghost use Rattle.std.specs.Prelude.{◌≡◌, ◌^◌, ◌<◌, ◌==◌, not, position, IfOk, length, map, count_by, unsigned_abs};
+ghost use Rattle.std.specs.Prelude.{◌≡◌, ◌^◌, ◌<◌, ◌==◌, not, position, IfOk, length, map, count_by,
+    unsigned_abs};
 ghost use Rattle.variation_model.specs.Places as spec;
 
 use fixed_math::F2Dot14;
@@ -47,7 +48,9 @@ fn ranks(alloc: Global, places: &[Location]) -> Result<Vec<usize>, AllocError>
 
 /// How many keys are less than each key.
 fn ranks_among(alloc: Global, keys: &[Vec<usize>]) -> Result<Vec<usize>, AllocError>
-    ensures { IfOk result (λ ranks. ranks.items ≡ map (λ key. count_by (λ other. spec.is_less_key other.items key.items) keys.now) keys.now) }
+    ensures { IfOk result (λ ranks. ranks.items
+        ≡ map (λ key. count_by (λ other. spec.is_less_key other.items key.items) keys.now) keys.now)
+        }
 {
     let mut ranks = Vec::with_capacity(alloc, keys.len())?;
     for key in keys.iter() {
@@ -67,7 +70,8 @@ fn rank(keys: &[Vec<usize>], key: &[usize]) -> usize
 
 /// What the places are compared by.
 fn keys(alloc: Global, places: &[Location]) -> Result<Vec<Vec<usize>>, AllocError>
-    ensures { IfOk result (λ keys. map (λ key. key.items) keys.items ≡ map (spec.key places.now) places.now) }
+    ensures { IfOk result (λ keys. map (λ key. key.items) keys.items
+        ≡ map (spec.key places.now) places.now) }
 {
     let on_axis = all_on_axis(alloc, places)?;
     let mut keys = Vec::with_capacity(alloc, places.len())?;
@@ -113,7 +117,8 @@ fn active(alloc: Global, place: &[F2Dot14]) -> Result<Vec<Coordinate>, AllocErro
         .collect(alloc)
 }
 
-/// What a place with these active coordinates is compared by: how many there are, how many of them are not on an axis, their
+/// What a place with these active coordinates is compared by: how many there are, how many of them
+/// are not on an axis, their
 /// axes, their signs with minus first, and their absolute values.
 fn key(
     alloc: Global,

@@ -4,7 +4,8 @@ ghost use Rattle.variation_model.specs.Scalar.{axis_scalar, scalar_of};
 use fixed_math::{F2Dot14, Fixed, mul, ratio};
 use font_ir::Region;
 
-/// By how much the deltas of a region count at a place, in 16.16, from 0 to 1 (OpenType 1.9, "Font variations common table
+/// By how much the deltas of a region count at a place, in 16.16, from 0 to 1 (OpenType 1.9, "Font
+/// variations common table
 /// formats"). The place has one coordinate per axis of the region. It takes no memory.
 pub fn scalar(region: &Region, at: &[F2Dot14]) -> Fixed
     requires { length at.now ≡ length region.now.sides }

@@ -28,7 +28,8 @@ impl Ratio {
 
     /// The larger of two.
     fn max(self, other: Ratio) -> Ratio
-        ensures { (result.distance, result.reach) ≡ spec.larger (self.distance, self.reach) (other.distance, other.reach) }
+        ensures { (result.distance, result.reach)
+            ≡ spec.larger (self.distance, self.reach) (other.distance, other.reach) }
     {
         if self.is_less(other) { other } else { self }
     }
@@ -41,10 +42,12 @@ pub fn support(
     earlier: &[u32],
     place: &[F2Dot14],
 ) -> Result<Region, AllocError>
-    requires one_length { EachIndex places.now (λ i. length (place_at places.now i) ≡ axis_count places.now) }
+    requires one_length { EachIndex places.now
+        (λ i. length (place_at places.now i) ≡ axis_count places.now) }
     requires same_length { length place.now ≡ axis_count places.now }
     requires positions { All (λ i. i < length places.now) earlier.now }
-    ensures { IfOk result (λ region. region ≡ spec.support places.now (map (place_at places.now) earlier.now) place.now) }
+    ensures { IfOk result (λ region. region
+        ≡ spec.support places.now (map (place_at places.now) earlier.now) place.now) }
 {
     let mut sides = widest(alloc, places, place)?;
     for i in earlier {
@@ -57,7 +60,8 @@ pub fn support(
 
 /// The region of a place before other places are looked at.
 fn widest(alloc: Global, places: &[Location], place: &[F2Dot14]) -> Result<Vec<Side>, AllocError>
-    requires one_length { EachIndex places.now (λ i. length (place_at places.now i) ≡ axis_count places.now) }
+    requires one_length { EachIndex places.now
+        (λ i. length (place_at places.now i) ≡ axis_count places.now) }
     requires same_length { length place.now ≡ axis_count places.now }
     ensures { IfOk result (λ sides. sides.items ≡ spec.widest_from places.now 0 place.now) }
 {

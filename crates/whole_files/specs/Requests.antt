@@ -4,7 +4,8 @@ use Rattle.outside_io.specs.Calls.{Call, ReadCall, BeginCall, AppendCall}
 
 -- the calls since an earlier moment are so, where they were told then
 abbrev pub Since : (List Call → Type 0) → Option (List Call) → Option (List Call) → Type 0
-Since P old new = IfSome old (λ before. (since : List Call) × (new ≡ Some (before ++ since)) × P since)
+Since P old new = IfSome old (λ before. (since : List Call) × (new ≡ Some (before ++ since))
+    × P since)
 
 -- the least room that a read offers, in bytes
 abbrev pub least_room : ℕ
@@ -16,7 +17,8 @@ pub data AreRoomyReads (path : List ℕ) : List Call → Type 0 where
   one_more_read : (calls : List Call) (room : ℕ) → AreRoomyReads path calls → least_room ≤ room
       → AreRoomyReads path (calls ++ ReadCall path room ∷ [])
 
--- These calls begin this path, and then offer it bytes, each append all that the calls before it have left: behind them
+-- These calls begin this path, and then offer it bytes, each append all that the calls before it
+-- have left: behind them
 -- these bytes are left.
 pub data OfferAll (path bytes : List ℕ) : List Call → List ℕ → Type 0 where
   begun : OfferAll path bytes (BeginCall path ∷ []) bytes

@@ -1,7 +1,8 @@
 //! Reads a path whole, and writes one whole, over any files.
 #![tactic(auto)]
 
-ghost use Rattle.std.specs.Prelude.{◌≡◌, ◌≢◌, ◌⊎◌, ℕ, ◌<◌, ◌≤◌, ◌^◌, ◌+◌, take, drop, length, vec_len, Ok, IfOk, IfSome, OnOk, OnErr, Err, IsErrOf};
+ghost use Rattle.std.specs.Prelude.{◌≡◌, ◌≢◌, ◌⊎◌, ℕ, ◌<◌, ◌≤◌, ◌^◌, ◌+◌, take, drop, length,
+    vec_len, Ok, IfOk, IfSome, OnOk, OnErr, Err, IsErrOf};
 ghost use Rattle.outside_io.specs.Counts.{HasRisen, NoneFalls, NoneRises};
 ghost use Rattle.outside_io.specs.Files.{Leaves, LeavesOthers, LeavesAll, told_bytes, replaced_by};
 ghost use Rattle.outside_io.specs.Calls.{ReadCall, followed_by_call};
@@ -34,9 +35,11 @@ impl From<AllocError> for ReadWholeError {
     }
 }
 
-/// All bytes that a path holds, where there are at most `limit` of them. It reads to the end, or past the limit.
+/// All bytes that a path holds, where there are at most `limit` of them. It reads to the end, or
+/// past the limit.
 ///
-/// `TooLong` says that there are more, `Failed` that a read failed, and `NoMemory` that memory ran out. Whatever it answers, each
+/// `TooLong` says that there are more, `Failed` that a read failed, and `NoMemory` that memory ran
+/// out. Whatever it answers, each
 /// path is as before.
 #[tactic(auto, using(crate::proofs::Asked::no_reads_yet, crate::proofs::Asked::read_with_room))]
 pub fn read_whole<F: Files>(
@@ -47,14 +50,18 @@ pub fn read_whole<F: Files>(
 ) -> Result<Vec<u8>, ReadWholeError>
     requires { limit < 2 ^ 62 }
     ensures fits { IfOk result (λ v. length v.items ≤ limit) }
-    ensures ok { IfOk result (λ v. IfSome (told_bytes (F.holds files.old path.now)) (λ bytes. v.items ≡ bytes)) }
-    ensures too_long { IsErrOf result ReadWholeError.TooLong → IfSome (told_bytes (F.holds files.old path.now)) (λ bytes. limit < length bytes) }
+    ensures ok { IfOk result (λ v. IfSome (told_bytes (F.holds files.old path.now))
+        (λ bytes. v.items ≡ bytes)) }
+    ensures too_long { IsErrOf result ReadWholeError.TooLong
+        → IfSome (told_bytes (F.holds files.old path.now)) (λ bytes. limit < length bytes) }
     ensures paths { LeavesAll (F.holds files.old) (F.holds files.new) }
 
     // It fails only where the count of failed reads of this path rose.
-    ensures cause { IsErrOf result ReadWholeError.Failed → HasRisen (F.failed_reads files.old path.now) (F.failed_reads files.new path.now) }
+    ensures cause { IsErrOf result ReadWholeError.Failed
+        → HasRisen (F.failed_reads files.old path.now) (F.failed_reads files.new path.now) }
     ensures reads { NoneFalls (F.failed_reads files.old) (F.failed_reads files.new) }
-    ensures reads_ok { result ≢ Err ReadWholeError.Failed → NoneRises (F.failed_reads files.old) (F.failed_reads files.new) }
+    ensures reads_ok { result ≢ Err ReadWholeError.Failed
+        → NoneRises (F.failed_reads files.old) (F.failed_reads files.new) }
     ensures writes { NoneRises (F.failed_writes files.old) (F.failed_writes files.new) }
 
     // Each read offers room for at least 4,096 bytes.
@@ -80,7 +87,8 @@ fn zeros(alloc: Global, count: usize) -> Result<Vec<u8>, AllocError>
     vec![in alloc; 0u8; count]
 }
 
-/// Reads more of a path behind first bytes of it, and answers how many bytes came. None came where the path ends there.
+/// Reads more of a path behind first bytes of it, and answers how many bytes came. None came where
+/// the path ends there.
 fn read_onto<F: Files>(
     files: &mut F,
     path: &str,
@@ -91,14 +99,18 @@ fn read_onto<F: Files>(
     requires front { BeginsWith (F.holds files.old path.now) bytes.old.items }
     ensures front { OnOk result (BeginsWith (F.holds files.old path.now) bytes.new.items) }
     ensures more { IfOk result (λ count. vec_len bytes.new ≡ vec_len bytes.old + count) }
-    ensures end { result ≡ Ok 0 → IfSome (told_bytes (F.holds files.old path.now)) (λ whole. bytes.new.items ≡ whole) }
+    ensures end { result ≡ Ok 0 → IfSome (told_bytes (F.holds files.old path.now))
+        (λ whole. bytes.new.items ≡ whole) }
     ensures paths { LeavesAll (F.holds files.old) (F.holds files.new) }
     ensures not_long { IsErrOf result ReadWholeError.TooLong → ⊥ }
-    ensures cause { IsErrOf result ReadWholeError.Failed → HasRisen (F.failed_reads files.old path.now) (F.failed_reads files.new path.now) }
+    ensures cause { IsErrOf result ReadWholeError.Failed
+        → HasRisen (F.failed_reads files.old path.now) (F.failed_reads files.new path.now) }
     ensures reads { NoneFalls (F.failed_reads files.old) (F.failed_reads files.new) }
-    ensures reads_ok { result ≢ Err ReadWholeError.Failed → NoneRises (F.failed_reads files.old) (F.failed_reads files.new) }
+    ensures reads_ok { result ≢ Err ReadWholeError.Failed
+        → NoneRises (F.failed_reads files.old) (F.failed_reads files.new) }
     ensures writes { NoneRises (F.failed_writes files.old) (F.failed_writes files.new) }
-    ensures called { F.calls files.new ≡ followed_by_call (ReadCall path.now (length buffer.old)) (F.calls files.old) }
+    ensures called { F.calls files.new ≡ followed_by_call (ReadCall path.now (length buffer.old))
+        (F.calls files.old) }
 {
     match files.read_some(path, bytes.len() as u64, buffer) {
         Ok(count) => match bytes.extend_from_slice(&buffer[..count]) {
@@ -109,22 +121,28 @@ fn read_onto<F: Files>(
     }
 }
 
-/// Makes a path hold these bytes and no others. Where that fails, the path is as before, or holds first bytes of them.
-#[tactic(auto, using(crate::proofs::Asked::begun_with, crate::proofs::Asked::some_offers, crate::proofs::Asked::offered))]
+/// Makes a path hold these bytes and no others. Where that fails, the path is as before, or holds
+/// first bytes of them.
+#[tactic(auto, using(crate::proofs::Asked::begun_with, crate::proofs::Asked::some_offers,
+    crate::proofs::Asked::offered))]
 pub fn write_whole<F: Files>(files: &mut F, path: &str, bytes: &[u8]) -> Result<(), Failed>
-    ensures ok { OnOk result (Leaves (replaced_by bytes.now (F.holds files.old path.now)) (F.holds files.new path.now)) }
+    ensures ok { OnOk result (Leaves (replaced_by bytes.now (F.holds files.old path.now))
+        (F.holds files.new path.now)) }
     ensures err { OnErr result (Leaves (F.holds files.old path.now) (F.holds files.new path.now)
         ⊎ ((n : ℕ) × Leaves (replaced_by (take n bytes.now) (F.holds files.old path.now)) (F.holds files.new path.now))) }
     ensures others { LeavesOthers path.now (F.holds files.old) (F.holds files.new) }
 
     // It fails only where the count of failed writes of this path rose.
-    ensures cause { OnErr result (HasRisen (F.failed_writes files.old path.now) (F.failed_writes files.new path.now)) }
+    ensures cause { OnErr result (HasRisen (F.failed_writes files.old path.now)
+        (F.failed_writes files.new path.now)) }
     ensures writes { NoneFalls (F.failed_writes files.old) (F.failed_writes files.new) }
-    ensures writes_ok { OnOk result (NoneRises (F.failed_writes files.old) (F.failed_writes files.new)) }
+    ensures writes_ok { OnOk result (NoneRises (F.failed_writes files.old)
+        (F.failed_writes files.new)) }
     ensures reads { NoneRises (F.failed_reads files.old) (F.failed_reads files.new) }
 
     // Each append offers all that is left.
-    ensures asked { Since (AreWholeOffers path.now bytes.now) (F.calls files.old) (F.calls files.new) }
+    ensures asked { Since (AreWholeOffers path.now bytes.now) (F.calls files.old)
+        (F.calls files.new) }
 {
     files.begin(path)?;
     let mut rest = bytes;

@@ -54,7 +54,8 @@ fn begins_anew<F: Files>(rt: &HostRuntime, files: &mut F) -> Result<bool> {
     Ok(is_empty && count == 5 && held.as_slice() == b"short".as_slice())
 }
 
-/// Whether a path holds just the bytes that each append said it took, and a second one goes behind them.
+/// Whether a path holds just the bytes that each append said it took, and a second one goes behind
+/// them.
 fn counts_appends<F: Files>(rt: &HostRuntime, files: &mut F) -> Result<bool> {
     let many = vec![in rt.alloc(); b'm'; 200_000]?;
     if files.begin(PATH).is_err() {
@@ -73,8 +74,10 @@ fn counts_appends<F: Files>(rt: &HostRuntime, files: &mut F) -> Result<bool> {
     )
 }
 
-/// Whether a place gives the same bytes when it is read a second time, right after the first and after another place, and
-/// whether a read goes by its place alone, also behind one that met the end of a path that then grows.
+/// Whether a place gives the same bytes when it is read a second time, right after the first and
+/// after another place, and
+/// whether a read goes by its place alone, also behind one that met the end of a path that then
+/// grows.
 fn reads_twice<F: Files>(rt: &HostRuntime, files: &mut F) -> Result<bool> {
     fs::write(rt, PATH, "glyfhmtxloca")?;
     let is_again = reads(files, 0, b"glyf")

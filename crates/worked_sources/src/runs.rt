@@ -13,7 +13,8 @@ const ROOM: usize = 1_000_000;
 /// How many bytes the console of one run may take.
 const CONSOLE_ROOM: usize = 10_000;
 
-/// Runs a row over memory, and where it asks for that over the files of the system, and adds it to the table.
+/// Runs a row over memory, and where it asks for that over the files of the system, and adds it to
+/// the table.
 pub fn run_row(rt: &HostRuntime, row: &Row<'_>, table: &mut Table<'_>) -> Result<()> {
     let ended = run_in_memory(rt.alloc(), row)?;
     add(rt, row, row.name, &ended, table)?;
@@ -78,7 +79,8 @@ fn run_in_memory(alloc: Global, row: &Row<'_>) -> Result<Ended> {
     })
 }
 
-/// Files in memory with the row's source in `in` and something in `out`, which fail where the row wants them to.
+/// Files in memory with the row's source in `in` and something in `out`, which fail where the row
+/// wants them to.
 fn memory_of(alloc: Global, row: &Row<'_>) -> Result<MemFiles> {
     let Ok(mut files) = MemFiles::with_room(alloc, 2, ROOM) else {
         bail!("no memory for files")
@@ -122,7 +124,8 @@ fn run_on_disk(rt: &HostRuntime, row: &Row<'_>) -> Result<Ended> {
     })
 }
 
-/// Runs a command over files and a console in memory, and answers its exit status, its refusal's text and what it printed.
+/// Runs a command over files and a console in memory, and answers its exit status, its refusal's
+/// text and what it printed.
 fn run_words<F: Files>(alloc: Global, words: &str, files: &mut F) -> Result<(u8, String, String)> {
     let words = owned(alloc, words)?;
     let Ok(mut console) = MemConsole::with_room(alloc, CONSOLE_ROOM) else {

@@ -4,7 +4,8 @@ use std::alloc::Global;
 use std::sync::Arc;
 use std::test::Fail;
 
-/// A table head in which another adjustment stands, and the file of it alone: its directory, and the table with its own.
+/// A table head in which another adjustment stands, and the file of it alone: its directory, and
+/// the table with its own.
 const HEAD: &str = "000100000001000001020304\
     5f0f3cf5000303e8000000000000000000000000000000000000000001f402bc00000006000200010000";
 

@@ -6,7 +6,8 @@ use font_ir::GlyphOrder;
 use std::alloc::{AllocError, Global};
 use std::test::Fail;
 
-/// At most so many codes, the first one and others at equal distances, with the glyph numbers from 1 on.
+/// At most so many codes, the first one and others at equal distances, with the glyph numbers from
+/// 1 on.
 fn codes(
     alloc: Global,
     first: u32,
@@ -51,11 +52,13 @@ fn length_of(alloc: Global, codes: &[(u32, u16)]) -> Option<Result<usize, u64>>
     }
 }
 
-/// The table of the code 65 alone: one record, and a subtable of format 4 with the segment of the code and the last one.
+/// The table of the code 65 alone: one record, and a subtable of format 4 with the segment of the
+/// code and the last one.
 const ONE: &str =
     "00000001000300010000000c00040020000000040004000100000041ffff00000041ffffffc0000100000000";
 
-/// The table of the codes 0x41 and 0x1F600: two records, a subtable of format 4, and one of format 12.
+/// The table of the codes 0x41 and 0x1F600: two records, a subtable of format 4, and one of format
+/// 12.
 const BOTH: &str = "0000000200030001000000140003000a00000034\
     00040020000000040004000100000041ffff00000041ffffffc0000100000000\
     000c0000000000280000000000000002\

@@ -25,7 +25,8 @@ fn a_run_of_257_flags_is_a_repeat_and_one_more(rt: HostRuntime) -> Result<(), Fa
     let points = points_at_origin(rt.alloc(), 257)?;
     let drawn = glyph(rt.alloc(), one_contour(rt.alloc(), points)?)?;
     let data = simple_bytes(rt.alloc(), &drawn, 0, false)?;
-    // One contour of 257 points without bounds or instructions, and then the flags: on the curve, each coordinate as before.
+    // One contour of 257 points without bounds or instructions, and then the flags: on the curve,
+    // each coordinate as before.
     let expected = hex::decode(
         rt.alloc(),
         "0001000000000000000001000000\

@@ -6,7 +6,8 @@ use Rattle.whole_files.proofs.read_whole.Goals as goal
 
 pub loop-bytes-init : goal.loop-bytes-init
 loop-bytes-init g c = record {
-  front = nothing_read (told_bytes (g.F.Files.holds c.args.files.now c.args.path.now)) c.new-bytes.result.items c.new-bytes.ensures.items;
+  front = nothing_read (told_bytes (g.F.Files.holds c.args.files.now c.args.path.now))
+      c.new-bytes.result.items c.new-bytes.ensures.items;
   fits = search rules;
   room = search rules;
   paths = λ path. refl;

@@ -5,7 +5,8 @@ use Rattle.whole_files.proofs.write_whole.Goals as goal
 
 pub returns-in_err-count-clause-err : goal.returns-in_err-count-clause-err
 returns-in_err-count-clause-err g c =
-    on_error _ _ (inr (part_written _ _ _ _ _ c.loop-rest.invariant.written c.in_err-count.ensures.err))
+    on_error _ _ (inr (part_written _ _ _ _ _ c.loop-rest.invariant.written
+        c.in_err-count.ensures.err))
 
 pub returns-in_err-begin-clause-asked : goal.returns-in_err-begin-clause-asked
 returns-in_err-begin-clause-asked g c =
@@ -13,13 +14,16 @@ returns-in_err-begin-clause-asked g c =
 
 pub returns-in_err-count-clause-asked : goal.returns-in_err-count-clause-asked
 returns-in_err-count-clause-asked g c =
-    some_offers _ _ _ _ _ (offered _ _ _ _ _ _ _ _ c.loop-rest.invariant.asked c.in_err-count.ensures.called refl)
+    some_offers _ _ _ _ _ (offered _ _ _ _ _ _ _ _ c.loop-rest.invariant.asked
+        c.in_err-count.ensures.called refl)
 
 pub loop-rest-preserved : goal.loop-rest-preserved
 loop-rest-preserved g c = record {
-  written = more_written _ _ _ _ _ _ _ c.loop-rest.invariant.written c.behind-rest.ensures c.in_ok-count.ensures.ok;
+  written = more_written _ _ _ _ _ _ _ c.loop-rest.invariant.written c.behind-rest.ensures
+      c.in_ok-count.ensures.ok;
   others = others_still _ _ _ c.loop-rest.invariant.others c.append.ensures.others;
   writes = search rules;
   reads = search rules;
-  asked = offered _ _ _ _ _ _ _ _ c.loop-rest.invariant.asked c.in_ok-count.ensures.called c.behind-rest.ensures;
+  asked = offered _ _ _ _ _ _ _ _ c.loop-rest.invariant.asked c.in_ok-count.ensures.called
+      c.behind-rest.ensures;
 }

@@ -14,7 +14,8 @@ invariant-loop-rest g l =
       others : LeavesOthers l.path (holds l.fn.files) (holds l.files);
       writes : NoneRises (g.F.Files.failed_writes l.fn.files) (g.F.Files.failed_writes l.files);
       reads : NoneRises (g.F.Files.failed_reads l.fn.files) (g.F.Files.failed_reads l.files);
-      asked : Since (λ calls. OfferAll l.path l.bytes calls l.rest) (g.F.Files.calls l.fn.files) (g.F.Files.calls l.files);
+      asked : Since (λ calls. OfferAll l.path l.bytes calls l.rest) (g.F.Files.calls l.fn.files)
+          (g.F.Files.calls l.files);
     }
 
 abbrev pub decreases-loop-rest : goal.decreases-loop-rest

@@ -5,4 +5,6 @@ use Rattle.access_context.specs.Places.{place_from}
 use Rattle.access_context.proofs.reads.places_of.Given as goal
 
 abbrev pub invariant-loop-place : goal.invariant-loop-place
-invariant-loop-place g l = (id : g.row.Id.Denot) → tree.get g.Id.Ord.cmp l.places id ≡ place_from g.Id.PartialEq.eq l.place (drop l.place l.items) id
+invariant-loop-place g l = (id : g.row.Id.Denot)
+    → tree.get g.Id.Ord.cmp l.places id ≡ place_from g.Id.PartialEq.eq l.place
+    (drop l.place l.items) id

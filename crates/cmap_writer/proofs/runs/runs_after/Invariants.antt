@@ -6,5 +6,6 @@ abbrev pub invariant-loop-code : goal.invariant-loop-code
 invariant-loop-code l =
     record {
       bounded : l.run.first + l.run.more ≤ 1114111;
-      told : l.runs.items ++ joined l.run (longest_runs (drop l.code-index l.codes)) ≡ joined l.fn.first (longest_runs l.codes);
+      told : l.runs.items ++ joined l.run (longest_runs (drop l.code-index l.codes))
+          ≡ joined l.fn.first (longest_runs l.codes);
     }

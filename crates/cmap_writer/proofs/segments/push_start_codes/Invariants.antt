@@ -4,4 +4,6 @@ use Rattle.table_bytes.specs.DataTypes.{uint16}
 use Rattle.cmap_writer.proofs.segments.push_start_codes.Given as goal
 
 abbrev pub invariant-loop-segment : goal.invariant-loop-segment
-invariant-loop-segment l = l.table.items ≡ l.fn.table.items ++ flat_map uint16 (map (λ segment. segment.start_code) (take l.segment-index l.segments))
+invariant-loop-segment l = l.table.items
+    ≡ l.fn.table.items ++ flat_map uint16 (map (λ segment. segment.start_code)
+    (take l.segment-index l.segments))

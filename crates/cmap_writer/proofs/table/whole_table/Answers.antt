@@ -13,5 +13,7 @@ returns c =
     ∙ ap (λ table. table ++ format_12 groups)
     (c.in_ok-push_format_4.ensures
     ∙ ap (λ table. table ++ format_4 segments)
-    (c.in_ok-push_two_records.ensures ∙ ap (λ table. table ++ two_records len) c.in_ok-table.ensures.items))
-    ∙ whole_table_is segments groups len (c.format_4_length.ensures ∙ sym (length-format_4 segments))
+    (c.in_ok-push_two_records.ensures ∙ ap (λ table. table ++ two_records len)
+        c.in_ok-table.ensures.items))
+    ∙ whole_table_is segments groups len (c.format_4_length.ensures
+        ∙ sym (length-format_4 segments))

@@ -5,4 +5,5 @@ use Rattle.component_flatten.specs.Flattening.{contours_of}
 use Rattle.component_flatten.proofs.drawing.contours.Given as goal
 
 abbrev pub invariant-loop-shape : goal.invariant-loop-shape
-invariant-loop-shape l = l.contours.items ++ flat_map contours_of (drop l.shape-index l.shapes) ≡ flat_map contours_of l.shapes
+invariant-loop-shape l = l.contours.items ++ flat_map contours_of (drop l.shape-index l.shapes)
+    ≡ flat_map contours_of l.shapes

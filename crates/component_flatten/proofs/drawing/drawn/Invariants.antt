@@ -4,4 +4,5 @@ use Rattle.component_flatten.specs.Flattening.{drawn_contours}
 use Rattle.component_flatten.proofs.drawing.drawn.Given as goal
 
 abbrev pub invariant-loop-layer : goal.invariant-loop-layer
-invariant-loop-layer l = l.drawn.items ++ map drawn_contours (drop l.layer-index l.layers) ≡ map drawn_contours l.layers
+invariant-loop-layer l = l.drawn.items ++ map drawn_contours (drop l.layer-index l.layers)
+    ≡ map drawn_contours l.layers

@@ -5,4 +5,5 @@ use Rattle.component_flatten.specs.Flattening.{are_small}
 use Rattle.component_flatten.proofs.limits.all_small.Given as goal
 
 abbrev pub invariant-loop-contours : goal.invariant-loop-contours
-invariant-loop-contours l = list_all are_small (drop l.contours-index l.drawn) ≡ list_all are_small l.drawn
+invariant-loop-contours l = list_all are_small (drop l.contours-index l.drawn)
+    ≡ list_all are_small l.drawn

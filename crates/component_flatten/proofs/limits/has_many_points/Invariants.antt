@@ -5,4 +5,6 @@ use Rattle.font_ir.specs.declared.glyph.Contour.{Contour}
 use Rattle.component_flatten.proofs.limits.has_many_points.Given as goal
 
 abbrev pub invariant-loop-contour : goal.invariant-loop-contour
-invariant-loop-contour l = l.count ≡ min (sum_by (λ (contour : Contour). length contour.points) (take l.contour-index l.contours)) (2 ^ 64 - 1)
+invariant-loop-contour l = l.count ≡ min
+    (sum_by (λ (contour : Contour). length contour.points) (take l.contour-index l.contours))
+    (2 ^ 64 - 1)

@@ -4,7 +4,8 @@ use Rattle.font_assembly.specs.File.{room_of_all}
 use Rattle.font_assembly.specs.Assembled.{tables_of}
 use Rattle.font_assembly.proofs.file.file_len.Goals as goal
 
-whole : (len rest total : ℕ) → len < 2 ^ 64 → rest ≡ 0 → min (len + rest) 18446744073709551615 ≡ total → len ≡ total
+whole : (len rest total : ℕ) → len < 2 ^ 64 → rest ≡ 0
+    → min (len + rest) 18446744073709551615 ≡ total → len ≡ total
 whole len rest total fits none e = omega arith
 
 pub returns : goal.returns

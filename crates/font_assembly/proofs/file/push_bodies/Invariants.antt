@@ -7,7 +7,9 @@ use Rattle.font_assembly.proofs.file.push_bodies.Given as goal
 
 abbrev pub invariant-loop-table : goal.invariant-loop-table
 invariant-loop-table l = record {
-  bytes : l.font.items ++ bodies (tables_of (drop l.table-index l.tables)) ≡ l.fn.font.items ++ bodies (tables_of l.tables);
-  len : vec_len l.font + room_of_all (tables_of (drop l.table-index l.tables)) ≡ vec_len l.fn.font + room_of_all (tables_of l.tables);
+  bytes : l.font.items ++ bodies (tables_of (drop l.table-index l.tables))
+      ≡ l.fn.font.items ++ bodies (tables_of l.tables);
+  len : vec_len l.font + room_of_all (tables_of (drop l.table-index l.tables))
+      ≡ vec_len l.fn.font + room_of_all (tables_of l.tables);
   heads : IsTrue (list_all fits_head (tables_of (drop l.table-index l.tables)));
 }

@@ -1,6 +1,6 @@
 use Rattle.std.proofs.Common.{arith}
 use Rattle.std.proofs.lemmas.Int.{ints, clamps}
-use Rattle.font_ir.proofs.OutlineLemmas.{widened_is}
+use Rattle.font_ir.specs.OutlineLaws.{widened_is}
 use Rattle.font_ir.proofs.outline.widened.Goals as goal
 
 pub returns-in-Some : goal.returns-in-Some

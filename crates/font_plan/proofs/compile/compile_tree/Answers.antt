@@ -9,4 +9,5 @@ pub compile_glyphs-requires-clause-order : goal.compile_glyphs-requires-clause-o
 compile_glyphs-requires-clause-order c =
     ap length c.as_slice.ensures.value
     ∙ sym (length-map c.in_ok-glyphs.glyphs.items arc_value)
-    ∙ one_glyph_a_name c.args.tree.now c.in_ok-header.header c.in_ok-index.index (glyphs_of c.in_ok-glyphs.glyphs.items) c.in_ok-glyphs.ensures.glyphs
+    ∙ one_glyph_a_name c.args.tree.now c.in_ok-header.header c.in_ok-index.index
+        (glyphs_of c.in_ok-glyphs.glyphs.items) c.in_ok-glyphs.ensures.glyphs

@@ -9,19 +9,28 @@ use Rattle.font_plan.proofs.DrawnLaws.{made_notdef_drawn}
 use Rattle.font_plan.proofs.glyphs.notdef.Goals as goal
 
 pub drawn-requires-clause-number : goal.drawn-requires-clause-number
-drawn-requires-clause-number c = slice_get_within c.args.index.now c.in-Some.number c.in-Some.ensures.entry.0 c.in-Some.ensures.entry.1
+drawn-requires-clause-number c = slice_get_within c.args.index.now c.in-Some.number
+    c.in-Some.ensures.entry.0 c.in-Some.ensures.entry.1
 
 pub returns-in-Some-clause-glyph : goal.returns-in-Some-clause-glyph
 returns-in-Some-clause-glyph c =
     let found = c.in-Some.ensures.entry in
     let t = c.args.tree.now in
     let h = c.args.header.now in
-    subst (λ (o : Option (ℕ × Entry)). Gives (λ (glyph : FlatGlyph). glyph) c.drawn.result (notdef_of t h o)) (sym found.2)
-    (subst (λ (o : Option Entry). IfSome o (λ entry. Gives (λ (glyph : FlatGlyph). glyph) c.drawn.result (drawn_of t h (c.in-Some.number, entry)))) found.1 c.drawn.ensures.glyph)
+    subst (λ (o : Option (ℕ × Entry)). Gives (λ (glyph : FlatGlyph). glyph) c.drawn.result
+        (notdef_of t h o)) (sym found.2)
+    (subst (λ (o : Option Entry). IfSome o
+        (λ entry. Gives (λ (glyph : FlatGlyph). glyph) c.drawn.result
+        (drawn_of t h (c.in-Some.number, entry)))) found.1 c.drawn.ensures.glyph)
 
-pub returns-in_ok-made_notdef-in-None-clause-glyph : goal.returns-in_ok-made_notdef-in-None-clause-glyph
+pub returns-in_ok-made_notdef-in-None-clause-glyph
+    : goal.returns-in_ok-made_notdef-in-None-clause-glyph
 returns-in_ok-made_notdef-in-None-clause-glyph c =
-    ap (notdef_of c.args.tree.now c.args.header.now) (no_notdef _ c.in-None.ensures.number) ∙ ap Ok (sym c.in_ok-made_notdef-in-None.ensures)
+    ap (notdef_of c.args.tree.now c.args.header.now) (no_notdef _ c.in-None.ensures.number)
+        ∙ ap Ok (sym c.in_ok-made_notdef-in-None.ensures)
 
-pub returns-in_ok-made_notdef-in-None-clause-drawn : goal.returns-in_ok-made_notdef-in-None-clause-drawn
-returns-in_ok-made_notdef-in-None-clause-drawn c = subst (λ (glyph : FlatGlyph). IsDrawn c.args.header.now glyph) (sym c.in_ok-made_notdef-in-None.ensures) (made_notdef_drawn c.args.header.now c.requires.read)
+pub returns-in_ok-made_notdef-in-None-clause-drawn
+    : goal.returns-in_ok-made_notdef-in-None-clause-drawn
+returns-in_ok-made_notdef-in-None-clause-drawn c
+    = subst (λ (glyph : FlatGlyph). IsDrawn c.args.header.now glyph)
+    (sym c.in_ok-made_notdef-in-None.ensures) (made_notdef_drawn c.args.header.now c.requires.read)

@@ -9,7 +9,8 @@ returns-then-is_notdef c =
     let found = c.entry_at.result in
     let entry : Entry = (found.0.now, found.1.now) in
     let here : notdef_from 0 c.args.index.now ≡ Some (c.loop-number.number, entry) =
-    sym c.loop-number.invariant ∙ notdef_here c.args.index.now c.loop-number.number entry c.entry_at.ensures (sym c.is_notdef.ensures ∙ c.if-is_notdef.true)
+    sym c.loop-number.invariant ∙ notdef_here c.args.index.now c.loop-number.number entry
+        c.entry_at.ensures (sym c.is_notdef.ensures ∙ c.if-is_notdef.true)
     in
     record {
       number = sym (ap (option_map (λ (glyph : ℕ × Entry). glyph.0)) here);
@@ -19,4 +20,6 @@ returns-then-is_notdef c =
 pub loop-number-preserved : goal.loop-number-preserved
 loop-number-preserved c =
     let found = c.entry_at.result in
-    sym (notdef_later c.args.index.now c.loop-number.number (found.0.now, found.1.now) c.entry_at.ensures (sym c.is_notdef.ensures ∙ c.if-is_notdef.false)) ∙ c.loop-number.invariant
+    sym (notdef_later c.args.index.now c.loop-number.number (found.0.now, found.1.now)
+        c.entry_at.ensures (sym c.is_notdef.ensures ∙ c.if-is_notdef.false))
+        ∙ c.loop-number.invariant

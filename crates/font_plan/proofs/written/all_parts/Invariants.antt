@@ -5,4 +5,6 @@ use Rattle.font_ir.specs.Outlines.{outline_at}
 use Rattle.font_plan.proofs.written.all_parts.Given as goal
 
 abbrev pub invariant-loop-glyph : goal.invariant-loop-glyph
-invariant-loop-glyph l = map (λ part. part.value.items) l.parts.items ≡ map (λ glyph. simple_data false (outline_at l.header.origin glyph.value)) (take l.glyph-index l.glyphs)
+invariant-loop-glyph l = map (λ part. part.value.items) l.parts.items
+    ≡ map (λ glyph. simple_data false (outline_at l.header.origin glyph.value))
+    (take l.glyph-index l.glyphs)

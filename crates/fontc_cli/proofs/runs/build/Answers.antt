@@ -4,7 +4,9 @@ use Rattle.refusal_codes.specs.declared.refusal.Refusal.{Refusal}
 use Rattle.font_plan.specs.Font.{font_of}
 use Rattle.fontc_cli.proofs.runs.build.Goals as goal
 
-refused_if_told : (told : Option (List ℕ)) (r : Refusal) → ((source : List ℕ) → 67108864 < length source → font_of source ≡ Err r) → IfSome told (λ bytes. 67108864 < length bytes) → IfSome told (λ bytes. font_of bytes ≡ Err r)
+refused_if_told : (told : Option (List ℕ)) (r : Refusal)
+    → ((source : List ℕ) → 67108864 < length source → font_of source ≡ Err r)
+    → IfSome told (λ bytes. 67108864 < length bytes) → IfSome told (λ bytes. font_of bytes ≡ Err r)
 refused_if_told None r refused long = tt
 refused_if_told (Some bytes) r refused long = refused bytes long
 
@@ -15,5 +17,6 @@ returns-in-Err-TooLong g c = (
     reads = c.in-Err-TooLong.ensures.reads_ok (λ e. absurd cc);
     writes = c.in-Err-TooLong.ensures.writes;
   },
-  refused_if_told _ c.source_too_large.result c.source_too_large.ensures (c.in-Err-TooLong.ensures.too_long search),
+  refused_if_told _ c.source_too_large.result c.source_too_large.ensures
+      (c.in-Err-TooLong.ensures.too_long search),
 )

@@ -8,6 +8,10 @@ use Rattle.glyf_writer.proofs.bytes.push_end_points.Given as goal
 abbrev pub invariant-loop-contour : goal.invariant-loop-contour
 invariant-loop-contour l =
     record {
-      told : l.bytes.items ++ flat_map uint16 (map (λ end. l.count + end) (end_points (map (λ contour. length contour.points) (drop l.contour-index l.contours)))) ≡ l.fn.bytes.items ++ flat_map uint16 (end_points (map (λ contour. length contour.points) l.contours));
+      told : l.bytes.items ++ flat_map uint16
+          (map (λ end. l.count + end) (end_points
+          (map (λ contour. length contour.points) (drop l.contour-index l.contours))))
+          ≡ l.fn.bytes.items ++ flat_map uint16
+          (end_points (map (λ contour. length contour.points) l.contours));
       counted : l.count + point_count (drop l.contour-index l.contours) ≡ point_count l.contours;
     }

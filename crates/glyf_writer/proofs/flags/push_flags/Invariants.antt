@@ -6,7 +6,8 @@ abbrev pub invariant-loop-at : goal.invariant-loop-at
 invariant-loop-at l =
     record {
       within : l.at ≤ length l.flags;
-      told : l.bytes.items ++ with_repeats (drop l.at l.flags) ≡ l.fn.bytes.items ++ with_repeats l.flags;
+      told : l.bytes.items ++ with_repeats (drop l.at l.flags)
+          ≡ l.fn.bytes.items ++ with_repeats l.flags;
     }
 
 abbrev pub decreases-loop-at : goal.decreases-loop-at

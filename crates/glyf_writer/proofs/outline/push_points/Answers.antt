@@ -7,5 +7,7 @@ use Rattle.glyf_writer.proofs.outline.push_points.Goals as goal
 pub loop-point-preserved : goal.loop-point-preserved
 loop-point-preserved c = record {
   told = grind (arith, common_steps);
-  small = λ s. rw c.in_ok-push.ensures.items (All-push (λ point. IsSmall point.x × IsSmall point.y) _ _ (c.loop-point.invariant.small s) (c.stored_point.ensures.small_x, c.stored_point.ensures.small_y));
+  small = λ s. rw c.in_ok-push.ensures.items
+      (All-push (λ point. IsSmall point.x × IsSmall point.y) _ _ (c.loop-point.invariant.small s)
+      (c.stored_point.ensures.small_x, c.stored_point.ensures.small_y));
 }

@@ -6,6 +6,7 @@ use Rattle.glyf_writer.proofs.outline.stored_points_of.Given as goal
 abbrev pub invariant-loop-contour : goal.invariant-loop-contour
 invariant-loop-contour l =
     record {
-      told : l.points.items ++ stored_points (drop l.contour-index l.contours) ≡ stored_points l.contours;
+      told : l.points.items ++ stored_points (drop l.contour-index l.contours)
+          ≡ stored_points l.contours;
       small : AreSmall l.points.items;
     }

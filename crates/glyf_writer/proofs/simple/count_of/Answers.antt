@@ -1,5 +1,5 @@
 use Rattle.std.proofs.Common.{arith}
-use Rattle.font_ir.proofs.OutlineLemmas.{few_contours}
+use Rattle.font_ir.specs.OutlineLaws.{few_contours}
 use Rattle.glyf_writer.proofs.simple.count_of.Goals as goal
 
 pub overflow_cast-result : goal.overflow_cast-result

@@ -8,7 +8,10 @@ use Rattle.glyf_writer.proofs.tables.loca_of.Goals as goal
 
 pub loop-part-init : goal.loop-part-init
 loop-part-init c = record {
-  told = ap (λ os. c.in_ok-loca.loca.items ++ flat_map uint32 os) (shift_zero (offsets (map (λ part. part.value.items) c.args.parts.now))) ∙ ap (λ bytes. bytes ++ flat_map uint32 (offsets (map (λ part. part.value.items) c.args.parts.now))) c.in_ok-loca.ensures.items;
+  told = ap (λ os. c.in_ok-loca.loca.items ++ flat_map uint32 os)
+      (shift_zero (offsets (map (λ part. part.value.items) c.args.parts.now)))
+      ∙ ap (λ bytes. bytes ++ flat_map uint32
+      (offsets (map (λ part. part.value.items) c.args.parts.now))) c.in_ok-loca.ensures.items;
   counted = omega arith;
 }
 
@@ -18,6 +21,10 @@ loop-part-preserved c =
     let item = c.part-item.result in
     let sized : c.len.result ≡ length item.value.items = grind (arith, common_steps) in
     record {
-      told = offset_step (λ part. part.value.items) parts c.loop-part.part-index item _ _ _ c.loop-part.offset _ (omega arith) c.part-item.is sized c.in_ok-push_uint32.ensures.bytes c.loop-part.invariant.told;
-      counted = omega (arith, c.loop-part.invariant.counted, sized, total_step (λ part. part.value.items) parts c.loop-part.part-index item (omega arith) c.part-item.is);
+      told = offset_step (λ part. part.value.items) parts c.loop-part.part-index item _ _ _
+          c.loop-part.offset _ (omega arith) c.part-item.is sized c.in_ok-push_uint32.ensures.bytes
+          c.loop-part.invariant.told;
+      counted = omega (arith, c.loop-part.invariant.counted, sized, total_step
+          (λ part. part.value.items) parts c.loop-part.part-index item (omega arith)
+          c.part-item.is);
     }

@@ -7,6 +7,10 @@ use Rattle.glyf_writer.proofs.tables.loca_of.Given as goal
 abbrev pub invariant-loop-part : goal.invariant-loop-part
 invariant-loop-part l =
     record {
-      told : l.loca.items ++ flat_map uint32 (map (λ offset. l.offset + offset) (offsets (map (λ part. part.value.items) (drop l.part-index l.parts)))) ≡ flat_map uint32 (offsets (map (λ part. part.value.items) l.parts));
-      counted : l.offset + length (concat (map (λ part. part.value.items) (drop l.part-index l.parts))) ≡ length (concat (map (λ part. part.value.items) l.parts));
+      told : l.loca.items ++ flat_map uint32
+          (map (λ offset. l.offset + offset) (offsets
+          (map (λ part. part.value.items) (drop l.part-index l.parts))))
+          ≡ flat_map uint32 (offsets (map (λ part. part.value.items) l.parts));
+      counted : l.offset + length (concat (map (λ part. part.value.items)
+          (drop l.part-index l.parts))) ≡ length (concat (map (λ part. part.value.items) l.parts));
     }

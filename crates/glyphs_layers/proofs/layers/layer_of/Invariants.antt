@@ -5,4 +5,5 @@ use Rattle.glyphs_layers.specs.LayerRules.{is_layer_of}
 use Rattle.glyphs_layers.proofs.layers.layer_of.Given as goal
 
 abbrev pub invariant-loop-layer : goal.invariant-loop-layer
-invariant-loop-layer l = find (is_layer_of l.tree l.master.id) (drop l.layer-index l.layers) ≡ find (is_layer_of l.tree l.master.id) l.layers
+invariant-loop-layer l = find (is_layer_of l.tree l.master.id) (drop l.layer-index l.layers)
+    ≡ find (is_layer_of l.tree l.master.id) l.layers

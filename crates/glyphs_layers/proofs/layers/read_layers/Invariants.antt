@@ -1,4 +1,5 @@
--- the layers so far and those of the masters that are left are those of all; and so is what is noted
+-- the layers so far and those of the masters that are left are those of all; and so is what is
+-- noted
 use Rattle.std.proofs.Common.{◌≡◌, ◌++◌, drop}
 use Rattle.std.specs.Prelude.{flat_map}
 use Rattle.refusal_codes.specs.First.{noted}

@@ -1,7 +1,7 @@
 use Rattle.std.proofs.Common.{arith, ap, ◌∙◌, ◌++◌, ◌∷◌, []}
 use Rattle.font_ir.specs.declared.glyph.DrawnPoint.{DrawnPoint}
-use Rattle.plain_lists.proofs.Turns.{map_turn}
-use Rattle.refusal_codes.proofs.Noting.{noted_turn}
+use Rattle.plain_lists.specs.TurnLaws.{map_turn}
+use Rattle.refusal_codes.specs.NotingLaws.{noted_turn}
 use Rattle.glyphs_layers.specs.LayerRules.{node_failures}
 use Rattle.glyphs_layers.specs.LayerReading.{point_of}
 use Rattle.glyphs_layers.proofs.paths.read_nodes.Goals as goal
@@ -11,7 +11,8 @@ loop-node-preserved c =
     let t = c.args.tree.now in
     let turn = c.loop-node.invariant in (
       map_turn (point_of t) c.args.nodes.now c.loop-node.node-index 0 _ _ _ (omega arith)
-          (c.in_ok-push.ensures.items ∙ ap (λ (p : DrawnPoint). c.loop-node.points.items ++ p ∷ []) c.read_node.ensures.point) turn.0,
+          (c.in_ok-push.ensures.items ∙ ap (λ (p : DrawnPoint). c.loop-node.points.items ++ p ∷ [])
+              c.read_node.ensures.point) turn.0,
       noted_turn (node_failures t) c.args.nodes.now c.loop-node.node-index 0 _ _ _ (omega arith)
           c.read_node.ensures.failures turn.1,
     )

@@ -4,6 +4,7 @@ use Rattle.graph_tests.proofs.hands.calls.Given as goal
 
 abbrev pub invariant-loop-worker : goal.invariant-loop-worker
 invariant-loop-worker g l = record {
-  held : IsHeld g.P.Id.PartialEq.eq (g.P.Plan.meaning l.board.plan) l.board.workers l.board.events l.hands.items;
+  held : IsHeld g.P.Id.PartialEq.eq (g.P.Plan.meaning l.board.plan) l.board.workers l.board.events
+      l.hands.items;
   workers : l.board.workers ≡ l.fn.board.workers;
 }

@@ -5,4 +5,5 @@ use Rattle.graph_tests.specs.Tables.{stratum_at}
 use Rattle.graph_tests.proofs.table.are_above.Given as goal
 
 abbrev pub invariant-loop-id : goal.invariant-loop-id
-invariant-loop-id l = list_all (λ added. nat_le l.stratum (stratum_at l.rows added)) (drop l.id-index l.ids) ≡ list_all (λ added. nat_le l.stratum (stratum_at l.rows added)) l.ids
+invariant-loop-id l = list_all (λ added. nat_le l.stratum (stratum_at l.rows added))
+    (drop l.id-index l.ids) ≡ list_all (λ added. nat_le l.stratum (stratum_at l.rows added)) l.ids

@@ -5,4 +5,5 @@ use Rattle.graph_tests.specs.Tables.{stratum_at}
 use Rattle.graph_tests.proofs.table.are_below.Given as goal
 
 abbrev pub invariant-loop-id : goal.invariant-loop-id
-invariant-loop-id l = list_all (λ read. nat_le (stratum_at l.rows read) l.stratum) (drop l.id-index l.ids) ≡ list_all (λ read. nat_le (stratum_at l.rows read) l.stratum) l.ids
+invariant-loop-id l = list_all (λ read. nat_le (stratum_at l.rows read) l.stratum)
+    (drop l.id-index l.ids) ≡ list_all (λ read. nat_le (stratum_at l.rows read) l.stratum) l.ids

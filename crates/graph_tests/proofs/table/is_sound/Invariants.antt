@@ -5,4 +5,5 @@ use Rattle.graph_tests.specs.Tables.{is_sound_row}
 use Rattle.graph_tests.proofs.table.is_sound.Given as goal
 
 abbrev pub invariant-loop-row : goal.invariant-loop-row
-invariant-loop-row l = list_all (is_sound_row l.rows) (drop l.row-index l.rows) ≡ list_all (is_sound_row l.rows) l.rows
+invariant-loop-row l = list_all (is_sound_row l.rows) (drop l.row-index l.rows)
+    ≡ list_all (is_sound_row l.rows) l.rows

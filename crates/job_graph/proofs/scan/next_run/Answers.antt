@@ -8,5 +8,7 @@ returns-in_ok-indexed-in-Some g c = (
   c.in-Some.job.now,
   sym c.in-Some.ensures,
   refl,
-  c.in_ok-indexed-in-Some.ensures ∙ (c.in_ok-reads-in-Some.ensures ∙ ap (λ ids. map (item_of g.P.Id.PartialEq.eq (map plain_item c.args.values.now)) ids) c.as_slice.ensures),
+  c.in_ok-indexed-in-Some.ensures ∙ (c.in_ok-reads-in-Some.ensures
+      ∙ ap (λ ids. map (item_of g.P.Id.PartialEq.eq (map plain_item c.args.values.now)) ids)
+      c.as_slice.ensures),
 )

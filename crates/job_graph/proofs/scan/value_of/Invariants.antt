@@ -4,4 +4,5 @@ use Rattle.access_context.specs.Read.{plain_item, read_of}
 use Rattle.job_graph.proofs.scan.value_of.Given as goal
 
 abbrev pub invariant-loop-item : goal.invariant-loop-item
-invariant-loop-item g l = read_of g.Id.PartialEq.eq (map plain_item (drop l.item-index l.values)) l.id ≡ read_of g.Id.PartialEq.eq (map plain_item l.values) l.id
+invariant-loop-item g l = read_of g.Id.PartialEq.eq (map plain_item (drop l.item-index l.values))
+    l.id ≡ read_of g.Id.PartialEq.eq (map plain_item l.values) l.id

@@ -4,4 +4,5 @@ use Rattle.table_bytes.specs.DataTypes.{uint16}
 use Rattle.metrics_tables.proofs.fields.push_words.Given as goal
 
 abbrev pub invariant-loop-word : goal.invariant-loop-word
-invariant-loop-word l = l.table.items ≡ l.fn.table.items ++ flat_map uint16 (take l.word-index l.words)
+invariant-loop-word l = l.table.items ≡ l.fn.table.items
+    ++ flat_map uint16 (take l.word-index l.words)

@@ -2,7 +2,8 @@ use Rattle.metrics_tables.proofs.MeasuringLemmas.{measurable, measures_are}
 use Rattle.metrics_tables.proofs.measuring.measure.Goals as goal
 
 pub measures_at-requires : goal.measures_at-requires
-measures_at-requires c = measurable c.args.header.now c.args.glyphs.now c.requires.flat c.requires.places c.requires.origin.origin
+measures_at-requires c = measurable c.args.header.now c.args.glyphs.now c.requires.flat
+    c.requires.places c.requires.origin.origin
 
 pub returns-clause-measured : goal.returns-clause-measured
 returns-clause-measured c =

@@ -1,7 +1,7 @@
 use Rattle.std.proofs.Common.{arith, ap, sym, ◌∙◌}
 use Rattle.std.proofs.lemmas.List.{take_all}
 use Rattle.font_ir.specs.FlatGlyphs.{point_count}
-use Rattle.font_ir.proofs.OutlineLemmas.{stored_count}
+use Rattle.font_ir.specs.OutlineLaws.{stored_count}
 use Rattle.metrics_tables.proofs.outline.point_count.Goals as goal
 
 pub returns : goal.returns

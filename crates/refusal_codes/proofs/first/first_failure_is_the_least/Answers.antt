@@ -1,4 +1,4 @@
-use Rattle.refusal_codes.proofs.FirstLaws.{first_is_least, first_of_none}
+use Rattle.refusal_codes.specs.FirstLaws.{first_is_least, first_of_none}
 use Rattle.refusal_codes.proofs.first.first_failure_is_the_least.Goals as goal
 
 pub returns-clause-least : goal.returns-clause-least

@@ -3,4 +3,5 @@ use Rattle.std.proofs.Common.{◌≡◌, ◌+◌, ◌-◌, ◌*◌, min, fold, t
 use Rattle.source_values.proofs.decimals.natural.Given as goal
 
 abbrev pub invariant-loop-digit : goal.invariant-loop-digit
-invariant-loop-digit l = l.number ≡ min (fold (λ n d. 10 * n + (d - 48)) 0 (take l.digit-index l.digits)) 1000000000
+invariant-loop-digit l = l.number ≡ min (fold (λ n d. 10 * n + (d - 48)) 0
+    (take l.digit-index l.digits)) 1000000000

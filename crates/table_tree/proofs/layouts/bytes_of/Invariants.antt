@@ -5,6 +5,7 @@ use Rattle.table_tree.proofs.layouts.bytes_of.Given as goal
 
 abbrev pub invariant-loop-piece : goal.invariant-loop-piece
 invariant-loop-piece l = record {
-  bytes : l.bytes.items ++ bytes_of (pieces_of (drop l.piece-index l.pieces)) ≡ bytes_of (pieces_of l.pieces);
+  bytes : l.bytes.items ++ bytes_of (pieces_of (drop l.piece-index l.pieces))
+      ≡ bytes_of (pieces_of l.pieces);
   above : first_above (pieces_of (drop l.piece-index l.pieces)) ≡ first_above (pieces_of l.pieces);
 }

@@ -1,4 +1,5 @@
-use Rattle.std.proofs.Common.{◌≡◌, ◌+◌, [], ◌∷◌, ◌++◌, drop, ap, sym, ◌∙◌, append_assoc, add-one, arith}
+use Rattle.std.proofs.Common.{◌≡◌, ◌+◌, [], ◌∷◌, ◌++◌, drop, ap, sym, ◌∙◌, append_assoc, add-one,
+    arith}
 use Rattle.std.proofs.lemmas.List.{map-append}
 use Rattle.table_tree.specs.Trees.{tree_size}
 use Rattle.table_tree.specs.TreeOf.{before, tree_of}
@@ -10,7 +11,8 @@ use Rattle.table_tree.proofs.near.+near_part.Goals as goal
 
 pub near_part-own_cell-requires : goal.near_part-own_cell-requires
 near_part-own_cell-requires t c =
-    let within = size_at c.fields-fields.result.now c.loop-field.field-index c.field-item.result c.loop-field-test.true c.field-item.is in
+    let within = size_at c.fields-fields.result.now c.loop-field.field-index c.field-item.result
+        c.loop-field-test.true c.field-item.is in
     (omega (arith, within, ap tree_size c.fields-fields.ensures, c.decreases), tt)
 
 pub near_part-loop-field-preserved : goal.near_part-loop-field-preserved
@@ -32,10 +34,12 @@ near_part-loop-field-preserved t c =
           ∙ ap (λ cells. cells ++ rest) (map-append cell_of own (cell ∷ []))
           ∙ append_assoc (cells_of own) (cell_of cell ∷ []) rest
           ∙ ap (λ cells. cells_of own ++ cells) (sym (c.in_ok-cell.ensures.own others))
-          ∙ ap (λ tree. cells_of own ++ own_cells (places_in behind) behind.next (items_of tree)) (sym here)
+          ∙ ap (λ tree. cells_of own ++ own_cells (places_in behind) behind.next (items_of tree))
+              (sym here)
           ∙ c.loop-field.invariant.own;
       cells =
           sym (c.in_ok-cell.ensures.cells others)
-          ∙ ap (λ tree. cells_of behind.cells.items ++ cells_behind (places_in behind) behind.next (items_of tree)) (sym here)
+          ∙ ap (λ tree. cells_of behind.cells.items
+              ++ cells_behind (places_in behind) behind.next (items_of tree)) (sym here)
           ∙ c.loop-field.invariant.cells;
     }

@@ -17,6 +17,12 @@ decreases-place_of_child l = 3 * tree_size l.child.now + 3
 
 abbrev pub invariant-near_part-loop-field : goal.invariant-near_part-loop-field
 invariant-near_part-loop-field l = record {
-  own : cells_of l.own.items ++ own_cells (places_in l.behind) l.behind.next (items_of (tree_of (drop l.field-index l.fields))) ≡ own_cells [] (total_by item_length (items_of (tree_of l.fields))) (items_of (tree_of l.fields));
-  cells : cells_of l.behind.cells.items ++ cells_behind (places_in l.behind) l.behind.next (items_of (tree_of (drop l.field-index l.fields))) ≡ cells_behind [] (total_by item_length (items_of (tree_of l.fields))) (items_of (tree_of l.fields));
+  own : cells_of l.own.items ++ own_cells (places_in l.behind) l.behind.next
+      (items_of (tree_of (drop l.field-index l.fields)))
+      ≡ own_cells [] (total_by item_length (items_of (tree_of l.fields)))
+      (items_of (tree_of l.fields));
+  cells : cells_of l.behind.cells.items ++ cells_behind (places_in l.behind) l.behind.next
+      (items_of (tree_of (drop l.field-index l.fields)))
+      ≡ cells_behind [] (total_by item_length (items_of (tree_of l.fields)))
+      (items_of (tree_of l.fields));
 }

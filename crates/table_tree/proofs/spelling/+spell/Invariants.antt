@@ -10,4 +10,6 @@ abbrev pub decreases-spell_field : goal.decreases-spell_field
 decreases-spell_field l = 2 * tree_size (before l.field.now end)
 
 abbrev pub invariant-spell-loop-field : goal.invariant-spell-loop-field
-invariant-spell-loop-field l = l.numbers.items ++ spelling (tree_of (drop l.field-index l.field-items)) ≡ l.fn.numbers.items ++ spelling (tree_of l.field-items)
+invariant-spell-loop-field l = l.numbers.items
+    ++ spelling (tree_of (drop l.field-index l.field-items))
+    ≡ l.fn.numbers.items ++ spelling (tree_of l.field-items)

@@ -1,4 +1,5 @@
-use Rattle.std.proofs.Common.{◌≡◌, ◌%◌, ◌^◌, [], ◌∷◌, ◌++◌, length, drop, Some, None, refl, sym, ap, ◌∙◌, subst, arith}
+use Rattle.std.proofs.Common.{◌≡◌, ◌%◌, ◌^◌, [], ◌∷◌, ◌++◌, length, drop, Some, None, refl, sym, ap,
+    ◌∙◌, subst, arith}
 use Rattle.atomic_table.specs.Table.{rest}
 use Rattle.turnstile.specs.declared.knowledge.Stage.TheVariants.{Noted}
 use Rattle.turnstile.specs.Entries.{AddsAtMostOne}
@@ -31,7 +32,8 @@ exchange-empty-requires g c =
     let h = at.1 in
     let noted = c.note.ensures.noted h.at m h.view in
     let slot = noted.1 ∙ h.slot in
-    (c.note.ensures.table ∙ c.requires.table.0, (None, slot ∙ ap (λ cs. (0, None) ∷ rest cs) (sym slot)))
+    (c.note.ensures.table ∙ c.requires.table.0,
+        (None, slot ∙ ap (λ cs. (0, None) ∷ rest cs) (sym slot)))
 
 pub unreachable-requires : goal.unreachable-requires
 unreachable-requires g c =
@@ -54,8 +56,10 @@ store-requires g c =
     let ticket : c.args.ticket ≡ h.at % 2 ^ 64 = h.is_ticket in (
       c.exchange-empty.ensures.0 ∙ (c.note.ensures.table ∙ c.requires.table.0),
       omega arith,
-      give_allowed g.B.Counted.entries g.B.Counted.root _ _ _ _ _ h.at _ _ c.args.value (ap (λ me. me.0) put ∙ noted.0)
-          (ap (λ me. me.1) put ∙ ap (λ cs. (0, Some c.args.value) ∷ rest cs) slot) refl h.same_root (omega arith),
+      give_allowed g.B.Counted.entries g.B.Counted.root _ _ _ _ _ h.at _ _ c.args.value
+          (ap (λ me. me.0) put ∙ noted.0)
+          (ap (λ me. me.1) put ∙ ap (λ cs. (0, Some c.args.value) ∷ rest cs) slot) refl h.same_root
+              (omega arith),
     )
 
 pub returns-then-peek-next-clause-left : goal.returns-then-peek-next-clause-left
@@ -66,7 +70,8 @@ returns-then-peek-next-clause-left g c m h =
     let gave = c.store.ensures.2 in
     let list = g.B.Counted.entries c.args.value in
     let seen = ap (λ v. seen_of v.members) h.view in
-    let kept = ap (λ me. me.0) put ∙ (noted.0 ∙ ap (λ xs. seat_of (Noted h.at) (after_adding list (drop (length xs) list) m)) seen) in
+    let kept = ap (λ me. me.0) put ∙ (noted.0
+        ∙ ap (λ xs. seat_of (Noted h.at) (after_adding list (drop (length xs) list) m)) seen) in
     let view = gave.0 ∙ ap (λ v. away_of v) kept in
     let slots = gave.1 ∙ (ap (λ me. rest me.1) put ∙ ap (λ cs. rest cs) slot) in
     λ i. (view i, slots i)
@@ -79,7 +84,8 @@ returns-else-peek-next-clause-left g c m h =
     let gave = c.store.ensures.2 in
     let list = g.B.Counted.entries c.args.value in
     let seen = ap (λ v. seen_of v.members) h.view in
-    let kept = ap (λ me. me.0) put ∙ (noted.0 ∙ ap (λ xs. seat_of (Noted h.at) (after_adding list (drop (length xs) list) m)) seen) in
+    let kept = ap (λ me. me.0) put ∙ (noted.0
+        ∙ ap (λ xs. seat_of (Noted h.at) (after_adding list (drop (length xs) list) m)) seen) in
     let view = gave.0 ∙ ap (λ v. away_of v) kept in
     let slots = gave.1 ∙ (ap (λ me. rest me.1) put ∙ ap (λ cs. rest cs) slot) in
     λ i. (view i, slots i)

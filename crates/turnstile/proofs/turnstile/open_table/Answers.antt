@@ -11,5 +11,6 @@ new-requires g c =
     let passes = c.args.about.now.passes in
     let entries = g.B.Counted.entries in
     let root = g.B.Counted.root in
-    subst (λ slots. Kept entries root passes (root value) (opening (0 ∷ 0 ∷ 0 ∷ []) slots (everyone (root value) passes))) (sym c.requires.slots)
+    subst (λ slots. Kept entries root passes (root value)
+        (opening (0 ∷ 0 ∷ 0 ∷ []) slots (everyone (root value) passes))) (sym c.requires.slots)
     (opens entries root value passes c.requires.empty c.requires.few)

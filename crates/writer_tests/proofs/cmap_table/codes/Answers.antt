@@ -7,7 +7,8 @@ pub loop-glyph-init : goal.loop-glyph-init
 loop-glyph-init c =
     let none = ap length c.in_ok-codes.ensures.items in
     record {
-      are = record { rise = λ i j d low high. absurd (omega arith); within = λ k d high. absurd (omega arith) };
+      are = record { rise = λ i j d low high. absurd (omega arith); within
+          = λ k d high. absurd (omega arith) };
       below = λ k d high. absurd (omega arith);
     }
 
@@ -21,8 +22,10 @@ loop-glyph-preserved c =
     record {
       are = record {
         rise = rw pushed (all_pairs_push (λ a b. a.0 < b.0) items one before.are.rise before.below);
-        within = rw pushed (All-push (λ a. a.0 ≤ 1114111) items one before.are.within (omega arith));
+        within = rw pushed (All-push (λ a. a.0 ≤ 1114111) items one before.are.within
+            (omega arith));
       };
       below = rw pushed (All-push (λ a. a.0 < code + c.args.distance) items one
-          (All-weaker (λ a. a.0 < code) (λ a. a.0 < code + c.args.distance) (λ a (h : a.0 < code). omega arith) items before.below) (omega arith));
+          (All-weaker (λ a. a.0 < code) (λ a. a.0 < code + c.args.distance)
+              (λ a (h : a.0 < code). omega arith) items before.below) (omega arith));
     }

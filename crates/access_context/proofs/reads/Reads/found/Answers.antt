@@ -3,10 +3,17 @@ use Rattle.access_context.proofs.Places.{within_items, item_read, unread}
 use Rattle.access_context.proofs.reads.Reads.found.Goals as goal
 
 pub index-requires : goal.index-requires
-index-requires g c = omega (arith, c.self.inside.items.ok.0, within_items g.Id.PartialEq.eq c.self.inside.items.items c.args.id.now c.in-Some.place.now (sym (c.self.invariant c.if-self.true c.args.id.now) ∙ sym c.in-Some.ensures.value))
+index-requires g c = omega (arith, c.self.inside.items.ok.0, within_items g.Id.PartialEq.eq
+    c.self.inside.items.items c.args.id.now c.in-Some.place.now
+    (sym (c.self.invariant c.if-self.true c.args.id.now) ∙ sym c.in-Some.ensures.value))
 
 pub returns-in-Some : goal.returns-in-Some
-returns-in-Some g c = rw (← c.self.view_is) (item_read g.Id.PartialEq.eq c.self.inside.items.items c.args.id.now c.in-Some.place.now (sym (c.self.invariant c.if-self.true c.args.id.now) ∙ sym c.in-Some.ensures.value) c.index.result.now c.index.ensures)
+returns-in-Some g c = rw (← c.self.view_is)
+    (item_read g.Id.PartialEq.eq c.self.inside.items.items c.args.id.now c.in-Some.place.now
+    (sym (c.self.invariant c.if-self.true c.args.id.now) ∙ sym c.in-Some.ensures.value)
+    c.index.result.now c.index.ensures)
 
 pub returns-in-None : goal.returns-in-None
-returns-in-None g c = rw (← c.self.view_is) (sym (unread g.Id.PartialEq.eq 0 c.self.inside.items.items c.args.id.now (sym (c.self.invariant c.if-self.true c.args.id.now) ∙ sym c.in-None.ensures.value)))
+returns-in-None g c = rw (← c.self.view_is)
+    (sym (unread g.Id.PartialEq.eq 0 c.self.inside.items.items c.args.id.now
+    (sym (c.self.invariant c.if-self.true c.args.id.now) ∙ sym c.in-None.ensures.value)))

@@ -13,12 +13,15 @@ returns-clause-number c =
     let used = c.self.inside.used in
     let path = c.args.path.now in
     c.place_among.ensures
-    ∙ ap (λ (slots : List Slot). position_from (λ slot. bytes_eq slot.name.items path) 0 (take used slots)) c.deref.ensures.value
+    ∙ ap (λ (slots : List Slot). position_from (λ slot. bytes_eq slot.name.items path) 0
+        (take used slots)) c.deref.ensures.value
     ∙ sym (number_of-shown (take used c.self.inside.slots.items) path)
     ∙ ap (λ (m : Memory). number_of m.paths path) c.self.view_is
 
 pub returns-clause-there : goal.returns-clause-there
-returns-clause-there c = ap is_some (returns-clause-number c) ∙ is_some-number_of c.args.self.now.paths c.args.path.now
+returns-clause-there c = ap is_some (returns-clause-number c)
+    ∙ is_some-number_of c.args.self.now.paths c.args.path.now
 
 pub returns-clause-within : goal.returns-clause-within
-returns-clause-within c = number_of-within c.args.self.now.paths c.args.path.now c.place_among.result (returns-clause-number c)
+returns-clause-within c = number_of-within c.args.self.now.paths c.args.path.now
+    c.place_among.result (returns-clause-number c)

@@ -4,4 +4,5 @@ use Rattle.plist_reader.specs.Tree.{value_with}
 use Rattle.plist_reader.proofs.tree.Tree.value_with.Given as goal
 
 abbrev pub invariant-loop-pair : goal.invariant-loop-pair
-invariant-loop-pair l = value_with l.self l.key (drop l.pair-index l.pairs) ≡ value_with l.self l.key l.pairs
+invariant-loop-pair l = value_with l.self l.key (drop l.pair-index l.pairs)
+    ≡ value_with l.self l.key l.pairs

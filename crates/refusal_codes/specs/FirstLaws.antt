@@ -1,5 +1,6 @@
 -- Laws of the least failure.
-use Rattle.std.proofs.Common.{◌≡◌, ℕ, zero, suc, Bool, true, false, ◌||◌, ◌&&◌, eqb, ltb, cond, List, [], ◌∷◌, ◌++◌, Option, Some, None, refl, subst, arith}
+use Rattle.std.proofs.Common.{◌≡◌, ℕ, zero, suc, Bool, true, false, ◌||◌, ◌&&◌, eqb, ltb, cond,
+    List, [], ◌∷◌, ◌++◌, Option, Some, None, refl, subst, arith}
 use Rattle.std.specs.List.{AllByRecursion, Contains}
 use Rattle.std.proofs.lemmas.Bool.Decides.{nat_tests}
 use Rattle.refusal_codes.specs.Rules.{rule_number}
@@ -7,7 +8,8 @@ use Rattle.refusal_codes.specs.declared.first.Failure.{Failure}
 use Rattle.refusal_codes.specs.First.{is_before, earlier, noted, first_of, IsLeast}
 
 -- noting two lists is noting the one after the other
-pub noted-append : (least : Option Failure) (xs ys : List Failure) → noted least (xs ++ ys) ≡ noted (noted least xs) ys
+pub noted-append : (least : Option Failure) (xs ys : List Failure)
+    → noted least (xs ++ ys) ≡ noted (noted least xs) ys
 noted-append least [] ys = refl
 noted-append least (x ∷ xs) ys = noted-append (Some (earlier least x)) xs ys
 
@@ -19,10 +21,12 @@ abbrev below : ℕ → ℕ → ℕ → ℕ → Bool
 below p m q n = ltb p q || (eqb p q && ltb m n)
 
 -- what is not below the lesser of two is below neither
-not_below_first : (p m q n r k : ℕ) → below q n p m ≡ true → below q n r k ≡ false → below p m r k ≡ false
+not_below_first : (p m q n r k : ℕ) → below q n p m ≡ true → below q n r k ≡ false
+    → below p m r k ≡ false
 not_below_first p m q n r k lesser not = grind (arith, nat_tests)
 
-not_below_second : (p m q n r k : ℕ) → below q n p m ≡ false → below p m r k ≡ false → below q n r k ≡ false
+not_below_second : (p m q n r k : ℕ) → below q n p m ≡ false → below p m r k ≡ false
+    → below q n r k ≡ false
 not_below_second p m q n r k not_lesser not = grind (arith, nat_tests)
 
 here : (f : Failure) (fs : List Failure) → Contains (f ∷ fs) f
@@ -32,7 +36,8 @@ further : (f g : Failure) (fs : List Failure) → Contains fs f → Contains (g 
 further f g fs (k, within, is) = (suc k, omega (arith, within), is)
 
 -- a member of the list with one of two in front is a member with both in front
-kept : (b : Bool) (least x f : Failure) (xs : List Failure) → Contains (cond b x least ∷ xs) f → Contains (least ∷ x ∷ xs) f
+kept : (b : Bool) (least x f : Failure) (xs : List Failure) → Contains (cond b x least ∷ xs) f
+    → Contains (least ∷ x ∷ xs) f
 kept true least x f xs there = further f least (x ∷ xs) there
 kept false least x f xs (zero, within, is) = (0, omega arith, is)
 kept false least x f xs (suc k, within, is) = (suc (suc k), omega (arith, within), is)
@@ -44,15 +49,20 @@ not_before_itself f = not_below_itself f.place (rule_number f.rule)
     not_below_itself p m = grind (arith, nat_tests)
 
 -- what comes before neither the lesser of two comes before both
-neither : (b : Bool) (least x f : Failure) → is_before x least ≡ b → is_before (cond b x least) f ≡ false → (is_before least f ≡ false) × (is_before x f ≡ false)
-neither true least x f lesser not = (not_below_first least.place (rule_number least.rule) x.place (rule_number x.rule) f.place (rule_number f.rule) lesser not, not)
-neither false least x f lesser not = (not, not_below_second least.place (rule_number least.rule) x.place (rule_number x.rule) f.place (rule_number f.rule) lesser not)
+neither : (b : Bool) (least x f : Failure) → is_before x least ≡ b
+    → is_before (cond b x least) f ≡ false → (is_before least f ≡ false) × (is_before x f ≡ false)
+neither true least x f lesser not = (not_below_first least.place (rule_number least.rule) x.place
+    (rule_number x.rule) f.place (rule_number f.rule) lesser not, not)
+neither false least x f lesser not = (not, not_below_second least.place (rule_number least.rule)
+    x.place (rule_number x.rule) f.place (rule_number f.rule) lesser not)
 
 noted_least : (least : Failure) (fs : List Failure) (f : Failure) → noted (Some least) fs ≡ Some f
-    → Contains (least ∷ fs) f × (is_before least f ≡ false) × AllByRecursion (λ g. is_before g f ≡ false) fs
+    → Contains (least ∷ fs) f × (is_before least f ≡ false)
+        × AllByRecursion (λ g. is_before g f ≡ false) fs
 noted_least least [] f e =
     let same : least ≡ f = cc in
-    subst (λ (g : Failure). Contains (least ∷ []) g × (is_before least g ≡ false) × Unit {0}) same (here least [], not_before_itself least, tt)
+    subst (λ (g : Failure). Contains (least ∷ []) g × (is_before least g ≡ false) × Unit {0}) same
+        (here least [], not_before_itself least, tt)
 noted_least least (x ∷ xs) f e =
     let rest = noted_least (cond (is_before x least) x least) xs f e in
     let both = neither (is_before x least) least x f refl rest.1 in

@@ -3,7 +3,7 @@ use Rattle.std.proofs.Common.{◌≡◌, ◌≤◌, arith, ap, ◌∙◌, ℤ, p
 use Rattle.std.proofs.Math.Nat.{mul-le-mul_left}
 use Rattle.std.proofs.lemmas.Int.{ints}
 use Rattle.fixed_math.specs.FixedPoint.{half_up, product}
-use Rattle.fixed_math.proofs.FloorLemmas.{half_up_exact, half_up_monotone}
+use Rattle.fixed_math.specs.FloorLaws.{half_up_exact, half_up_monotone}
 
 pub product_one_left : (z : ℤ) → product (pos 65536) z ≡ z
 product_one_left z =
@@ -23,7 +23,8 @@ product_zero_right z =
     let e : (z *ℤ pos 0) ≡ (pos 0 *ℤ pos 65536) = omega (arith, ints) in
     ap half_up e ∙ half_up_exact (pos 0)
 
--- numbers that are not negative have no negative product, and a factor of at most 1 makes nothing greater
+-- numbers that are not negative have no negative product, and a factor of at most 1 makes nothing
+-- greater
 pub product_not_negative : (a b : ℤ) → pos 0 ≤ℤ a → pos 0 ≤ℤ b → pos 0 ≤ℤ product a b
 product_not_negative (pos a) (pos b) h k =
     let e : (pos 0 *ℤ pos 65536) ≤ℤ (pos a *ℤ pos b) = omega (arith, ints) in
@@ -34,7 +35,8 @@ product_not_negative (pos a) (negsuc b) h k = absurd (omega (arith, ints))
 pub product_no_greater : (a b : ℤ) → pos 0 ≤ℤ a → pos 0 ≤ℤ b → b ≤ℤ pos 65536 → product a b ≤ℤ a
 product_no_greater (pos a) (pos b) h k l =
     let small : b ≤ 65536 = omega (arith, ints) in
-    let e : (pos a *ℤ pos b) ≤ℤ (pos a *ℤ pos 65536) = omega (arith, ints, mul-le-mul_left a small) in
+    let e : (pos a *ℤ pos b) ≤ℤ (pos a *ℤ pos 65536) = omega (arith, ints, mul-le-mul_left a small)
+        in
     let exact = half_up_exact (pos a) in
     let bound = half_up_monotone (pos a *ℤ pos b) (pos a *ℤ pos 65536) e in
     omega (arith, ints)

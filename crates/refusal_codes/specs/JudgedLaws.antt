@@ -5,7 +5,9 @@ use Rattle.refusal_codes.specs.declared.first.Failure.{Failure}
 use Rattle.refusal_codes.specs.First.{judged}
 
 -- where a job answers a value, no rule fails, and it is that value
-pub judged_ok : {Y : Type 0} (refusal : Failure → Refusal) (least whole : Option Failure) (value y : Y) → judged refusal least whole value ≡ Ok y → (least ≡ None) × (whole ≡ None) × (value ≡ y)
+pub judged_ok : {Y : Type 0} (refusal : Failure → Refusal) (least whole : Option Failure)
+    (value y : Y) → judged refusal least whole value ≡ Ok y
+    → (least ≡ None) × (whole ≡ None) × (value ≡ y)
 judged_ok refusal (Some f) whole value y e = absurd cc
 judged_ok refusal None (Some f) value y e = absurd cc
 judged_ok refusal None None value y e = (refl, refl, cc)

@@ -1,12 +1,16 @@
--- What floors are: the bounds that make a quotient, that only one number meets them, and what that gives of rounding.
-use Rattle.std.proofs.Common.{◌≡◌, ℕ, ◌+◌, ◌*◌, ◌<◌, ◌≤◌, arith, ℤ, pos, negsuc, ◌+ℤ◌, ◌*ℤ◌, ◌≤ℤ◌, ◌<ℤ◌}
+-- What floors are: the bounds that make a quotient, that only one number meets them, and what that
+-- gives of rounding.
+use Rattle.std.proofs.Common.{◌≡◌, ℕ, ◌+◌, ◌*◌, ◌<◌, ◌≤◌, arith, ℤ, pos, negsuc, ◌+ℤ◌, ◌*ℤ◌, ◌≤ℤ◌,
+    ◌<ℤ◌}
 use Rattle.std.proofs.Math.Nat.{mul-le-mul_left}
 use Rattle.std.proofs.lemmas.Int.{ints, by_lt_z}
 use borrow.Author.Differences.{up, down}
 use Rattle.fixed_math.specs.FixedPoint.{floor_quotient, half_up, ratio_of}
 
 -- the quotient q has q * d at most n, and less than d below it
-pub floor-parts : (n : ℤ) (d : ℕ) → 0 < d → (up (floor_quotient n (pos d)) * d + down n ≤ down (floor_quotient n (pos d)) * d + up n) × (down (floor_quotient n (pos d)) * d + up n < up (floor_quotient n (pos d)) * d + down n + d)
+pub floor-parts : (n : ℤ) (d : ℕ) → 0 < d
+    → (up (floor_quotient n (pos d)) * d + down n ≤ down (floor_quotient n (pos d)) * d + up n)
+    × (down (floor_quotient n (pos d)) * d + up n < up (floor_quotient n (pos d)) * d + down n + d)
 floor-parts (pos a) d h = omega arith
 floor-parts (negsuc a) d h = omega arith
 
@@ -35,14 +39,16 @@ times_below_next a b d below =
     (λ at_most. at_most)
 
 -- a number that is not greater has no greater quotient
-pub floor_monotone : (m n : ℤ) (d : ℕ) → 0 < d → m ≤ℤ n → floor_quotient m (pos d) ≤ℤ floor_quotient n (pos d)
+pub floor_monotone : (m n : ℤ) (d : ℕ) → 0 < d → m ≤ℤ n
+    → floor_quotient m (pos d) ≤ℤ floor_quotient n (pos d)
 floor_monotone m n d h le =
     let low = floor_at_most m d h in
     let high = floor_above n d h in
     times_below_next (floor_quotient m (pos d)) (floor_quotient n (pos d)) d (omega (arith, ints))
 
 -- the bounds have one answer
-pub floor_unique : (n q : ℤ) (d : ℕ) → 0 < d → (q *ℤ pos d) ≤ℤ n → n <ℤ (q *ℤ pos d +ℤ pos d) → floor_quotient n (pos d) ≡ q
+pub floor_unique : (n q : ℤ) (d : ℕ) → 0 < d → (q *ℤ pos d) ≤ℤ n → n <ℤ (q *ℤ pos d +ℤ pos d)
+    → floor_quotient n (pos d) ≡ q
 floor_unique n q d h low high =
     let its_low = floor_at_most n d h in
     let its_high = floor_above n d h in
@@ -55,14 +61,17 @@ pub half_up_low : (raw : ℤ) → (half_up raw *ℤ pos 65536) ≤ℤ (raw +ℤ 
 half_up_low raw = floor_at_most (raw +ℤ pos 32768) 65536 (omega arith)
 
 pub half_up_high : (raw : ℤ) → raw <ℤ (half_up raw *ℤ pos 65536 +ℤ pos 32768)
-half_up_high raw = let above = floor_above (raw +ℤ pos 32768) 65536 (omega arith) in omega (arith, ints)
+half_up_high raw = let above = floor_above (raw +ℤ pos 32768) 65536 (omega arith)
+    in omega (arith, ints)
 
 pub half_up_monotone : (m n : ℤ) → m ≤ℤ n → half_up m ≤ℤ half_up n
-half_up_monotone m n le = floor_monotone (m +ℤ pos 32768) (n +ℤ pos 32768) 65536 (omega arith) (omega (arith, ints))
+half_up_monotone m n le = floor_monotone (m +ℤ pos 32768) (n +ℤ pos 32768) 65536 (omega arith)
+    (omega (arith, ints))
 
 -- a multiple of 65536 is no fraction
 pub half_up_exact : (z : ℤ) → half_up (z *ℤ pos 65536) ≡ z
-half_up_exact z = floor_unique (z *ℤ pos 65536 +ℤ pos 32768) z 65536 (omega arith) (omega (arith, ints)) (omega (arith, ints))
+half_up_exact z = floor_unique (z *ℤ pos 65536 +ℤ pos 32768) z 65536 (omega arith)
+    (omega (arith, ints)) (omega (arith, ints))
 
 -- a ratio is from 0 to 1
 pub ratio_not_negative : (n d : ℤ) → pos 0 ≤ℤ n → pos 0 <ℤ d → pos 0 ≤ℤ ratio_of n d
