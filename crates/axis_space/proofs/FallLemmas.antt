@@ -1,6 +1,5 @@
 -- Where pairs in their order don't rise: the first neighbours that don't are where pairs of the set
--- don't, and where there are
--- none the list is the only rising one.
+-- don't, and where there are none the list is the only rising one.
 use Rattle.std.proofs.Common.{◌≡◌, ◌≢◌, zero, suc, inl, inr, arith, refl, sym, subst, ◌∙◌, ◌≤ℤ◌,
     Bool, true, false, cond, List, [], ◌∷◌, Some, None, ap, Ok, Err, Result, ℕ, Option, ℤ}
 use Rattle.std.proofs.lemmas.Int.{ints}

@@ -1,6 +1,5 @@
 -- What the nearest whole number to a quotient is: it keeps the order, it is exact, and so a
--- coordinate between the ends of an
--- axis lies between -1 and 1.
+-- coordinate between the ends of an axis lies between -1 and 1.
 use Rattle.std.proofs.Common.{◌≡◌, ℕ, ◌*◌, ◌<◌, arith, ap, ◌∙◌, ℤ, pos, negsuc, ◌+ℤ◌, ◌-ℤ◌, ◌*ℤ◌,
     ◌≤ℤ◌, ◌<ℤ◌, FitsSigned, to_z, of_z}
 use Rattle.std.proofs.lemmas.Int.{ints, by_lt_z}

@@ -1,6 +1,5 @@
 -- Pairs in their order: what the comparison says, that two lists in strict order with the same
--- members are one, and that what
--- puts pairs in order keeps their members.
+-- members are one, and that what puts pairs in order keeps their members.
 use Rattle.std.proofs.Common.{◌≡◌, ◌≢◌, ◌⊎◌, inl, inr, arith, refl, sym, ap, subst, ◌∙◌, ℤ, ◌<ℤ◌,
     ◌≤ℤ◌, Bool, true, ◌&&◌, List, [], ◌∷◌}
 use Rattle.std.proofs.lemmas.Int.{ints}

@@ -1,6 +1,6 @@
 -- The pairs of an axis in the table avar (OpenType 1.9, "avar"): from a normalised user coordinate
--- to the normalised design
--- coordinate. They are a set of which the table holds the rising list, where there is one.
+-- to the normalised design coordinate. They are a set of which the table holds the rising list,
+-- where there is one.
 use Rattle.std.specs.Prelude.{◌≡◌, ◌≢◌, ℕ, Bool, ◌&&◌, if◌then◌else◌, List, [], ◌∷◌, ◌++◌, map, ℤ,
     pos, negsuc, ◌<ℤ◌, ◌≤ℤ◌, int_lt, Option, Some, None, Result, Ok, Err, Vec, Contains, AllPairs,
     ◌↔◌}
@@ -29,8 +29,7 @@ pub record IsFirstFall (set : List Pair) (x : F2Dot14) : Type 0 where
   pub least : (p q : Pair) → Falls set p q → x.0 ≤ℤ q.0.0
 
 -- what is made of the set: its rising list, which is the only one; or where there is none, the
--- number at which pairs first don't
--- rise
+-- number at which pairs first don't rise
 abbrev pub Orders : List Pair → Result (List Pair) F2Dot14 → Type 0
 Orders set (Ok pairs) = IsRisingList set pairs
     × ((others : List Pair) → IsRisingList set others → others ≡ pairs)
@@ -46,8 +45,7 @@ OrdersPairs (Ok v) set = Orders set (Ok v.items)
 OrdersPairs (Err e) set = RefusesPairs e set
 
 -- The same as a function: what it gives is what is made of the set. Pairs are compared by the first
--- number and then by the
--- second.
+-- number and then by the second.
 abbrev pub pair_cmp : Pair → Pair → Ordering
 pair_cmp p q = ordering_then (int_cmp p.0.0 q.0.0) (int_cmp p.1.0 q.1.0)
 

@@ -1,8 +1,6 @@
 -- User coordinates from design coordinates, which is fontc's own: each master is a point, and of
--- masters at one design
--- coordinate the first counts; between two neighbours the reading is linear, rounded to the nearest
--- in 16.16, a tie going up;
--- past the ends it is that of the end.
+-- masters at one design coordinate the first counts; between two neighbours the reading is linear,
+-- rounded to the nearest in 16.16, a tie going up; past the ends it is that of the end.
 use Rattle.std.specs.Prelude.{◌≡◌, ℕ, List, [], ◌∷◌, map, ℤ, pos, ◌+ℤ◌, ◌-ℤ◌, ◌*ℤ◌, ◌≤ℤ◌, ◌<ℤ◌, ◌⊎◌,
     int_lt, int_le, if◌then◌else◌, Option, Some, None, All}
 use Rattle.std.specs.List.{find}
@@ -90,8 +88,8 @@ unfoldable pub user_at : List Point → ℤ → ℤ
 user_at points design = reading (below design points) (above design points) design
 
 -- what a number is where it is read from the points: on the line between the neighbours, and past
--- the ends that of the end. So
--- it is a point's own number at each point, and never outside the points' numbers
+-- the ends that of the end. So it is a point's own number at each point, and never outside the
+-- points' numbers
 pub record IsReading (points : List Point) (design user : ℤ) : Type 0 where
   pub placed : Places points design
   pub inside : (p q : Point) → IsBelow points design p → IsAbove points design q

@@ -1,6 +1,5 @@
 //! The axes of a design space: normalised coordinates, the pairs of the table avar, and user
-//! coordinates (OpenType 1.9,
-//! "Coordinate scales and normalization" and "avar").
+//! coordinates (OpenType 1.9, "Coordinate scales and normalization" and "avar").
 #![tactic(auto)]
 
 mod coordinates;

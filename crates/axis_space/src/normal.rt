@@ -4,9 +4,8 @@ ghost use Rattle.font_ir.specs.Normal.{nearest, normalised};
 use fixed_math::{F2Dot14, Fixed};
 
 /// A coordinate on the scale where the axis's least, default and greatest numbers are -1, 0 and 1
-/// (OpenType 1.9, "Coordinate
-/// scales and normalization"), from 16.16 to 2.14, rounded to the nearest, a tie going up. It takes
-/// no memory.
+/// (OpenType 1.9, "Coordinate scales and normalization"), from 16.16 to 2.14, rounded to the
+/// nearest, a tie going up. It takes no memory.
 pub fn normalise(v: Fixed, min: Fixed, def: Fixed, max: Fixed) -> F2Dot14
     requires least { min.0 ≤ℤ v.0 }
     requires greatest { v.0 ≤ℤ max.0 }

@@ -14,12 +14,10 @@ use std::alloc::{AllocError, Global};
 type Pair = (F2Dot14, F2Dot14);
 
 /// The pairs of an axis in the table avar (OpenType 1.9, "avar"), in 2.14: from normalised user
-/// coordinates to normalised design
-/// coordinates. They are those of the ends, of the default and of each master, each once, in rising
-/// order. `origin` is the
-/// position of the default master. Where they don't rise strictly in both numbers, the error has
-/// the first user coordinate at
-/// which they don't. It costs a sort of the masters and is linear in them beside that.
+/// coordinates to normalised design coordinates. They are those of the ends, of the default and of
+/// each master, each once, in rising order. `origin` is the position of the default master. Where
+/// they don't rise strictly in both numbers, the error has the first user coordinate at which they
+/// don't. It costs a sort of the masters and is linear in them beside that.
 pub fn avar_map(
     alloc: Global,
     masters: &[Master],

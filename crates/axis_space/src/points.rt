@@ -17,10 +17,9 @@ pub struct Point {
 }
 
 /// The user coordinate at a design coordinate, in 16.16, which is fontc's own: linear between the
-/// masters' coordinates on the
-/// axis, rounded to the nearest, a tie going up. Before the least and after the greatest design
-/// coordinate it is that of the
-/// master there. Of masters with one design coordinate the first counts. It takes no memory.
+/// masters' coordinates on the axis, rounded to the nearest, a tie going up. Before the least and
+/// after the greatest design coordinate it is that of the master there. Of masters with one design
+/// coordinate the first counts. It takes no memory.
 pub fn user_of(masters: &[Master], axis: u32, design: Fixed) -> Fixed
     requires master { 0 < length masters.now }
     requires axes { All (HasAxis axis) masters.now }

@@ -1,7 +1,6 @@
 -- The table "cmap" (OpenType 1.9): its header, its encoding records and their subtables one after
--- another. Which encodings a
--- font has is fontc's own: the codes up to 65534 always in format 4, and all codes in format 12
--- where one is above 65535.
+-- another. Which encodings a font has is fontc's own: the codes up to 65534 always in format 4, and
+-- all codes in format 12 where one is above 65535.
 use Rattle.std.specs.Prelude.{◌≡◌, ℕ, ◌+◌, ◌*◌, ◌<◌, ◌≤◌, Bool, nat_lt, if◌then◌else◌, List, [],
     ◌∷◌, ◌++◌, length, Option, Some, None, Result, Ok, Err, Vec}
 use Rattle.std.specs.List.{flat_map, list_any, All, AllPairs}

@@ -22,8 +22,7 @@ abbrev pub glyph_in_segment : ℕ → Segment → ℕ
 glyph_in_segment code segment = (code + segment.id_delta) % 65536
 
 -- Each code of a list lies in a segment, which gives its glyph number, and in no other one; and a
--- code up to 65534 that the
--- list hasn't lies in none. The segments rise, as their readers want it.
+-- code up to 65534 that the list hasn't lies in none. The segments rise, as their readers want it.
 pub record SegmentsLead (codes : Codes) (segments : List Segment) : Type 0 where
   pub rise : AllPairs (λ a b. a.end_code < b.start_code) segments
   pub found : (code glyph : ℕ) → Contains codes (code, glyph)

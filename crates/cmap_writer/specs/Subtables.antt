@@ -1,6 +1,5 @@
 -- The subtables of "cmap" as bytes, field by field (OpenType 1.9, "cmap", "Format 4: Segment
--- mapping to delta values" and
--- "Format 12: Segmented coverage").
+-- mapping to delta values" and "Format 12: Segmented coverage").
 use Rattle.std.specs.Prelude.{ℕ, zero, suc, ◌+◌, ◌-◌, ◌*◌, ◌%◌, ◌^◌, nat_le, if◌then◌else◌, List,
     [], ◌∷◌, ◌++◌, length, map}
 use Rattle.std.specs.List.{flat_map}
@@ -15,8 +14,8 @@ no_language = 0
 -- ---- format 4
 
 -- The segment of a run. A code of it has as its glyph number the code and idDelta together, modulo
--- 65536, as idRangeOffset is 0.
--- idDelta is told as the number from 0 to 65535 that it is modulo 65536.
+-- 65536, as idRangeOffset is 0. idDelta is told as the number from 0 to 65535 that it is modulo
+-- 65536.
 abbrev pub segment_of : Run → Segment
 segment_of run = record {
   end_code = run.first + run.more;

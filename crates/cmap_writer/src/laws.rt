@@ -5,8 +5,7 @@ ghost use Rattle.cmap_writer.specs.Reading.{SegmentsLead, GroupsLead, AreGlyphNu
 ghost use Rattle.cmap_writer.specs.declared.runs.Run.{Run};
 
 /// The runs of some codes stand for exactly these codes, and each is as long as can be; no other
-/// list of runs is so. A law: the
-/// function does nothing.
+/// list of runs is so. A law: the function does nothing.
 pub fn runs_are_the_longest()
     ensures longest { (codes : Codes) → AreLongestRuns codes (longest_runs codes) }
     ensures only { (codes : Codes) (runs : List Run) → AreLongestRuns codes runs
@@ -14,8 +13,7 @@ pub fn runs_are_the_longest()
 {}
 
 /// A code is found in exactly one segment of format 4 and one group of format 12, which give its
-/// glyph number; a code that isn't
-/// in the list is found in none. A law: the function does nothing.
+/// glyph number; a code that isn't in the list is found in none. A law: the function does nothing.
 pub fn codes_lead_to_their_glyphs()
     ensures segments { (codes : Codes) → AreCodes codes → AreGlyphNumbers codes
         → SegmentsLead (short_codes codes) (segments codes) }

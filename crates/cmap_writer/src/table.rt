@@ -27,10 +27,8 @@ const WHOLE_ENCODING: u16 = 10;
 /// The table "cmap" (OpenType 1.9) of codes with their glyph numbers.
 ///
 /// The codes up to 65534 stand in a subtable of format 4, one segment for each longest run of codes
-/// that follow each other and
-/// whose glyph numbers do too. Where a code is above 65535, all codes stand in a subtable of format
-/// 12 as well. It costs a pass
-/// over the codes for each subtable.
+/// that follow each other and whose glyph numbers do too. Where a code is above 65535, all codes
+/// stand in a subtable of format 12 as well. It costs a pass over the codes for each subtable.
 ///
 /// # Errors
 ///

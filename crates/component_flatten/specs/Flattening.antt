@@ -1,9 +1,7 @@
 -- A glyph with its contours drawn (Glyphs file format, version 3; the limits are fontc's own).
--- Components and anchors aren't
--- built, so these definitions are meant only for a glyph that has none, as long as `flatten` asks
--- for that by `HasNoComponents`
--- and `HasNoAnchors`: its drawn contours at a place are the paths of its layer there, in their
--- order.
+-- Components and anchors aren't built, so these definitions are meant only for a glyph that has
+-- none, as long as `flatten` asks for that by `HasNoComponents` and `HasNoAnchors`: its drawn
+-- contours at a place are the paths of its layer there, in their order.
 use Rattle.std.specs.Prelude.{ℕ, Bool, not, ◌&&◌, nat_lt, nat_le, List, [], ◌∷◌, ◌++◌, map,
     flat_map, None, Result, unsigned_abs, if◌then◌else◌}
 use Rattle.std.specs.List.{list_any, list_all}

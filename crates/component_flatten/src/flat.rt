@@ -17,14 +17,11 @@ use std::sync::Arc;
 /// The glyph with its contours drawn.
 ///
 /// Components and anchors aren't built, so the glyph must have none: these are the conditions
-/// `components` and `anchors`.
-/// `bases` are the flat glyphs of its components, and aren't looked at. `index` has the glyph's
-/// number, and gives the name that
-/// a refusal tells.
+/// `components` and `anchors`. `bases` are the flat glyphs of its components, and aren't looked at.
+/// `index` has the glyph's number, and gives the name that a refusal tells.
 ///
 /// The error is that a place has more than 8,000 drawn points, else that a drawn coordinate is
-/// beyond 16383 in size; it stands
-/// at the glyph. Or it is want of memory.
+/// beyond 16383 in size; it stands at the glyph. Or it is want of memory.
 pub fn flatten(
     alloc: Global,
     glyph: &GlyphIr,

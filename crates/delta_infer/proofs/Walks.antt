@@ -1,7 +1,6 @@
 -- A walk along a contour that keeps, of the points so far, only what the later ones need: those
--- before the first named point, that
--- point, whether the runs between named points are exact, the last named point, and the run after
--- it.
+-- before the first named point, that point, whether the runs between named points are exact, the
+-- last named point, and the run after it.
 use Rattle.std.proofs.Common.{◌≡◌, Bool, true, false, ◌&&◌, List, [], ◌∷◌, ◌++◌, refl, sym, ap, ◌∙◌,
     Option, Some, None, append_assoc, append-nil, ℤ, pos, ◌*ℤ◌}
 use Rattle.std.specs.List.{list_all}

@@ -1,8 +1,7 @@
 -- The delta that a font's reader infers for a point that has none of its own (OpenType 1.9, "gvar",
--- "Inferred deltas for
--- un-referenced point numbers"). It comes from the nearest points with deltas before and after it,
--- going around the contour,
--- and on each axis by itself. In 16.16, where a fraction is rounded down: that is fontc's own.
+-- "Inferred deltas for un-referenced point numbers"). It comes from the nearest points with deltas
+-- before and after it, going around the contour, and on each axis by itself. In 16.16, where a
+-- fraction is rounded down: that is fontc's own.
 use Rattle.std.specs.Prelude.{ℤ, pos, ◌+ℤ◌, ◌-ℤ◌, ◌*ℤ◌, int_le, int_lt, Bool, true, false, ◌&&◌,
     if◌then◌else◌, List, [], ◌∷◌, ◌++◌, Option, Some, None}
 use Rattle.std.specs.Ordering.{int_eq}
@@ -62,8 +61,7 @@ last_named (marked ∷ others) = or_else (last_named others)
     (if marked.left_out then None else Some marked.point)
 
 -- the value on an axis, of a point at a coordinate, from the nearest named points before and after
--- it. Without a named point it is
--- none; where there is just one, that is before it and after it.
+-- it. Without a named point it is none; where there is just one, that is before it and after it.
 abbrev pub inferred_from : (MovedPoint → Move) → Option MovedPoint → Option MovedPoint → ℤ → ℤ
 inferred_from axis None after c = pos 0
 inferred_from axis (Some before) None c = pos 0

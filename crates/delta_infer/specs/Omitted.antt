@@ -1,6 +1,5 @@
 -- Which points of an outline are left out, since their deltas can be inferred exactly. Which ones,
--- of the many choices, is fontc's
--- own: the points of each contour are tried in order.
+-- of the many choices, is fontc's own: the points of each contour are tried in order.
 use Rattle.std.specs.Prelude.{ℕ, ℤ, Bool, true, false, List, [], ◌∷◌, ◌++◌, length, take, drop}
 use Rattle.delta_infer.specs.declared.moved.MovedPoint.{MovedPoint}
 use Rattle.delta_infer.specs.Moved.{moved_points}

@@ -34,8 +34,7 @@ point_before points start = if start == 0 then point_at points (length points - 
     points (start - 1)
 
 -- the points from `start` to `at` are between the point before them and the next one. At the
--- contour's end they go on to the first
--- named point, or no point is named.
+-- contour's end they go on to the first named point, or no point is named.
 abbrev pub run_fits : List MovedPoint → ℕ → ℕ → ℕ → Bool
 run_fits points first start at =
     if nat_lt at (length points - 1) then list_all

@@ -15,13 +15,11 @@ use std::alloc::Global;
 /// not be named.
 ///
 /// The coordinates and the deltas are in font units, and there is one delta per point, in order. In
-/// each contour the points are
-/// tried in order. A point is left out where, it and those that were left out before it being
-/// unnamed and all others of the
-/// contour named, the delta that a font's reader infers for every unnamed point of the contour is
-/// exactly its own (OpenType 1.9,
-/// "gvar", "Inferred deltas for un-referenced point numbers", in 16.16). Which points are left out
-/// is fontc's own.
+/// each contour the points are tried in order. A point is left out where, it and those that were
+/// left out before it being unnamed and all others of the contour named, the delta that a font's
+/// reader infers for every unnamed point of the contour is exactly its own (OpenType 1.9, "gvar",
+/// "Inferred deltas for un-referenced point numbers", in 16.16). Which points are left out is
+/// fontc's own.
 ///
 /// It takes time for at most the square of the number of points of each contour, and for their
 /// number alone where none moves.
@@ -91,8 +89,7 @@ pub struct Run {
 
 impl Run {
     /// Whether the points from the run's start to `at` can be left out together, all after them
-    /// being named. The last point of a
-    /// contour has after it those before the first named one.
+    /// being named. The last point of a contour has after it those before the first named one.
     fn fits(self, points: &[MovedPoint], at: usize) -> bool
         requires within { at < length points.now }
         requires begun { self.start ≤ at }

@@ -1,7 +1,6 @@
 -- Arithmetic on fixed-point numbers, on their raw numbers: a number in 16.16 stands for its raw
--- number over 65536, and one in
--- 2.14 for its raw number over 16384 (OpenType 1.9, "Data types"). The ways of rounding are fontc's
--- own.
+-- number over 65536, and one in 2.14 for its raw number over 16384 (OpenType 1.9, "Data types").
+-- The ways of rounding are fontc's own.
 use Rattle.std.specs.Prelude.{ℤ, pos, ◌+ℤ◌, ◌*ℤ◌}
 use Rattle.std.specs.Int.{int_div_euclid}
 

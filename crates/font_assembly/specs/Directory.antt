@@ -38,8 +38,7 @@ table_at file k = record { tag = tag_at file k; bytes
     = bytes_at file (offset_at file k) (length_at file k) }
 
 -- The k-th record leads to a table, at a multiple of four, and has its checksum. Of 'head' all but
--- the checksumAdjustment is the
--- same there.
+-- the checksumAdjustment is the same there.
 pub record LeadsTo (file : List ℕ) (k : ℕ) (table : Table) : Type 0 where
   pub tag : tag_at file k ≡ table.tag
   pub sum : checksum_at file k ≡ checksum (unadjusted table)

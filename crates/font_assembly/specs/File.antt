@@ -1,8 +1,6 @@
 -- A font file: its directory, and its tables one after another (OpenType 1.9, "Organization of an
--- OpenType Font" and
--- "head"). It is stated over the whole file: the file with 0 as its checksumAdjustment, whose
--- checksum gives the
--- checksumAdjustment that stands in its place.
+-- OpenType Font" and "head"). It is stated over the whole file: the file with 0 as its
+-- checksumAdjustment, whose checksum gives the checksumAdjustment that stands in its place.
 use Rattle.std.specs.Prelude.{◌≡◌, ℕ, zero, suc, ◌+◌, ◌-◌, ◌*◌, ◌%◌, ◌^◌, Bool, nat_eq, nat_le, not,
     ◌||◌, if◌then◌else◌, IsTrue, List, [], ◌∷◌, ◌++◌, length, take, drop, codes}
 use Rattle.std.specs.List.{flat_map, list_any, list_all}

@@ -227,18 +227,15 @@ fn adjust(font: &mut Vec<u8>, offset: usize)
 }
 
 /// The font file of tables (OpenType 1.9, "Organization of an OpenType Font"): the directory, and
-/// the tables in the
-/// order given, each padded with zeros to a multiple of four bytes. Whatever the checksumAdjustment
-/// of the 'head' that
-/// is handed in, the file has the one of OpenType 1.9, "head", over the whole file. What its
-/// directory says of each table, its
-/// checksum and its length are laws of `directory_leads_to_tables`.
+/// the tables in the order given, each padded with zeros to a multiple of four bytes. Whatever the
+/// checksumAdjustment of the 'head' that is handed in, the file has the one of OpenType 1.9,
+/// "head", over the whole file. What its directory says of each table, its checksum and its length
+/// are laws of `directory_leads_to_tables`.
 ///
 /// # Errors
 ///
 /// `TooLarge` with the file's length, or `u64::MAX` where it is longer, exactly where it has more
-/// than 4,294,967,295
-/// bytes. `NoMemory` comes only where it hasn't.
+/// than 4,294,967,295 bytes. `NoMemory` comes only where it hasn't.
 #[tactic(auto, unfolding(crate::specs::File::file))]
 pub fn assemble(alloc: Global, tables: &[(Tag, Arc<Vec<u8>>)]) -> Result<Vec<u8>, TableError>
     requires count { length tables.now ≤ 4095 }

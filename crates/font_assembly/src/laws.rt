@@ -4,9 +4,8 @@ ghost use Rattle.font_assembly.specs.File.{Table, file, file_len};
 ghost use Rattle.font_assembly.specs.Directory.{AreTables, LeadsTo};
 
 /// What a reader may rely on in the file of any tables: its length, its checksum, and that the
-/// directory's record of each table
-/// leads to that table, where four bytes can say the file's length. A law: the function does
-/// nothing.
+/// directory's record of each table leads to that table, where four bytes can say the file's
+/// length. A law: the function does nothing.
 pub fn directory_leads_to_tables()
     ensures len { (tables : List Table) → AreTables tables
         → length (file tables) ≡ file_len tables }

@@ -1,7 +1,6 @@
 -- The pairs of an axis in the table avar (OpenType 1.9, "avar"): from a normalised user coordinate
--- to the normalised design
--- coordinate. They are a set of which the table holds the rising list, where there is one. Which
--- pairs they are is fontc's own.
+-- to the normalised design coordinate. They are a set of which the table holds the rising list,
+-- where there is one. Which pairs they are is fontc's own.
 use Rattle.std.specs.Prelude.{◌≡◌, ℕ, List, [], ◌∷◌, ◌++◌, map, ℤ, pos, negsuc, ◌<ℤ◌, Contains,
     AllPairs, ◌↔◌}
 use Rattle.fixed_math.specs.declared.F2Dot14.{F2Dot14}

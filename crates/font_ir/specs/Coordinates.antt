@@ -1,6 +1,5 @@
 -- The coordinates of the masters on an axis, and where they lie on the normalised scale (OpenType
--- 1.9, "Coordinate scales and
--- normalization").
+-- 1.9, "Coordinate scales and normalization").
 use Rattle.std.specs.Prelude.{ℕ, ◌<◌, List, map, length, slice_index_or, ℤ, pos}
 use Rattle.fixed_math.specs.declared.F2Dot14.{F2Dot14}
 use Rattle.fixed_math.specs.declared.Fixed.{Fixed}

@@ -1,8 +1,6 @@
 -- What a header fulfils: the ranges of its numbers, lengths and counts, as many coordinates as
--- axes, masters that lie where
--- their coordinates say, no two of them at one place, and a map from user to design coordinates on
--- each axis. The ranges are
--- fontc's own.
+-- axes, masters that lie where their coordinates say, no two of them at one place, and a map from
+-- user to design coordinates on each axis. The ranges are fontc's own.
 use Rattle.std.specs.Prelude.{◌≡◌, ◌≢◌, ℕ, ◌<◌, ◌≤◌, ℤ, pos, neg_ℤ, ◌≤ℤ◌, List, length, map,
     slice_index_or}
 use Rattle.std.specs.List.{All, AllPairs}

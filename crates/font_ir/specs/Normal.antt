@@ -1,7 +1,6 @@
 -- Normalised coordinates (OpenType 1.9, "Coordinate scales and normalization"): an axis's least,
--- default and greatest number
--- are -1, 0 and 1. That a number between them is rounded to the nearest in 2.14, a tie going up, is
--- fontc's own.
+-- default and greatest number are -1, 0 and 1. That a number between them is rounded to the nearest
+-- in 2.14, a tie going up, is fontc's own.
 use Rattle.std.specs.Prelude.{ℤ, pos, ◌+ℤ◌, ◌-ℤ◌, ◌*ℤ◌, int_lt, if◌then◌else◌}
 use Rattle.fixed_math.specs.FixedPoint.{floor_quotient}
 

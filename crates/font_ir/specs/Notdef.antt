@@ -1,7 +1,6 @@
 -- The glyph `.notdef` that the compiler makes where a source has none: without contours, half an em
--- wide at every master.
--- fontc's own; OpenType 1.9, "Recommendations for OpenType Fonts", asks for a glyph of that name at
--- glyph 0.
+-- wide at every master. fontc's own; OpenType 1.9, "Recommendations for OpenType Fonts", asks for a
+-- glyph of that name at glyph 0.
 use Rattle.std.specs.Prelude.{◌/◌, pos, [], map}
 use Rattle.font_ir.specs.declared.header.Header.{Header}
 use Rattle.font_ir.specs.declared.glyph.FlatGlyph.{FlatGlyph}

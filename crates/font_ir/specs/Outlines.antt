@@ -1,6 +1,6 @@
 -- A glyph's outline as a font stores it (OpenType 1.9, "glyf", "Glyph Headers" and "Simple Glyph
--- Description"): its points in whole
--- font units, and their bounds. How a coordinate is rounded is fontc's own.
+-- Description"): its points in whole font units, and their bounds. How a coordinate is rounded is
+-- fontc's own.
 use Rattle.std.specs.Prelude.{ℕ, ℤ, pos, List, [], ◌∷◌, map, slice_index_or, Option, None, Some}
 use Rattle.std.specs.List.{flat_map, fold}
 use Rattle.std.specs.Int.{int_min, int_max}

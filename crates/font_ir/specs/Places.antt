@@ -1,6 +1,5 @@
 -- Places of a design space: lists of normalised coordinates, one per axis (OpenType 1.9,
--- "Coordinate scales and
--- normalization").
+-- "Coordinate scales and normalization").
 use Rattle.std.specs.Prelude.{◌≡◌, ◌≢◌, ℕ, ◌<◌, ◌≤◌, ◌^◌, List, [], length, replicate,
     slice_index_or, pos, Contains, EachIndex}
 use Rattle.fixed_math.specs.declared.F2Dot14.{F2Dot14}

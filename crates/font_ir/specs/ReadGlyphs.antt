@@ -35,8 +35,7 @@ abbrev pub IsScale : Fixed → Type 0
 IsScale f = (neg_ℤ (pos 1048576) ≤ℤ f.0) × (f.0 ≤ℤ pos 1048576)
 
 -- a shape's numbers are in their ranges: the coordinates of a path's points, or where a component
--- is moved to, its scale and
--- its quarter turns
+-- is moved to, its scale and its quarter turns
 abbrev pub IsInRange : Shape → Type 0
 IsInRange (Path contour) = All IsSmallPoint contour.points
 IsInRange (Component base at scale quarters) =

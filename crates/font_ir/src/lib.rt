@@ -1,6 +1,5 @@
 //! Plain values between the parts of the compiler: what a source says and what is drawn, in which
-//! order the glyphs stand, an
-//! outline as a font stores it with its bounds.
+//! order the glyphs stand, an outline as a font stores it with its bounds.
 #![tactic(auto)]
 
 mod glyph;

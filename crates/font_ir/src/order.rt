@@ -80,8 +80,7 @@ impl GlyphOrder {
     }
 
     /// Adds a glyph at the end, unless its name is there: then the answer is false and nothing
-    /// changes. Nor does it where
-    /// memory runs out.
+    /// changes. Nor does it where memory runs out.
     pub fn push(
         &mut self,
         alloc: Global,

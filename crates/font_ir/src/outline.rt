@@ -70,8 +70,7 @@ fn widened_by_points(bounds: Option<[i16; 4]>, points: &[DrawnPoint]) -> Option<
 }
 
 /// The bounds of an outline as it is stored, where it has a point: xMin, yMin, xMax and yMax in
-/// font units (OpenType 1.9, "glyf",
-/// "Glyph Headers").
+/// font units (OpenType 1.9, "glyf", "Glyph Headers").
 pub fn bounds_of(contours: &[Contour]) -> Option<[i16; 4]>
     requires { All (λ contour. All IsSmallPoint contour.points) contours.now }
     ensures sides { result ≡ bounds_of (stored_points contours.now) }

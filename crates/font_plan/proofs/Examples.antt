@@ -1,6 +1,5 @@
 -- Worked examples, computed: the font of a source of one triangle, sources that have the same font,
--- and sources that are
--- refused.
+-- and sources that are refused.
 use Rattle.std.proofs.Common.{◌≡◌, ℕ, List, [], ◌∷◌, ◌++◌, map, take, replicate, Ok, Err, refl}
 use Rattle.std.specs.Prelude.{codes, true, Result, is_ok}
 use Rattle.std.specs.List.{flat_map}
@@ -32,8 +31,7 @@ abbrev source : List (List ℕ) → List (List ℕ) → List ℕ
 source glyphs more = source_of (codes "3") (master (codes "m1") []) glyphs more
 
 -- a glyph: its name, its contour's `closed` and second and third node, the lines behind its
--- contours, and the line behind its
--- layers
+-- contours, and the line behind its layers
 abbrev glyph : List ℕ → List ℕ → List ℕ → List ℕ → List (List ℕ) → List ℕ → List (List ℕ)
 glyph name closed second third more rest =
     codes "{" ∷ (codes "glyphname = " ++ name ++ codes ";") ∷ codes "layers = (" ∷ codes "{"
@@ -100,11 +98,9 @@ triangle_font =
     0 ∷ 0 ∷ 0 ∷ 0 ∷ []
 
 -- the source, the same without its last line feed, and with a coordinate that has a fraction of
--- zero. With keys that mean
--- nothing here, a fourth value in a node and a layer of no master. With a `.notdef` behind the
--- letter that is as the made one,
--- and is exported whatever it says of that. And with a glyph that isn't exported, whose contour may
--- be any.
+-- zero. With keys that mean nothing here, a fourth value in a node and a layer of no master. With a
+-- `.notdef` behind the letter that is as the made one, and is exported whatever it says of that.
+-- And with a glyph that isn't exported, whose contour may be any.
 pub accepted : map font_of (
     triangle_source
     ∷ take 258 triangle_source
@@ -148,9 +144,8 @@ unfolding font_on_literals
 fronts_refused = refl
 
 -- text behind a dictionary, a key that stands twice, an escape that is none, a list without an end,
--- a key without a value, a
--- byte that isn't UTF-8 and 65 lists in one another. Of a dictionary without keys, the header lacks
--- one.
+-- a key without a value, a byte that isn't UTF-8 and 65 lists in one another. Of a dictionary
+-- without keys, the header lacks one.
 pub texts_refused : map font_of (
     codes "{a = 1;} x"
     ∷ codes "{a=1;a=2;}"

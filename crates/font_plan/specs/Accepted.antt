@@ -1,6 +1,5 @@
 -- What it means that a source has a font: the grammar of property lists gives it a tree, each of
--- its parts is read, the limits are
--- kept, and the font is the file of their tables. fontc's own.
+-- its parts is read, the limits are kept, and the font is the file of their tables. fontc's own.
 use Rattle.std.specs.Prelude.{◌≡◌, ◌≤◌, ℕ, List, length, None, Ok}
 use Rattle.refusal_codes.specs.declared.limits.TheConstants.{SOURCE_BYTES, GLYPHS, TABLE_BYTES}
 use Rattle.plist_reader.specs.declared.tree.Tree.{Tree}

@@ -2,8 +2,7 @@
 -- 1.9.
 --
 -- The parts are defined in the crates that read and write them. Here they are joined: each part is
--- made of those before it, and
--- the first that refuses the source refuses it all.
+-- made of those before it, and the first that refuses the source refuses it all.
 use Rattle.std.specs.Prelude.{ℕ, ◌+◌, Bool, false, not, ◌&&◌, List, [], ◌∷◌, ◌++◌, length, map,
     nat_lt, nat_eq, codes, Option, Some, None, Result, Ok, Err, if◌then◌else◌}
 use Rattle.std.specs.Option.{option_map}

@@ -31,11 +31,9 @@ pub struct Built {
 /// Compiles a source of at most 67,108,864 bytes.
 ///
 /// It answers the font of an accepted source, and a refusal for every other one. Of several rules
-/// that a source fails it
-/// names the one that its parts meet first: the property list, the header, the index, then glyph by
-/// glyph, and last the font.
-/// `NoMemory` comes only where an allocation fails; it may come for any source, and says nothing of
-/// it.
+/// that a source fails it names the one that its parts meet first: the property list, the header,
+/// the index, then glyph by glyph, and last the font. `NoMemory` comes only where an allocation
+/// fails; it may come for any source, and says nothing of it.
 #[tactic(auto, unfolding(crate::specs::Font::font_of))]
 pub fn compile_one(alloc: Global, source: &[u8]) -> Result<Built, CompileError>
     requires { length source.now ≤ SOURCE_BYTES }

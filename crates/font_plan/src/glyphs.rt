@@ -76,7 +76,8 @@ fn push_others(
     requires few { length index.now < 2 ^ 32 }
     requires drawn { All (IsDrawn header.now) (glyphs_of glyphs.old.items) }
     ensures glyphs { Gives (λ _. glyphs_of glyphs.new.items) result
-        (followed_by (glyphs_of glyphs.old.items) (all_drawn tree.now header.now (others_from 0 index.now))) }
+        (followed_by (glyphs_of glyphs.old.items)
+            (all_drawn tree.now header.now (others_from 0 index.now))) }
     ensures drawn { OnOk result (All (IsDrawn header.now) (glyphs_of glyphs.new.items)) }
 {
     for number in 0..index.len() as u32 {
@@ -104,7 +105,8 @@ fn push_drawn(
     requires drawn { All (IsDrawn header.now) (glyphs_of glyphs.old.items) }
     ensures glyphs { IfSome (slice_get index.now number)
         (λ entry. Gives (λ _. glyphs_of glyphs.new.items) result
-        (followed_by (glyphs_of glyphs.old.items) (all_drawn tree.now header.now ((number, entry) ∷ [])))) }
+        (followed_by (glyphs_of glyphs.old.items)
+            (all_drawn tree.now header.now ((number, entry) ∷ [])))) }
     ensures drawn { OnOk result (All (IsDrawn header.now) (glyphs_of glyphs.new.items)) }
 {
     let glyph = drawn(alloc, tree, header, index, number)?;

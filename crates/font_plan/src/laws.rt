@@ -5,9 +5,8 @@ ghost use Rattle.font_plan.specs.Accepted.{IsFontOf};
 ghost use Rattle.font_plan.specs.Font.{font_of};
 
 /// A source is accepted exactly where the grammar gives it a tree, each of its parts is read, and
-/// its glyphs, its tables and its font
-/// keep their limits; its font is then the file of the tables of its glyphs. A law: the function
-/// does nothing.
+/// its glyphs, its tables and its font keep their limits; its font is then the file of the tables
+/// of its glyphs. A law: the function does nothing.
 pub fn a_source_is_accepted_with_its_parts()
     ensures parts { (source font : List ℕ) → font_of source ≡ Ok font → IsFontOf source font }
     ensures accepted { (source font : List ℕ) → IsFontOf source font → font_of source ≡ Ok font }

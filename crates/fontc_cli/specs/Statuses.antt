@@ -1,6 +1,5 @@
 -- The exit status of each way in which a run can end. fontc's own: 3 and 6 are kept for faults of a
--- font that is inspected
--- and of the console.
+-- font that is inspected and of the console.
 use Rattle.std.specs.Prelude.{◌≡◌, ℕ}
 use Rattle.std.specs.Process.{exit_status}
 use Rattle.std.specs.declared.process.ExitCode.{ExitCode}

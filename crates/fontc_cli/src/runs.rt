@@ -20,10 +20,9 @@ use whole_files::{ReadWholeError, read_whole, write_whole};
 /// Runs the command that the words are, over these files and this console.
 ///
 /// The words are those behind the program's name: `build IN OUT`. The report says how the run
-/// ended: the font of what IN held
-/// stands in OUT; or the words are no command, the source is refused, a read of IN or a write of
-/// OUT failed, or memory ran out.
-/// Only a font that is whole in memory is begun to be written. Nothing is printed yet.
+/// ended: the font of what IN held stands in OUT; or the words are no command, the source is
+/// refused, a read of IN or a write of OUT failed, or memory ran out. Only a font that is whole in
+/// memory is begun to be written. Nothing is printed yet.
 pub fn run<F: Files, C: Console, G: Gate + Sync>(
     alloc: Global,
     words: &[String],
@@ -41,8 +40,7 @@ pub fn run<F: Files, C: Console, G: Gate + Sync>(
 }
 
 /// Runs the command that the words are, as `run` does, and answers what the program ends with: the
-/// exit status of a status by
-/// which such a run can end.
+/// exit status of a status by which such a run can end.
 pub fn run_program<F: Files, C: Console, G: Gate + Sync>(
     alloc: Global,
     words: &[String],

@@ -1,8 +1,7 @@
 -- The bytes of a simple glyph (OpenType 1.9, "glyf", "Glyph Headers" and "Simple Glyph
--- Description"). Which of the many spellings
--- of an outline is written, and the padding, are fontc's own: each coordinate takes as few bytes as
--- it can, and each run of equal
--- flags is written as a repeat.
+-- Description"). Which of the many spellings of an outline is written, and the padding, are fontc's
+-- own: each coordinate takes as few bytes as it can, and each run of equal flags is written as a
+-- repeat.
 use Rattle.std.specs.Prelude.{ℕ, ◌+◌, ◌-◌, ◌/◌, ◌%◌, ℤ, pos, Bool, List, [], ◌∷◌, ◌++◌, map, length,
     replicate, nat_lt, ◌==◌, if◌then◌else◌, unsigned_abs, int_lt, bit_or}
 use Rattle.std.specs.List.{flat_map}
@@ -16,8 +15,7 @@ use Rattle.glyf_writer.specs.Outlines.{steps_of, end_points}
 -- ---- flags
 
 -- Of a flag, the bits of one coordinate: `short` says that the difference takes one byte, and
--- `same` that it is 0 and takes none
--- or, beside `short`, that it is above 0.
+-- `same` that it is 0 and takes none or, beside `short`, that it is above 0.
 abbrev pub coordinate_flag : ℕ → ℕ → ℤ → ℕ
 coordinate_flag short same z =
     if unsigned_abs z == 0 then same else (if nat_lt 255 (unsigned_abs z) then 0 else

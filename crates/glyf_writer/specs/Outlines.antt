@@ -1,6 +1,6 @@
 -- How the table "glyf" writes a glyph's outline (OpenType 1.9, "glyf", "Simple Glyph Description"):
--- each point by its distance from
--- the one before it, and each contour by the number of its last point.
+-- each point by its distance from the one before it, and each contour by the number of its last
+-- point.
 use Rattle.std.specs.Prelude.{ℕ, ◌+◌, ◌-◌, pos, ℤ, ◌-ℤ◌, List, [], ◌∷◌, map}
 use Rattle.std.specs.List.{All}
 use Rattle.font_ir.specs.FlatGlyphs.{IsSmall}

@@ -1,6 +1,5 @@
 -- The tables "glyf" and "loca" (OpenType 1.9) of the data of each glyph, in the order of the glyph
--- numbers. "loca" is in its long
--- format.
+-- numbers. "loca" is in its long format.
 use Rattle.std.specs.Prelude.{ℕ, ◌+◌, List, [], ◌∷◌, map, length, Option, nat_lt, if◌then◌else◌}
 use Rattle.std.specs.List.{concat, flat_map}
 use Rattle.table_bytes.specs.DataTypes.{uint32}

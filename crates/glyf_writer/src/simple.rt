@@ -17,8 +17,7 @@ use table_bytes::push_uint16;
 /// padded to four bytes.
 ///
 /// The outline is that at the place `origin`, of the glyph's list of places. `variable` says
-/// whether the font has axes. A glyph
-/// without points has no bytes.
+/// whether the font has axes. A glyph without points has no bytes.
 ///
 /// # Errors
 ///

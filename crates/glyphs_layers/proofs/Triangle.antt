@@ -1,6 +1,5 @@
 -- A source with one triangle, and variants of it, as property lists that were read: the values in
--- the order in which they
--- end, each with its place.
+-- the order in which they end, each with its place.
 use Rattle.std.specs.Prelude.{ℕ, ◌+◌, List, [], ◌∷◌, ◌++◌, length, codes, pos, neg_ℤ}
 use Rattle.plist_reader.specs.declared.tree.Tree.{Tree}
 use Rattle.plist_reader.specs.declared.tree.TreeNode.{TreeNode}
@@ -47,10 +46,8 @@ value_from place end value = record { place = place; end = end; value = value }
 --     }
 --
 -- with another `closed`, another text for the coordinate 500, which is longer by d, another type of
--- the last node, and in
--- place of the layer's width other keys: their nodes, their numbers in the layer's dictionary, and
--- where the layer's `}` and
--- what follows stand, by the number of bytes.
+-- the last node, and in place of the layer's width other keys: their nodes, their numbers in the
+-- layer's dictionary, and where the layer's `}` and what follows stand, by the number of bytes.
 abbrev pub triangle_with : List ℕ → List ℕ → ℕ → List ℕ → List TreeNode → List (ℕ × ℕ) → ℕ → Tree
 triangle_with closed x d kind values keys e =
     let n = 34 + length values in

@@ -1,6 +1,5 @@
 -- Worked examples: what the job of a glyph's layers answers for the triangle, whose dictionary is
--- the value 40, and for
--- variants of it.
+-- the value 40, and for variants of it.
 use Rattle.std.proofs.Common.{◌≡◌, ℕ, List, [], ◌∷◌, map, refl}
 use Rattle.std.specs.Prelude.{Result, Ok, Err, ℤ, pos, true, codes}
 use Rattle.font_ir.specs.declared.glyph.DrawnPoint.{DrawnPoint}
@@ -46,11 +45,10 @@ refusal rule place = refusal_of RAW (codes "A") (record { rule = rule; place = p
 abbrev variant : List ℕ → List ℕ → ℕ → List ℕ → Tree
 variant = triangle
 
--- each source, and what is answered of its glyph:
--- the triangle, and the same where the coordinate has a fraction of zero or is the greatest that is
--- read;
--- a cubic node is refused at the node, an open contour at the path;
--- a coordinate with a fraction and one beyond the greatest are refused at the coordinate
+-- each source, and what is answered of its glyph: the triangle, and the same where the coordinate
+-- has a fraction of zero or is the greatest that is read; a cubic node is refused at the node, an
+-- open contour at the path; a coordinate with a fraction and one beyond the greatest are refused at
+-- the coordinate
 abbrev rows : List (Tree × Result GlyphIr Refusal)
 rows =
     (variant (codes "1") (codes "500") 0 (codes "l"), Ok (triangle_glyph (pos 32768000)))
@@ -68,8 +66,7 @@ unfolding layers_on_literals
 rows-computed = refl
 
 -- with a second master, of which the glyph has no layer: it is refused at the glyph, where the
--- layers that are there fail
--- nothing
+-- layers that are there fail nothing
 abbrev rows_of_two : List (Tree × Result GlyphIr Refusal)
 rows_of_two =
     (variant (codes "1") (codes "500") 0 (codes "l"), Err (refusal MissingLayer 82))

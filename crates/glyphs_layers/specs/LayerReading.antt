@@ -1,6 +1,5 @@
 -- What a glyph's layers say (Glyphs file format, version 3; that the last node stored is where a
--- contour starts is fontc's
--- own reading).
+-- contour starts is fontc's own reading).
 use Rattle.std.specs.Prelude.{ℕ, ◌*◌, ◌&&◌, true, List, [], ◌∷◌, length, map, flat_map, slice_index,
     codes, Option, Some, None, Result, ℤ, pos, neg_ℤ, if◌then◌else◌}
 use Rattle.std.specs.Option.{option_map_or}
@@ -52,8 +51,7 @@ unfoldable pub point_of : Tree → ℕ → DrawnPoint
 point_of t n = node_point t (items_at t n)
 
 -- the last item first, and then the others in their order: each item but the last one stands behind
--- the last of
--- those that follow it
+-- the last of those that follow it
 abbrev pub behind_first : {X : Type 0} → X → List X → List X
 behind_first x [] = x ∷ []
 behind_first x (y ∷ ys) = y ∷ x ∷ ys
@@ -103,8 +101,7 @@ glyph_record t masters number glyph = record {
 }
 
 -- what the job of a glyph's layers answers, for the glyph with this name, number and dictionary;
--- the job has the
--- glyph's name
+-- the job has the glyph's name
 unfoldable pub glyph_of : Tree → List Master → List ℕ → ℕ → ℕ → Result GlyphIr Refusal
 glyph_of t masters name number glyph =
     let local = first_of (glyph_failures t masters glyph) in

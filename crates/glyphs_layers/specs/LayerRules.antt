@@ -1,10 +1,8 @@
 -- The rules that a glyph's layers may fail (Glyphs file format, version 3; the rules are fontc's
--- own). A glyph has a list
--- of layers, and each master's layer is the first one that names the master. Each layer must be a
--- dictionary, and its
--- `layerId` a text where it has one; all else that a layer of no master holds is ignored. A form
--- that isn't built is of a
--- wrong shape, and a value of a wrong shape isn't looked into further.
+-- own). A glyph has a list of layers, and each master's layer is the first one that names the
+-- master. Each layer must be a dictionary, and its `layerId` a text where it has one; all else that
+-- a layer of no master holds is ignored. A form that isn't built is of a wrong shape, and a value
+-- of a wrong shape isn't looked into further.
 use Rattle.std.specs.Prelude.{ℕ, Bool, ◌||◌, ◌==◌, is_some, List, [], ◌++◌, length, slice_index,
     flat_map, codes, Option, Some, None, if◌then◌else◌}
 use Rattle.std.specs.Option.{option_map_or}
@@ -25,8 +23,7 @@ use Rattle.source_values.specs.Asking.{fails, whole_failures, text_failures, emp
 -- ---- nodes: a list of x, y and a type, and maybe a fourth value, which is ignored
 
 -- whether a node's type is one of those of a straight line, of a cubic curve, and of a quadratic
--- curve. A final `s` says
--- that the node is smooth
+-- curve. A final `s` says that the node is smooth
 abbrev pub is_line : Tree → ℕ → Bool
 is_line t n = is_key t (codes "l") n || is_key t (codes "ls") n
 
@@ -41,8 +38,7 @@ is_quadratic t n =
     || is_key t (codes "os") n
 
 -- a node's type: only straight lines are built. A type of a quadratic curve fails at the node, one
--- that is no type at the
--- type's value
+-- that is no type at the type's value
 unfoldable pub type_failures : Tree → ℕ → ℕ → List Failure
 type_failures t node kind =
     if is_line t kind

@@ -1,6 +1,5 @@
 -- What a proof by computation unfolds to compute the layers of a glyph of a source that is written
--- out. Only such proofs
--- need this module.
+-- out. Only such proofs need this module.
 use Rattle.std.specs.Prelude.{⊤}
 use Rattle.source_values.specs.OnLiterals.{values_on_literals}
 use Rattle.glyphs_layers.specs.LayerRules.{type_failures, node_parts_failures, node_failures,

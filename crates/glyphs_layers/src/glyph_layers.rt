@@ -20,12 +20,12 @@ use std::alloc::{AllocError, Global};
 /// The layers of the glyph with this number in the index: one per master.
 ///
 /// The header and the index are those of the tree: the header is what `header` answers for it, and
-/// the glyph's dictionary is
-/// the one that its entry in the index names, so an index of another tree names another value.
+/// the glyph's dictionary is the one that its entry in the index names, so an index of another tree
+/// names another value.
 ///
 /// The error is the least failure by place, then by rule, of the rules of single values; where none
-/// of them fails, it is
-/// that a master has no layer, and stands at the glyph. Or it is want of memory.
+/// of them fails, it is that a master has no layer, and stands at the glyph. Or it is want of
+/// memory.
 pub fn raw_glyph(
     alloc: Global,
     tree: &Tree,
@@ -36,7 +36,8 @@ pub fn raw_glyph(
     requires header { header_of tree.now ≡ Ok header.now }
     requires number { number < length index.now }
     ensures record { IfSome (slice_get index.now number)
-        (λ entry. Gives (λ glyph. glyph) result (glyph_of tree.now header.now.masters entry.0 number entry.1.node)) }
+        (λ entry. Gives (λ glyph. glyph) result
+            (glyph_of tree.now header.now.masters entry.0 number entry.1.node)) }
     ensures number { IfOk result (λ glyph. glyph.number ≡ number) }
     ensures places { IfOk result (λ glyph. glyph.places
         ≡ map (λ master. master.location) header.now.masters) }

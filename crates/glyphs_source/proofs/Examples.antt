@@ -71,9 +71,8 @@ master_and_glyph n p =
     pairs (p + 42) (p + 194) ((n + 6, n + 7) ∷ (n + 8, n + 33) ∷ (n + 34, n + 35) ∷ []) ∷ []
 
 -- a source: the values that stand first in its top dictionary, up to the place p, and their keys;
--- the master and the glyph;
--- the values of further glyphs, those of them that are glyphs, counted from 0, and how many bytes
--- they take; the units per em
+-- the master and the glyph; the values of further glyphs, those of them that are glyphs, counted
+-- from 0, and how many bytes they take; the units per em
 abbrev pub source : ℕ → List TreeNode → List (ℕ × ℕ) → List TreeNode → List ℕ → ℕ → List ℕ → Tree
 source p front keys further glyphs bytes units = let n = length front
     in let m = length front + 37 + length further in let q = p + bytes in record {
@@ -171,8 +170,8 @@ triangle_header = record {
 }
 
 -- each source with its header or its refusal: an em of 15 units is out of range, at the number; a
--- family needs a name, so the
--- dictionary fails; an axis isn't built, so the list is of a wrong shape
+-- family needs a name, so the dictionary fails; an axis isn't built, so the list is of a wrong
+-- shape
 abbrev header_rows : List (Tree × Result Header Refusal)
 header_rows =
     (triangle, Ok triangle_header)

@@ -1,7 +1,6 @@
 -- What a source says of the whole font, and the rules that it may fail there (Glyphs file format,
--- version 3; the rules
--- and the defaults are fontc's own). One master is read, without axes: a form that isn't built is
--- of a wrong shape.
+-- version 3; the rules and the defaults are fontc's own). One master is read, without axes: a form
+-- that isn't built is of a wrong shape.
 use Rattle.std.specs.Prelude.{◌≡◌, ℕ, ◌*◌, ◌/◌, ◌≤◌, Bool, not, ◌&&◌, ◌||◌, ◌==◌, nat_lt, List, [],
     ◌∷◌, ◌++◌, length, slice_get, map, Option, Some, None, Result, ℤ, pos, neg_ℤ, ◌-ℤ◌, ◌≤ℤ◌, codes,
     option_and_then, if◌then◌else◌}

@@ -1,6 +1,5 @@
 -- The glyphs that a source names, in the order of the file, and the rules that they may fail
--- (Glyphs file format,
--- version 3; the rules are fontc's own). Their layers are not read here.
+-- (Glyphs file format, version 3; the rules are fontc's own). Their layers are not read here.
 use Rattle.std.specs.Prelude.{ℕ, ◌+◌, Bool, false, not, ◌&&◌, ◌||◌, ◌==◌, nat_eq, List, [], ◌∷◌,
     ◌++◌, map, Option, Some, None, Result, codes, if◌then◌else◌}
 use Rattle.std.specs.Option.{option_map_or}

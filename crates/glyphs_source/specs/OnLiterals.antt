@@ -1,6 +1,5 @@
 -- What a proof by computation unfolds to compute the header and the index of a source that is
--- written out. Only such
--- proofs need this module.
+-- written out. Only such proofs need this module.
 use Rattle.std.specs.Prelude.{⊤}
 use Rattle.source_values.specs.OnLiterals.{values_on_literals}
 use Rattle.glyphs_source.specs.HeaderReading.{version_failures, axis_value_failures,

@@ -1,6 +1,5 @@
 -- What an index and its refusals say of names and codes that stand again. A law above the rules of
--- `IndexReading`, in the
--- words of lists: items are distinct where no one stands twice. fontc's own.
+-- `IndexReading`, in the words of lists: items are distinct where no one stands twice. fontc's own.
 use Rattle.std.specs.Prelude.{◌≡◌, ℕ, true, List, ◌∷◌, ◌++◌, map, flat_map, nat_eq}
 use Rattle.std.specs.List.{IsDistinct}
 use Rattle.std.specs.Map.{keys_of}
@@ -32,8 +31,7 @@ pub record IsFirstRepeatedName (t : Tree) (glyphs : List ℕ) (place : ℕ) : Ty
   pub there : place ≡ place_at t glyph
 
 -- at this place stands the first of these glyphs with a code that stands again: the codes that
--- count before it are distinct,
--- and with its own they aren't
+-- count before it are distinct, and with its own they aren't
 pub record IsFirstRepeatedCode (t : Tree) (entries : List IndexEntry) (place : ℕ) : Type 0 where
   pub before : List IndexEntry
   pub entry : IndexEntry

@@ -1,6 +1,5 @@
 -- When two indexes are the same: they have the same glyphs in the same order, with equal names and
--- entries. Fontc's own.
--- The test says exactly whether they are the same to a contract.
+-- entries. Fontc's own. The test says exactly whether they are the same to a contract.
 use Rattle.std.proofs.Common.{◌≡◌, ℕ, Bool, ◌&&◌, ◌==◌, List, Option, Some, None, nat_eq, unwrap_or,
     is_some, ap, sym, true≢false, refl}
 use Rattle.std.proofs.Math.Bool.{beq}

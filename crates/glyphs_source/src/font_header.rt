@@ -17,10 +17,9 @@ use std::alloc::{AllocError, Global};
 /// What a source says of the whole font.
 ///
 /// One master is read, without axes. The error is the least failure by place, then by rule, of the
-/// rules of single values;
-/// where none of them fails, it is that there is no master, at the place of their list, or that the
-/// master has coordinates,
-/// at the place of the master. Where memory runs out, the error is that.
+/// rules of single values; where none of them fails, it is that there is no master, at the place of
+/// their list, or that the master has coordinates, at the place of the master. Where memory runs
+/// out, the error is that.
 pub fn header(alloc: Global, tree: &Tree) -> Result<Header, ReadError>
     requires { IsTree tree.now }
     ensures record { Gives (λ header. header) result (header_of tree.now) }
@@ -30,8 +29,7 @@ pub fn header(alloc: Global, tree: &Tree) -> Result<Header, ReadError>
 }
 
 /// What `header` reads of a tree has one master and no axes, and its numbers are in their ranges. A
-/// law: the function does
-/// nothing.
+/// law: the function does nothing.
 pub fn headers_have_one_master()
     ensures { (tree : SeenTree) (header : SeenHeader) → header_of tree ≡ Ok header
         → IsReadHeader header }

@@ -1,8 +1,6 @@
 -- Plans that a finite table gives, as the tests use them: the row of a job has its stratum, what it
--- waits for, the ids of
--- the jobs that it adds, and whether it is refused. Else what comes of a job is the sum of its id
--- and of the values that
--- it reads. fontc's own.
+-- waits for, the ids of the jobs that it adds, and whether it is refused. Else what comes of a job
+-- is the sum of its id and of the values that it reads. fontc's own.
 use Rattle.std.specs.Prelude.{ℕ, ◌+◌, ◌%◌, ◌^◌, nat_eq, nat_le, nat_lt, fold, unwrap_or, Bool, true,
     false, ◌&&◌, List, [], ◌++◌, map, Option, Some, None, slice_get, if◌then◌else◌}
 use Rattle.std.specs.List.{list_all, flat_map}

@@ -16,18 +16,14 @@ use std::alloc::Global;
 use std::marker::Model;
 
 /// A board of jobs: what each worker did so far, and what came of it. A contract sees its plan, its
-/// workers and its
-/// events; all else follows from these.
+/// workers and its events; all else follows from these.
 ///
 /// This body keeps plain lists and finds a ready job by scanning them. To test a job it looks up
-/// the job and each of its
-/// reads in the list of values and, where the job awaits a stratum, every job. So a claim and
-/// `result` take up to as many
-/// comparisons as the square of the jobs and reads together, and as many again for each job that
-/// awaits a stratum. A run
-/// takes two calls for each job. `get` and `is_stuck` take one pass. No contract speaks of the
-/// lists, nor of which ready
-/// job comes first, so a body that keeps counts can stand in this one's place.
+/// the job and each of its reads in the list of values and, where the job awaits a stratum, every
+/// job. So a claim and `result` take up to as many comparisons as the square of the jobs and reads
+/// together, and as many again for each job that awaits a stratum. A run takes two calls for each
+/// job. `get` and `is_stuck` take one pass. No contract speaks of the lists, nor of which ready job
+/// comes first, so a body that keeps counts can stand in this one's place.
 #[derive(Drop)]
 pub struct Board<P: Plan> {
     plan: P,

@@ -125,8 +125,7 @@ fn measures_at(alloc: Global, glyphs: &[Arc<FlatGlyph>], place: u32) -> Result<M
 /// master.
 ///
 /// The glyphs stand in the order of their glyph numbers, one for each name of the order. A font of
-/// one master has no regions,
-/// so no error but want of memory comes.
+/// one master has no regions, so no error but want of memory comes.
 pub fn measure(
     alloc: Global,
     header: &Header,

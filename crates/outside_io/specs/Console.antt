@@ -10,8 +10,7 @@ abbrev pub with_more : List ℕ → Option (List ℕ) → Option (List ℕ)
 with_more bytes took = option_map (λ before. before ++ bytes) took
 
 -- After a call the console took what is expected, or no longer tells what it took. Where it didn't
--- tell before the call,
--- what is expected isn't told either.
+-- tell before the call, what is expected isn't told either.
 abbrev pub TookNow : Option (List ℕ) → Option (List ℕ) → Type 0
 TookNow expected new = (new ≡ None) ⊎ (new ≡ expected)
 

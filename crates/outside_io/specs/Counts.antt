@@ -1,6 +1,5 @@
 -- Counts of failed calls. fontc's own. A count stands still at its last value, the greatest of 64
--- bits: there it can't
--- show any more that a call failed, so it counts as risen.
+-- bits: there it can't show any more that a call failed, so it counts as risen.
 use Rattle.std.specs.Prelude.{◌≡◌, ◌⊎◌, ℕ, ◌+◌, ◌<◌, ◌≤◌, min, List}
 
 -- the last value of a count

@@ -27,8 +27,7 @@ followed_by bytes Absent = Bytes bytes
 followed_by bytes (Bytes before) = Bytes (before ++ bytes)
 
 -- After a call the path holds what is expected, or is no longer told. Where it wasn't told before
--- the call, what is
--- expected is untold too: no call tells what wasn't told before it.
+-- the call, what is expected is untold too: no call tells what wasn't told before it.
 abbrev pub Leaves : Holding → Holding → Type 0
 Leaves expected new = (new ≡ Untold) ⊎ (new ≡ expected)
 

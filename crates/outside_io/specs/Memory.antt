@@ -94,14 +94,12 @@ read_count m path place space =
     if is_listed m then None else readable (bytes_at m.paths path) place (min space m.step)
 
 -- Whether a begin succeeds. It fails exactly where the call is listed, or the path isn't there and
--- either no more path is
--- allowed or its name is too long.
+-- either no more path is allowed or its name is too long.
 abbrev pub begins : Memory → List ℕ → Bool
 begins m path = not (is_listed m) && has_place m path
 
 -- How many of some bytes an append takes. It fails exactly where the call is listed, the path isn't
--- there, or no room is
--- left.
+-- there, or no room is left.
 abbrev pub append_count : Memory → List ℕ → ℕ → Option ℕ
 append_count m path count =
     if is_listed m || (not (is_some (bytes_at m.paths path)) || m.room == 0) then None

@@ -26,10 +26,9 @@ pub trait Files {
     ghost calls: { Self → Option (List Call) } = { λ _. None };
 
     /// Reads some bytes of a path from a place on, and answers how many bytes of `into` it wrote,
-    /// from the front. The
-    /// answer 0 for an `into` that isn't empty says that the path ends at or before the place. What
-    /// stands in `into`
-    /// behind those bytes, and in all of it after an error, is left open.
+    /// from the front. The answer 0 for an `into` that isn't empty says that the path ends at or
+    /// before the place. What stands in `into` behind those bytes, and in all of it after an error,
+    /// is left open.
     fn read_some(&mut self, path: &str, place: u64, into: &mut [u8]) -> Result<usize, Failed>
         ensures fits { IfOk result (λ n. n ≤ length into.old) }
         ensures bytes { IfOk result (λ n. GivesBytes (holds self.old path.now) place n into.new) }
@@ -66,8 +65,7 @@ pub trait Files {
         ensures called { calls self.new ≡ followed_by_call (BeginCall path.now) (calls self.old) };
 
     /// Adds first bytes of `bytes` at the end of a path, and answers how many it took: at least
-    /// one. Where it fails, it
-    /// took none.
+    /// one. Where it fails, it took none.
     fn append(&mut self, path: &str, bytes: &[u8]) -> Result<usize, Failed>
         requires { 0 < length bytes.now }
         ensures some { IfOk result (λ n. (0 < n) × (n ≤ length bytes.now)) }

@@ -2,8 +2,7 @@
 /// memory.
 pub trait Gate {
     /// Tells of the job: who runs it, its kind's number, and its glyph's or lookup's number, its
-    /// tag's four bytes as one
-    /// big-endian number, or 0.
+    /// tag's four bytes as one big-endian number, or 0.
     fn enter(&self, worker: u32, kind: u8, number: u32);
 }
 

@@ -1,10 +1,8 @@
 //! What fontc reads and writes: files, the console, and the gate that workers pass before each job.
 //!
 //! Each is a trait with meanings (ghost members): what paths hold, what the console took, and how
-//! often calls failed.
-//! A call fails only where its count rose, so code above can tell no failure that the outside
-//! didn't show. No call of a
-//! trait takes memory.
+//! often calls failed. A call fails only where its count rose, so code above can tell no failure
+//! that the outside didn't show. No call of a trait takes memory.
 #![tactic(auto)]
 
 mod console;

@@ -125,8 +125,7 @@ impl MemFiles {
     ghost use Rattle.outside_io.specs.Memory.{Memory};
 
     /// Files without a path: at most `paths` may come, and appends may add `room` bytes in all. All
-    /// reads and appends
-    /// handle as many bytes as they can, and no call is listed to fail.
+    /// reads and appends handle as many bytes as they can, and no call is listed to fail.
     pub fn with_room(alloc: Global, paths: u32, room: usize) -> Result<MemFiles, NoMemory>
         ensures { IfOk result (λ files. files ≡ empty_memory paths room) }
     {
@@ -248,7 +247,8 @@ impl Files for MemFiles {
         ensures sound { IsSound self.old }
         ensures count { result_ok result ≡ read_count self.old path.now place (length into.old) }
         ensures into_ok { IfOk result (λ n. into.new ≡
-            take n (drop place (unwrap_or (bytes_at self.old.paths path.now) [])) ++ drop n into.old) }
+            take n (drop place (unwrap_or (bytes_at self.old.paths path.now) []))
+                ++ drop n into.old) }
         ensures into_err { OnErr result (into.new ≡ into.old) }
         ensures after { self.new ≡ (if is_ok result then counted self.old else read_failed self.old)
             }
@@ -264,8 +264,7 @@ impl Files for MemFiles {
     }
 
     /// Fails exactly where the call is listed, or the path isn't there and either no more path is
-    /// allowed or its name is
-    /// longer than 255 bytes. The path is then as before.
+    /// allowed or its name is longer than 255 bytes. The path is then as before.
     fn begin(&mut self, path: &str) -> Result<(), Failed>
         ensures sound { IsSound self.old }
         ensures answer { is_ok result ≡ begins self.old path.now }

@@ -86,8 +86,7 @@ impl<F: Read + Write + Seek + Drop> LastFile<F> {
 }
 
 /// The files of the system. They tell no content. One count serves all failed reads, and another
-/// all failed calls of
-/// `begin` and `append`; each stops at `u64::MAX`.
+/// all failed calls of `begin` and `append`; each stops at `u64::MAX`.
 ///
 /// The file last opened is kept, so that reading or appending on opens nothing again.
 #[derive(Drop)]
@@ -211,8 +210,7 @@ impl<'a, R: rt::Files> Files for RealFiles<'a, R> {
 }
 
 /// Standard output. It tells nothing of what it took. Its count of failed writes stops at
-/// `u64::MAX`; a contract sees it
-/// as that count.
+/// `u64::MAX`; a contract sees it as that count.
 #[derive(Drop)]
 pub struct RealConsole<'a, R: Print> {
     rt: &'a R,

@@ -1,6 +1,5 @@
 -- The keys of each dictionary of a tree are texts that differ, and each begins where a reader
--- awaits a key behind the pairs
--- in front of it.
+-- awaits a key behind the pairs in front of it.
 use Rattle.std.proofs.Common.{◌≡◌, ℕ, ◌+◌, false, List, [], ◌∷◌, ◌++◌, length, map, Option, Some,
     None, Ok, refl, sym, ap, subst, ◌∙◌, append_assoc}
 use Rattle.std.specs.Prelude.{option_and_then, slice_get}

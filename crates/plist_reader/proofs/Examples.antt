@@ -1,6 +1,6 @@
 -- Worked examples, computed: texts with their refusals, and texts with their trees. Another
--- program, a recursive descent along
--- the grammar that was written apart from this definition, gives the same outcomes.
+-- program, a recursive descent along the grammar that was written apart from this definition, gives
+-- the same outcomes.
 use Rattle.std.proofs.Common.{◌≡◌, ℕ, List, [], ◌∷◌, ◌++◌, map, replicate, take, Option, Some, None,
     Result, Ok, Err, refl}
 use Rattle.std.specs.Prelude.{codes, ⊤}
@@ -9,6 +9,7 @@ use lib.Utf8.{encode}
 use Rattle.std.specs.Str.{is_utf8, chars}
 use Rattle.std.specs.Str.Lossy.{utf8_valid_len}
 use Rattle.refusal_codes.specs.declared.refusal.Refusal.{Refusal}
+use Rattle.refusal_codes.specs.declared.rule.Rule.{Rule}
 use Rattle.refusal_codes.specs.declared.rule.Rule.TheVariants.{NotUtf8, UnexpectedByte,
     UnexpectedEnd, BadEscape, DuplicateKey, TooDeep, TrailingText}
 use Rattle.plist_reader.specs.declared.tree.Tree.{Tree}
@@ -36,19 +37,31 @@ abbrev refusal_in : Result Tree Refusal → Option Refusal
 refusal_in (Ok t) = None
 refusal_in (Err r) = Some r
 
--- the refusal of each text, or None where it has a tree
-abbrev outcomes : List (List ℕ) → List (Option Refusal)
-outcomes texts = map (λ text. refusal_in (read_of text)) texts
+-- rows of a text and of its refusal, or None where it has a tree
+abbrev are_read : List (List ℕ × Option Refusal) → Type 0
+are_read rows = map (λ row. refusal_in (read_of row.0)) rows ≡ map (λ row. row.1) rows
+
+abbrev refused : Rule → ℕ → Option Refusal
+refused rule place = Some (refusal rule place)
+
+abbrev has_tree : Option Refusal
+has_tree = None
+
+-- one text several times
+abbrev times : ℕ → List ℕ → List ℕ
+times n text = flat_map (λ t. t) (replicate n text)
 
 -- each rule: an empty text, text behind the value, a key twice, an escape that is none, an end too
 -- early, a missing value, a bad byte, and a bracket too deep
-first_refusals : outcomes (([]) ∷ (codes "{a = 1;} x") ∷ (codes "{a=1;a=2;}")
-    ∷ (codes "{a=" ++ (34 ∷ 92 ∷ (codes "q" ++ (34 ∷ (codes ";}"))))) ∷ (codes "{a=(1,2")
-    ∷ (codes "{a=;}") ∷ (255 ∷ []) ∷ (codes
-    "(((((((((((((((((((((((((((((((((((((((((((((((((((((((((((((((((") ∷ [])
-    ≡ Some (refusal UnexpectedEnd 0) ∷ Some (refusal TrailingText 9) ∷ Some (refusal DuplicateKey 5)
-    ∷ Some (refusal BadEscape 4) ∷ Some (refusal UnexpectedEnd 7) ∷ Some (refusal UnexpectedByte 3)
-    ∷ Some (refusal NotUtf8 0) ∷ Some (refusal TooDeep 64) ∷ []
+first_refusals : are_read (
+    ([], refused UnexpectedEnd 0)
+    ∷ (codes "{a = 1;} x", refused TrailingText 9)
+    ∷ (codes "{a=1;a=2;}", refused DuplicateKey 5)
+    ∷ (codes "{a=\"\\q\";}", refused BadEscape 4)
+    ∷ (codes "{a=(1,2", refused UnexpectedEnd 7)
+    ∷ (codes "{a=;}", refused UnexpectedByte 3)
+    ∷ (255 ∷ [], refused NotUtf8 0)
+    ∷ (times 65 (codes "("), refused TooDeep 64) ∷ [])
 unfolding on_literals
 first_refusals = refl
 
@@ -62,7 +75,7 @@ twice_refused = refusal-of (codes "{a=1;a=2;}") (refusal DuplicateKey 5) twice_c
 
 -- of one whose first stands bare and whose second is quoted, with an escape
 abbrev twice_escaped : List ℕ
-twice_escaped = codes "{a=1;" ++ (34 ∷ 92 ∷ (codes "141" ++ (34 ∷ (codes "=2;}"))))
+twice_escaped = codes "{a=1;\"\\141\"=2;}"
 
 twice_escaped_computed : read_of twice_escaped ≡ Err (refusal DuplicateKey 5)
 unfolding on_literals
@@ -73,7 +86,7 @@ twice_escaped_refused = refusal-of twice_escaped (refusal DuplicateKey 5) twice_
 
 -- and of the sixty-fifth bracket
 abbrev too_many_brackets : List ℕ
-too_many_brackets = codes "((((((((((((((((((((((((((((((((((((((((((((((((((((((((((((((((("
+too_many_brackets = times 65 (codes "(")
 
 too_deep_computed : read_of too_many_brackets ≡ Err (refusal TooDeep 64)
 unfolding on_literals
@@ -83,75 +96,94 @@ too_deep_refused : IsRefusal too_many_brackets (refusal TooDeep 64)
 too_deep_refused = refusal-of too_many_brackets (refusal TooDeep 64) too_deep_computed
 
 -- a key stands twice whether it is bare or quoted; a word is known as a key only where it has ended
-keys_twice : outcomes ((codes "{a=1;" ++ (34 ∷ (codes "a" ++ (34 ∷ (codes "=2;}")))))
-    ∷ (codes "{a=1;a") ∷ (codes "{a=1;a ") ∷ (codes "{a=1;a" ++ (34 ∷ []))
-    ∷ (codes "{a=1;" ++ (34 ∷ (codes "a"))) ∷ (codes "{a=1;" ++ (34 ∷ (codes "a" ++ (34 ∷ []))))
-    ∷ (codes "{a=1;aa=2;}") ∷ (codes "{a=1;b={a=2;};}") ∷ (codes "{a=1;b=2;a=3;}")
-    ∷ (codes "{a=1;" ++ (34 ∷ 92 ∷ (codes "141" ++ (34 ∷ (codes "=2;}"))))) ∷ [])
-    ≡ Some (refusal DuplicateKey 5) ∷ Some (refusal UnexpectedEnd 6) ∷ Some (refusal DuplicateKey 5)
-    ∷ Some (refusal DuplicateKey 5) ∷ Some (refusal UnexpectedEnd 7) ∷ Some (refusal DuplicateKey 5)
-    ∷ None ∷ None ∷ Some (refusal DuplicateKey 9) ∷ Some (refusal DuplicateKey 5) ∷ []
+keys_twice : are_read (
+    (codes "{a=1;\"a\"=2;}", refused DuplicateKey 5)
+    ∷ (codes "{a=1;a", refused UnexpectedEnd 6)
+    ∷ (codes "{a=1;a ", refused DuplicateKey 5)
+    ∷ (codes "{a=1;a\"", refused DuplicateKey 5)
+    ∷ (codes "{a=1;\"a", refused UnexpectedEnd 7)
+    ∷ (codes "{a=1;\"a\"", refused DuplicateKey 5)
+    ∷ (codes "{a=1;aa=2;}", has_tree)
+    ∷ (codes "{a=1;b={a=2;};}", has_tree)
+    ∷ (codes "{a=1;b=2;a=3;}", refused DuplicateKey 9)
+    ∷ (codes "{a=1;\"\\141\"=2;}", refused DuplicateKey 5) ∷ [])
 unfolding on_literals
 keys_twice = refl
 
 -- a high surrogate is followed by a low one, and the two are one escape; no low one stands first
-surrogates : outcomes ((34 ∷ 92 ∷ (codes "Ud83d" ++ (34 ∷ [])))
-    ∷ (34 ∷ 92 ∷ (codes "Ude00" ++ (34 ∷ [])))
-    ∷ (34 ∷ 92 ∷ (codes "Ud83d" ++ (92 ∷ (codes "Ude00" ++ (34 ∷ [])))))
-    ∷ (34 ∷ 92 ∷ (codes "Ud83dx" ++ (34 ∷ []))) ∷ (34 ∷ 92 ∷ (codes "Ud83d"))
-    ∷ (34 ∷ 92 ∷ (codes "Ud83d" ++ (92 ∷ []))) ∷ (34 ∷ 92 ∷ (codes "Ud83d" ++ (92 ∷ (codes "Ud"))))
-    ∷ (34 ∷ 92 ∷ (codes "Ud83d" ++ (92 ∷ (codes "Uda")))) ∷ (34 ∷ 92 ∷ (codes "UD"))
-    ∷ (34 ∷ 92 ∷ (codes "UDC")) ∷ (34 ∷ 92 ∷ (codes "Udbff" ++ (92 ∷ (codes "Udfff" ++ (34 ∷ [])))))
-    ∷ (34 ∷ 92 ∷ (codes "Ue000" ++ (34 ∷ []))) ∷ [])
-    ≡ Some (refusal BadEscape 1) ∷ Some (refusal BadEscape 1) ∷ None ∷ Some (refusal BadEscape 1)
-    ∷ Some (refusal UnexpectedEnd 7) ∷ Some (refusal UnexpectedEnd 8)
-    ∷ Some (refusal UnexpectedEnd 10) ∷ Some (refusal BadEscape 1) ∷ Some (refusal UnexpectedEnd 4)
-    ∷ Some (refusal BadEscape 1) ∷ None ∷ None ∷ []
+surrogates : are_read (
+    (codes "\"\\Ud83d\"", refused BadEscape 1)
+    ∷ (codes "\"\\Ude00\"", refused BadEscape 1)
+    ∷ (codes "\"\\Ud83d\\Ude00\"", has_tree)
+    ∷ (codes "\"\\Ud83dx\"", refused BadEscape 1)
+    ∷ (codes "\"\\Ud83d", refused UnexpectedEnd 7)
+    ∷ (codes "\"\\Ud83d\\", refused UnexpectedEnd 8)
+    ∷ (codes "\"\\Ud83d\\Ud", refused UnexpectedEnd 10)
+    ∷ (codes "\"\\Ud83d\\Uda", refused BadEscape 1)
+    ∷ (codes "\"\\UD", refused UnexpectedEnd 4)
+    ∷ (codes "\"\\UDC", refused BadEscape 1)
+    ∷ (codes "\"\\Udbff\\Udfff\"", has_tree)
+    ∷ (codes "\"\\Ue000\"", has_tree) ∷ [])
 unfolding on_literals
 surrogates = refl
 
 -- three octal digits up to 177
-octal_escapes : outcomes ((34 ∷ 92 ∷ (codes "200" ++ (34 ∷ [])))
-    ∷ (34 ∷ 92 ∷ (codes "177" ++ (34 ∷ []))) ∷ (34 ∷ 92 ∷ (codes "000" ++ (34 ∷ [])))
-    ∷ (34 ∷ 92 ∷ (codes "18" ++ (34 ∷ []))) ∷ (34 ∷ 92 ∷ (codes "7" ++ (34 ∷ [])))
-    ∷ (34 ∷ 92 ∷ (codes "1" ++ (34 ∷ []))) ∷ [])
-    ≡ Some (refusal BadEscape 1) ∷ None ∷ None ∷ Some (refusal BadEscape 1)
-    ∷ Some (refusal BadEscape 1) ∷ Some (refusal BadEscape 1) ∷ []
+octal_escapes : are_read (
+    (codes "\"\\200\"", refused BadEscape 1)
+    ∷ (codes "\"\\177\"", has_tree)
+    ∷ (codes "\"\\000\"", has_tree)
+    ∷ (codes "\"\\18\"", refused BadEscape 1)
+    ∷ (codes "\"\\7\"", refused BadEscape 1)
+    ∷ (codes "\"\\1\"", refused BadEscape 1) ∷ [])
 unfolding on_literals
 octal_escapes = refl
 
 -- two digits make a byte, and white space may stand anywhere
-byte_strings : outcomes ((codes "<a>") ∷ (codes "<a b>") ∷ (codes "<ab c>") ∷ (codes "<>")
-    ∷ (codes "< 0a" ++ (9 ∷ (codes "F>"))) ∷ (codes "<0g>") ∷ (codes "<0") ∷ [])
-    ≡ Some (refusal UnexpectedByte 2) ∷ None ∷ Some (refusal UnexpectedByte 5) ∷ None
-    ∷ Some (refusal UnexpectedByte 6) ∷ Some (refusal UnexpectedByte 2)
-    ∷ Some (refusal UnexpectedEnd 2) ∷ []
+byte_strings : are_read (
+    (codes "<a>", refused UnexpectedByte 2)
+    ∷ (codes "<a b>", has_tree)
+    ∷ (codes "<ab c>", refused UnexpectedByte 5)
+    ∷ (codes "<>", has_tree)
+    ∷ (codes "< 0a\tF>", refused UnexpectedByte 6)
+    ∷ (codes "<0g>", refused UnexpectedByte 2)
+    ∷ (codes "<0", refused UnexpectedEnd 2) ∷ [])
 unfolding on_literals
 byte_strings = refl
 
 -- what is no UTF-8 comes before all else
-bad_bytes : outcomes ((255 ∷ (codes "}")) ∷ (codes "}" ++ (255 ∷ []))
-    ∷ (codes "{a=1;a=2;" ++ (255 ∷ [])) ∷ (34 ∷ 195 ∷ 34 ∷ []) ∷ (34 ∷ 195 ∷ 169 ∷ 34 ∷ [])
-    ∷ (195 ∷ 169 ∷ []) ∷ []) ≡ Some (refusal NotUtf8 0) ∷ Some (refusal NotUtf8 1)
-    ∷ Some (refusal NotUtf8 9) ∷ Some (refusal NotUtf8 1) ∷ None ∷ Some (refusal UnexpectedByte 0)
-    ∷ []
+bad_bytes : are_read (
+    (255 ∷ codes "}", refused NotUtf8 0)
+    ∷ (codes "}" ++ 255 ∷ [], refused NotUtf8 1)
+    ∷ (codes "{a=1;a=2;" ++ 255 ∷ [], refused NotUtf8 9)
+    ∷ (codes "\"" ++ 195 ∷ codes "\"", refused NotUtf8 1)
+    ∷ (codes "\"" ++ 195 ∷ 169 ∷ codes "\"", has_tree)
+    ∷ (195 ∷ 169 ∷ [], refused UnexpectedByte 0) ∷ [])
 unfolding on_literals
 bad_bytes = refl
 
 -- commas stand between values, and one may stand behind the last
-lists : outcomes ((codes "()") ∷ (codes "(1,)") ∷ (codes "(,)") ∷ (codes "(1,,2)") ∷ (codes "(1 2)")
-    ∷ (codes "{a=1}") ∷ (codes "{a}") ∷ (codes "{}x") ∷ (codes "a b")
-    ∷ (34 ∷ (codes "a" ++ (34 ∷ (codes "b" ++ (34 ∷ []))))) ∷ [])
-    ≡ None ∷ None ∷ Some (refusal UnexpectedByte 1) ∷ Some (refusal UnexpectedByte 3)
-    ∷ Some (refusal UnexpectedByte 3) ∷ Some (refusal UnexpectedByte 4)
-    ∷ Some (refusal UnexpectedByte 2) ∷ Some (refusal TrailingText 2)
-    ∷ Some (refusal TrailingText 2) ∷ Some (refusal TrailingText 3) ∷ []
+lists : are_read (
+    (codes "()", has_tree)
+    ∷ (codes "(1,)", has_tree)
+    ∷ (codes "(,)", refused UnexpectedByte 1)
+    ∷ (codes "(1,,2)", refused UnexpectedByte 3)
+    ∷ (codes "(1 2)", refused UnexpectedByte 3)
+    ∷ (codes "{a=1}", refused UnexpectedByte 4)
+    ∷ (codes "{a}", refused UnexpectedByte 2)
+    ∷ (codes "{}x", refused TrailingText 2)
+    ∷ (codes "a b", refused TrailingText 2)
+    ∷ (codes "\"a\"b\"", refused TrailingText 3) ∷ [])
 unfolding on_literals
 lists = refl
 
 -- 64 brackets of both kinds may be open, and no more, also where no bracket may stand
-depths : outcomes ((codes
-    "(((((((((((((((((((((((((((((((((((((((((((((((((((((((((((((((())))))))))))))))))))))))))))))))))))))))))))))))))))))))))))))))") ∷ (codes "(((((((((((((((((((((((((((((((((((((((((((((((((((((((((((((((({") ∷ (codes "({a=({a=({a=({a=({a=({a=({a=({a=({a=({a=({a=({a=({a=({a=({a=({a=({a=({a=({a=({a=({a=({a=({a=({a=({a=({a=({a=({a=({a=({a=({a=({a=1;});});});});});});});});});});});});});});});});});});});});});});});});});});});});});});});})") ∷ (codes "({a=({a=({a=({a=({a=({a=({a=({a=({a=({a=({a=({a=({a=({a=({a=({a=({a=({a=({a=({a=({a=({a=({a=({a=({a=({a=({a=({a=({a=({a=({a=({a=(") ∷ (codes "({a=({a=({a=({a=({a=({a=({a=({a=({a=({a=({a=({a=({a=({a=({a=({a=({a=({a=({a=({a=({a=({a=({a=({a=({a=({a=({a=({a=({a=({a=({a=({a=b(") ∷ (codes "({a=({a=({a=({a=({a=({a=({a=({a=({a=({a=({a=({a=({a=({a=({a=({a=({a=({a=({a=({a=({a=({a=({a=({a=({a=({a=({a=({a=({a=({a=({a=({a=" ++ (34 ∷ (codes "(" ++ (34 ∷ (codes ";});});});});});});});});});});});});});});});});});});});});});});});});});});});});});});});})"))))) ∷ []) ≡ None ∷ Some (refusal TooDeep 64) ∷ None ∷ Some (refusal TooDeep 128) ∷ Some (refusal TooDeep 129) ∷ None ∷ []
+depths : are_read (
+    (times 64 (codes "(") ++ times 64 (codes ")"), has_tree)
+    ∷ (times 64 (codes "(") ++ codes "{", refused TooDeep 64)
+    ∷ (times 32 (codes "({a=") ++ codes "1" ++ times 32 (codes ";})"), has_tree)
+    ∷ (times 32 (codes "({a=") ++ codes "(", refused TooDeep 128)
+    ∷ (times 32 (codes "({a=") ++ codes "b(", refused TooDeep 129)
+    ∷ (times 32 (codes "({a=") ++ codes "\"(\"" ++ times 32 (codes ";})"), has_tree) ∷ [])
 unfolding on_literals
 depths = refl
 
@@ -164,8 +196,7 @@ unfolding on_literals
 behind_accents = refl
 
 -- of several rules the first holds: a bracket too deep also in a byte string, a key twice before a
--- bracket too deep, and an escape
--- before both
+-- bracket too deep, and an escape before both
 first_of_several : outcomes ((replicate 64 40 ++ codes "<(") ∷ (replicate 63 40 ++ codes "{a=1;a(")
     ∷ (replicate 64 40 ++ (34 ∷ 92 ∷ (codes "("))) ∷ [])
     ≡ Some (refusal TooDeep 65) ∷ Some (refusal DuplicateKey 68) ∷ Some (refusal BadEscape 65) ∷ []
@@ -173,56 +204,59 @@ unfolding on_literals
 first_of_several = refl
 
 -- texts of random characters, compared with that other program
-from_outside : outcomes ((codes "(a1") ∷
-    (codes "a){;)" ++ (92 ∷ (codes "}1" ++ (92 ∷ 34 ∷ (codes "(" ++ (92 ∷ [])))))) ∷ (codes "()")
-    ∷ (codes "1" ++ (92 ∷ (codes "1"))) ∷ (34 ∷ 92 ∷ (codes "Ud83d" ++ (34 ∷ []))) ∷ (codes "a<,")
-    ∷ (codes "{a=(1,2,);}") ∷ (codes "{a=1;aa=2;}")
-    ∷ (codes "aa=><," ++ (92 ∷ (codes "a" ++ (10 ∷ 10 ∷ (codes ")(")))))
-    ∷ (codes "1, ;} " ++ (9 ∷ 34 ∷ [])) ∷ (codes "a1{" ++ (9 ∷ (codes ";" ++ (9 ∷ (codes "<=")))))
-    ∷ (34 ∷ 92 ∷ (codes "U00g" ++ (34 ∷ []))) ∷ (codes "() " ++ (34 ∷ (codes "}"))) ∷ (codes "a)}")
-    ∷ (34 ∷ 92 ∷ []) ∷ (codes " " ++ (9 ∷ (codes "a}1"))) ∷ (codes " a," ++ (9 ∷ (codes "(")))
-    ∷ (codes "{" ++ (34 ∷ 34 ∷ (codes "=1;}"))) ∷ (codes "<>1")
-    ∷ (34 ∷ (codes "a" ++ (10 ∷ (codes "b" ++ (34 ∷ []))))) ∷ (9 ∷ (codes " {"))
-    ∷ (codes " " ++ (34 ∷ 10 ∷ [])) ∷ (codes "1aa>;"
-    ++ (34 ∷ (codes "a{" ++ (34 ∷ (codes ";" ++ (9 ∷ (codes "<"))))))) ∷ (codes "a<" ++ (9 ∷ []))
-    ∷ (codes ")((,)<( {,}" ++ (10 ∷ [])) ∷ (codes "{a<") ∷ (codes " ;" ++ (92 ∷ []))
-    ∷ (codes "<" ++ (9 ∷ 92 ∷ (codes "}a"))) ∷ (codes "< (")
-    ∷ (codes ">a(;;{" ++ (10 ∷ (codes ")" ++ (34 ∷ (codes ");="))))) ∷ (codes "{<)=)=>=")
-    ∷ (codes ";" ++ (92 ∷ (codes "(()"))) ∷ (codes ";}a")
-    ∷ (codes "," ++ (9 ∷ (codes ">{" ++ (10 ∷ []))))
-    ∷ (codes ">" ++ (10 ∷ 9 ∷ 195 ∷ 169 ∷ 34 ∷ (codes "a>"))) ∷ (codes "(a(") ∷ (92 ∷ (codes "=,"))
-    ∷ (codes ">" ++ (92 ∷ 92 ∷ [])) ∷ (codes "<" ++ (9 ∷ 92 ∷ 9 ∷ (codes ", }" ++ (34 ∷ []))))
-    ∷ (codes "=} ") ∷ (codes "><a<} ),") ∷
-    (codes "{={1" ++ (92 ∷ 10 ∷ (codes ")" ++ (34 ∷ (codes ";;a)")))))
-    ∷ (codes "(," ++ (34 ∷ (codes "}="))) ∷ (codes "<" ++ (92 ∷ (codes ">")))
-    ∷ (codes "<" ++ (255 ∷ (codes ">" ++ (195
-    ∷ (codes "," ++ (10 ∷ (codes ",>a()" ++ (92 ∷ []))))))))
-    ∷ (codes "=<" ++ (255 ∷ (codes "(<a,>")))
-    ∷ (codes ",;" ++ (195 ∷ (codes ";))" ++ (169 ∷ 169 ∷ [])))) ∷ (34 ∷ 195 ∷ 34 ∷ [])
-    ∷ (255 ∷ (codes ")" ++ (195 ∷ (codes "1" ++ (34 ∷ 9 ∷ (codes "=>"))))))
-    ∷ (34 ∷ (codes "(a" ++ (169 ∷ 9 ∷ (codes ") " ++ (9 ∷ []))))) ∷ (codes " a" ++ (169 ∷ []))
-    ∷ (34 ∷ (codes "= a(,>" ++ (195 ∷ 195 ∷ (codes "1<a")))) ∷ [])
-    ≡ Some (refusal UnexpectedEnd 3) ∷ Some (refusal TrailingText 1) ∷ None
-    ∷ Some (refusal TrailingText 1) ∷ Some (refusal BadEscape 1) ∷ Some (refusal TrailingText 1)
-    ∷ None ∷ None ∷ Some (refusal TrailingText 2) ∷ Some (refusal TrailingText 1)
-    ∷ Some (refusal TrailingText 2) ∷ Some (refusal BadEscape 1) ∷ Some (refusal TrailingText 3)
-    ∷ Some (refusal TrailingText 1) ∷ Some (refusal UnexpectedEnd 2) ∷ Some (refusal TrailingText 3)
-    ∷ Some (refusal TrailingText 2) ∷ None ∷ Some (refusal TrailingText 2) ∷ None
-    ∷ Some (refusal UnexpectedEnd 3) ∷ Some (refusal UnexpectedEnd 3)
-    ∷ Some (refusal TrailingText 3) ∷ Some (refusal TrailingText 1)
-    ∷ Some (refusal UnexpectedByte 0) ∷ Some (refusal UnexpectedByte 2)
-    ∷ Some (refusal UnexpectedByte 1) ∷ Some (refusal UnexpectedByte 2)
-    ∷ Some (refusal UnexpectedByte 2) ∷ Some (refusal UnexpectedByte 0)
-    ∷ Some (refusal UnexpectedByte 1) ∷ Some (refusal UnexpectedByte 0)
-    ∷ Some (refusal UnexpectedByte 0) ∷ Some (refusal UnexpectedByte 0)
-    ∷ Some (refusal UnexpectedByte 0) ∷ Some (refusal UnexpectedByte 2)
-    ∷ Some (refusal UnexpectedByte 0) ∷ Some (refusal UnexpectedByte 0)
-    ∷ Some (refusal UnexpectedByte 2) ∷ Some (refusal UnexpectedByte 0)
-    ∷ Some (refusal UnexpectedByte 0) ∷ Some (refusal UnexpectedByte 1)
-    ∷ Some (refusal UnexpectedByte 1) ∷ Some (refusal UnexpectedByte 1) ∷ Some (refusal NotUtf8 1)
-    ∷ Some (refusal NotUtf8 2) ∷ Some (refusal NotUtf8 2) ∷ Some (refusal NotUtf8 1)
-    ∷ Some (refusal NotUtf8 0) ∷ Some (refusal NotUtf8 3) ∷ Some (refusal NotUtf8 2)
-    ∷ Some (refusal NotUtf8 7) ∷ []
+from_outside : are_read (
+    (codes "(a1", refused UnexpectedEnd 3)
+    ∷ (codes "a){;)\\}1\\\"(\\", refused TrailingText 1)
+    ∷ (codes "()", has_tree)
+    ∷ (codes "1\\1", refused TrailingText 1)
+    ∷ (codes "\"\\Ud83d\"", refused BadEscape 1)
+    ∷ (codes "a<,", refused TrailingText 1)
+    ∷ (codes "{a=(1,2,);}", has_tree)
+    ∷ (codes "{a=1;aa=2;}", has_tree)
+    ∷ (codes "aa=><,\\a\n\n)(", refused TrailingText 2)
+    ∷ (codes "1, ;} \t\"", refused TrailingText 1)
+    ∷ (codes "a1{\t;\t<=", refused TrailingText 2)
+    ∷ (codes "\"\\U00g\"", refused BadEscape 1)
+    ∷ (codes "() \"}", refused TrailingText 3)
+    ∷ (codes "a)}", refused TrailingText 1)
+    ∷ (codes "\"\\", refused UnexpectedEnd 2)
+    ∷ (codes " \ta}1", refused TrailingText 3)
+    ∷ (codes " a,\t(", refused TrailingText 2)
+    ∷ (codes "{\"\"=1;}", has_tree)
+    ∷ (codes "<>1", refused TrailingText 2)
+    ∷ (codes "\"a\nb\"", has_tree)
+    ∷ (codes "\t {", refused UnexpectedEnd 3)
+    ∷ (codes " \"\n", refused UnexpectedEnd 3)
+    ∷ (codes "1aa>;\"a{\";\t<", refused TrailingText 3)
+    ∷ (codes "a<\t", refused TrailingText 1)
+    ∷ (codes ")((,)<( {,}\n", refused UnexpectedByte 0)
+    ∷ (codes "{a<", refused UnexpectedByte 2)
+    ∷ (codes " ;\\", refused UnexpectedByte 1)
+    ∷ (codes "<\t\\}a", refused UnexpectedByte 2)
+    ∷ (codes "< (", refused UnexpectedByte 2)
+    ∷ (codes ">a(;;{\n)\");=", refused UnexpectedByte 0)
+    ∷ (codes "{<)=)=>=", refused UnexpectedByte 1)
+    ∷ (codes ";\\(()", refused UnexpectedByte 0)
+    ∷ (codes ";}a", refused UnexpectedByte 0)
+    ∷ (codes ",\t>{\n", refused UnexpectedByte 0)
+    ∷ (codes ">\n\t" ++ 195 ∷ 169 ∷ codes "\"a>", refused UnexpectedByte 0)
+    ∷ (codes "(a(", refused UnexpectedByte 2)
+    ∷ (codes "\\=,", refused UnexpectedByte 0)
+    ∷ (codes ">\\\\", refused UnexpectedByte 0)
+    ∷ (codes "<\t\\\t, }\"", refused UnexpectedByte 2)
+    ∷ (codes "=} ", refused UnexpectedByte 0)
+    ∷ (codes "><a<} ),", refused UnexpectedByte 0)
+    ∷ (codes "{={1\\\n)\";;a)", refused UnexpectedByte 1)
+    ∷ (codes "(,\"}=", refused UnexpectedByte 1)
+    ∷ (codes "<\\>", refused UnexpectedByte 1)
+    ∷ (codes "<" ++ 255 ∷ codes ">" ++ 195 ∷ codes ",\n,>a()\\", refused NotUtf8 1)
+    ∷ (codes "=<" ++ 255 ∷ codes "(<a,>", refused NotUtf8 2)
+    ∷ (codes ",;" ++ 195 ∷ codes ";))" ++ 169 ∷ 169 ∷ [], refused NotUtf8 2)
+    ∷ (codes "\"" ++ 195 ∷ codes "\"", refused NotUtf8 1)
+    ∷ (255 ∷ codes ")" ++ 195 ∷ codes "1\"\t=>", refused NotUtf8 0)
+    ∷ (codes "\"(a" ++ 169 ∷ codes "\t) \t", refused NotUtf8 3)
+    ∷ (codes " a" ++ 169 ∷ [], refused NotUtf8 2)
+    ∷ (codes "\"= a(,>" ++ 195 ∷ 195 ∷ codes "1<a", refused NotUtf8 7) ∷ [])
 unfolding on_literals
 from_outside = refl
 
@@ -251,8 +285,7 @@ brackets_in (Ok t) = flat_map (λ node. bracket_in node node.value) t.nodes
 brackets_in (Err r) = []
 
 -- its lists and dictionaries, in the order in which they end: the nodes stand at 161, 170 and 181,
--- their path at 137,
--- the layer at 110 and the glyph at 82
+-- their path at 137, the layer at 110 and the glyph at 82
 triangle_brackets : brackets_in (read_of triangle)
     ≡ (55, 67) ∷ (53, 69) ∷ (161, 168) ∷ (170, 179) ∷ (181, 192) ∷ (159, 194) ∷ (137, 197)
     ∷ (135, 199) ∷ (110, 215) ∷ (108, 217) ∷ (82, 234) ∷ (80, 236) ∷ (0, 258) ∷ []
@@ -260,7 +293,7 @@ unfolding on_literals
 triangle_brackets = refl
 
 -- behind its end stands no more text, and each front of less than 258 bytes ends too early
-triangle_behind : outcomes ((triangle ++ codes "end") ∷ []) ≡ Some (refusal TrailingText 259) ∷ []
+triangle_behind : are_read ((triangle ++ codes "end", refused TrailingText 259) ∷ [])
 unfolding on_literals
 triangle_behind = refl
 
@@ -278,26 +311,23 @@ triangle_trimmed = refl
 
 -- a string may have line feeds as they are, and characters beyond ASCII of two, three and four
 -- bytes
-raw_string : read_of (34 ∷ 97 ∷ 10 ∷ 195 ∷ 169 ∷ 226 ∷ 130 ∷ 172 ∷ 240 ∷ 159 ∷ 152 ∷ 128 ∷ 34 ∷ [])
+raw_string : read_of (codes "\"a\n" ++ 195 ∷ 169 ∷ 226 ∷ 130 ∷ 172 ∷ 240 ∷ 159 ∷ 152 ∷ 128
+    ∷ codes "\"")
     ≡ Ok (record { nodes = record { place = 0; end = 13; value
-    = tree.Text (97 ∷ 10 ∷ 195 ∷ 169 ∷ 226 ∷ 130 ∷ 172 ∷ 240 ∷ 159 ∷ 152 ∷ 128 ∷ []) }
-    ∷ []; top = 0 })
+        = tree.Text (97 ∷ 10 ∷ 195 ∷ 169 ∷ 226 ∷ 130 ∷ 172 ∷ 240 ∷ 159 ∷ 152 ∷ 128 ∷ []) }
+        ∷ []; top = 0 })
 unfolding on_literals
 raw_string = refl
 
 -- escapes are undone, and each value has its place and end
-quoted_tree : read_of (codes " " ++ (34 ∷
-    (codes "a" ++ (92 ∷ (codes "n" ++ (92 ∷
-    (codes "Ud83d" ++ (92 ∷ (codes "Ude00" ++ (34 ∷ []))))))))))
+quoted_tree : read_of (codes " \"a\\n\\Ud83d\\Ude00\"")
     ≡ Ok (record { nodes = record { place = 1; end = 18; value
-    = tree.Text (97 ∷ 10 ∷ 240 ∷ 159 ∷ 152 ∷ 128 ∷ []) } ∷ []; top = 0 })
+        = tree.Text (97 ∷ 10 ∷ 240 ∷ 159 ∷ 152 ∷ 128 ∷ []) } ∷ []; top = 0 })
 unfolding on_literals
 quoted_tree = refl
 
 -- each escape: a carriage return, a tab, a quote, a backslash, a unit of UTF-16, and octal digits
-escaped_tree : read_of (34 ∷ 92 ∷ (codes "r"
-    ++ (92 ∷ (codes "t" ++ (92 ∷ 34 ∷ 92 ∷ 92 ∷ 92
-    ∷ (codes "U00e9" ++ (92 ∷ (codes "101" ++ (34 ∷ [])))))))))
+escaped_tree : read_of (codes "\"\\r\\t\\\"\\\\\\U00e9\\101\"")
     ≡ Ok (record { nodes = record { place = 0; end = 20; value
         = tree.Text (13 ∷ 9 ∷ 34 ∷ 92 ∷ 195 ∷ 169 ∷ 65 ∷ []) } ∷ []; top = 0 })
 unfolding on_literals

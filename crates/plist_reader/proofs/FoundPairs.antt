@@ -1,6 +1,5 @@
 -- What is found under the key of a pair is its value: no pair in front of it has its key, since the
--- keys of a dictionary
--- differ. And what is found is the value of a pair with that key.
+-- keys of a dictionary differ. And what is found is the value of a pair with that key.
 use Rattle.std.proofs.Common.{inl, inr, ◌≡◌, ℕ, true, false, List, [], ◌∷◌, ◌++◌, map, Option, Some,
     None, if◌then◌else◌, refl, sym, ap, ◌∙◌}
 use Rattle.std.specs.Prelude.{nat_eq, option_and_then}

@@ -1,6 +1,5 @@
 -- The characters of a property list, by their codes: white space, those of bare words, and digits.
--- Fontc's own, narrowed
--- from the format of NeXTSTEP that Glyphs writes.
+-- Fontc's own, narrowed from the format of NeXTSTEP that Glyphs writes.
 use Rattle.std.specs.Prelude.{ℕ, ◌+◌, ◌-◌, ◌*◌, option_and_then, Bool, ◌&&◌, ◌||◌, not, ◌==◌,
     nat_le, Option, Some, None, if◌then◌else◌}
 

@@ -1,9 +1,8 @@
 -- Escapes of quoted strings, as the reader takes them, a character at a time. Nobody has to believe
--- it: `IsEscape` of Grammar says
--- which escapes there are. They are \" \\ \n \r \t, three octal digits up to 177, and \U with four
--- hexadecimal digits, where a high surrogate is followed by \U and a low one. Which escapes there
--- are is fontc's own;
--- surrogates are those of UTF-16 (the Unicode Standard, section 3.9).
+-- it: `IsEscape` of Grammar says which escapes there are. They are \" \\ \n \r \t, three octal
+-- digits up to 177, and \U with four hexadecimal digits, where a high surrogate is followed by \U
+-- and a low one. Which escapes there are is fontc's own; surrogates are those of UTF-16 (the
+-- Unicode Standard, section 3.9).
 use Rattle.std.specs.Prelude.{ℕ, ◌+◌, ◌-◌, ◌*◌, ◌&&◌, ◌||◌, ◌==◌, nat_lt, nat_le, Option, Some,
     None, if◌then◌else◌}
 use lib.Utf8.{scalar}

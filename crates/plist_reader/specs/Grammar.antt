@@ -1,8 +1,7 @@
 -- The grammar of property lists, over whole texts: which characters spell a value, and which tree
--- that value is. Fontc's
--- own, narrowed from the text form of NeXTSTEP property lists in which Glyphs writes format 3.
--- Texts are lists of
--- characters, each a Unicode scalar value, and places and ends count their bytes in UTF-8.
+-- that value is. Fontc's own, narrowed from the text form of NeXTSTEP property lists in which
+-- Glyphs writes format 3. Texts are lists of characters, each a Unicode scalar value, and places
+-- and ends count their bytes in UTF-8.
 --
 --     text       = spaces value spaces
 --     value      = word | string | bytes | list | dictionary

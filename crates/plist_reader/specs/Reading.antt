@@ -1,8 +1,6 @@
 -- What a source gives, computed a character at a time: its tree, or the refusal of the first
--- character with which it
--- can't go on. Fontc's own. Nobody has to believe it: it computes what Grammar and Refusals say of
--- whole texts, by the law
--- `sources_have_one_answer`.
+-- character with which it can't go on. Fontc's own. Nobody has to believe it: it computes what
+-- Grammar and Refusals say of whole texts, by the law `sources_have_one_answer`.
 use Rattle.std.specs.Prelude.{ℕ, ◌+◌, ◌≡◌, Bool, true, false, not, ◌&&◌, ◌||◌, ◌==◌, nat_lt, List,
     [], ◌∷◌, ◌++◌, length, Option, Some, None, Result, Ok, Err, if◌then◌else◌, encode_utf8}
 use Rattle.std.specs.Char.{len_utf8}

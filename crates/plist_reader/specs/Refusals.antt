@@ -1,6 +1,5 @@
 -- Why a source without a tree is refused, over whole texts: reading stops behind the longest front,
--- or prefix, of the text with
--- which some text with a tree begins. Fontc's own.
+-- or prefix, of the text with which some text with a tree begins. Fontc's own.
 use Rattle.std.specs.Prelude.{◌≡◌, ℕ, ◌+◌, ◌<◌, ◌≤◌, Bool, true, false, ◌&&◌, ◌==◌, nat_lt,
     if◌then◌else◌, List, [], ◌∷◌, ◌++◌, length, take, Some, ◌⊎◌}
 use Rattle.std.specs.List.{list_any}
@@ -92,8 +91,7 @@ abbrev pub IsTooDeep : List ℕ → ℕ → Type 0
 IsTooDeep front c = IsBracket c × IsDeep front 64
 
 -- A front that ends in an escape, which has begun at a place and isn't whole: in front of it stand
--- a quote and, to the
--- backslash, whole characters and escapes, and the quote begins a string.
+-- a quote and, to the backslash, whole characters and escapes, and the quote begins a string.
 pub record IsInEscape (front : List ℕ) (place : ℕ) : Type 0 where
   pub before : List ℕ
   pub inner : List ℕ
@@ -134,10 +132,8 @@ pub record IsKeyBehind (key : List ℕ) (place : ℕ) (t : Tree) : Type 0 where
   pub place_is : own.place ≡ place
 
 -- A front that ends in a key which begins at a place, and which the next character ends, where its
--- dictionary has that
--- key already: in a text with a tree that begins with the front, where the key goes on to be
--- another, it stands behind a
--- key with its bytes.
+-- dictionary has that key already: in a text with a tree that begins with the front, where the key
+-- goes on to be another, it stands behind a key with its bytes.
 pub record IsTwice (front : List ℕ) (c place : ℕ) : Type 0 where
   pub before : List ℕ
   pub text : List ℕ

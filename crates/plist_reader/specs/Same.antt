@@ -1,6 +1,6 @@
 -- When two nodes of trees are the same: they have one place and one end, and their values are of
--- one kind and alike, item by
--- item. Fontc's own. The test says exactly whether they are the same to a contract.
+-- one kind and alike, item by item. Fontc's own. The test says exactly whether they are the same to
+-- a contract.
 use Rattle.std.proofs.Common.{◌≡◌, ℕ, Bool, false, ◌&&◌, ◌==◌, List, [], nat_eq, ap, sym,
     true≢false, arith}
 use Rattle.std.specs.Bool.{Decides}

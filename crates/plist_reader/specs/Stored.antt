@@ -1,6 +1,6 @@
 -- How the values of a tree are stored: a pool holds what many values hold, one behind the other,
--- and a value says where its
--- part lies. Fontc's own. A caller of `Nodes` sees the list of the nodes alone.
+-- and a value says where its part lies. Fontc's own. A caller of `Nodes` sees the list of the nodes
+-- alone.
 use Rattle.std.specs.Prelude.{◌≡◌, ◌≤◌, List, ◌++◌, length, slice_range}
 use Rattle.std.specs.Str.{IsUtf8}
 use Rattle.plist_reader.specs.declared.tree.TreeNode.{TreeNode}

@@ -20,8 +20,7 @@ struct StoredNode {
 }
 
 /// The values of a tree, in a form that takes little memory: 20 bytes for a value, beside what it
-/// holds. A contract sees
-/// them as a list of nodes.
+/// holds. A contract sees them as a list of nodes.
 #[derive(Debug, Drop)]
 pub struct Nodes {
     stored: Vec<StoredNode>,

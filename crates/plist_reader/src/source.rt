@@ -19,20 +19,18 @@ use std::alloc::Global;
 use std::str;
 
 /// Reads a property list, of at most 67,108,864 bytes, in the form in which Glyphs saves its
-/// sources. Which texts of that
-/// form are property lists is fontc's own.
+/// sources. Which texts of that form are property lists is fontc's own.
 ///
 /// # Errors
 ///
 /// `NoMemory` where memory runs out. Each source that is no property list has one refusal, by one
-/// of seven rules; its place
-/// counts the source's bytes from 0. What isn't UTF-8 is refused before all else:
+/// of seven rules; its place counts the source's bytes from 0. What isn't UTF-8 is refused before
+/// all else:
 ///
 /// - `NotUtf8`, at the first byte of the first sequence that is no UTF-8.
 ///
 /// Else reading stops behind the longest beginning of the text with which some property list
-/// begins, and the rule is the
-/// first of these that holds there:
+/// begins, and the rule is the first of these that holds there:
 ///
 /// - `UnexpectedEnd`, at the length of a text that could go on;
 /// - `BadEscape`, at the backslash of an escape that is none;
@@ -100,10 +98,8 @@ pub fn sources_have_one_answer()
 {}
 
 /// A front of a text goes on exactly where some source with a tree begins with it. With a front
-/// each shorter one goes on too,
-/// so that one is the longest, in characters and in bytes. Of the characters beyond ASCII, which
-/// are of several bytes, each can
-/// follow a front or none.
+/// each shorter one goes on too, so that one is the longest, in characters and in bytes. Of the
+/// characters beyond ASCII, which are of several bytes, each can follow a front or none.
 pub fn one_front_is_the_longest()
     // What the grammar spells is the text of a source.
     ensures texts { (v : Value) (text : List ℕ) → IsTextOf v text
@@ -123,15 +119,14 @@ pub fn one_front_is_the_longest()
 {}
 
 /// The values of a tree stand in its source, its texts are the bytes between their places after
-/// escapes are undone, at
-/// most 64 brackets are open at a place, and the keys of a dictionary differ.
+/// escapes are undone, at most 64 brackets are open at a place, and the keys of a dictionary
+/// differ.
 pub fn trees_stand_in_their_sources()
     ensures { (source : List ℕ) (t : Tree) → HasTree source t → StandsInSource source t }
 {}
 
 /// In a dictionary of a source the key of each pair leads to its value, and nothing else is found:
-/// what `Tree::find` gives of a key
-/// is a value exactly where the dictionary has a pair of the two.
+/// what `Tree::find` gives of a key is a value exactly where the dictionary has a pair of the two.
 pub fn keys_lead_to_their_values()
     ensures { (source : List ℕ) (t : Tree) → HasTree source t → FindsPairs t }
 {}

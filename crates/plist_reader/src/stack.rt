@@ -4,8 +4,7 @@ use std::alloc::{AllocFailed, Global};
 use std::marker::Model;
 
 /// Items of which the last one added is taken first. A contract sees a stack as the list of its
-/// items, the last one
-/// added first.
+/// items, the last one added first.
 #[derive(Drop)]
 pub(crate) struct Stack<T> {
     items: Vec<T>,

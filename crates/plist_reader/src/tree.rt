@@ -8,8 +8,7 @@ use crate::nodes::Nodes;
 use plain_lists::{Sequence, Text};
 
 /// What a value is, as contracts see it and as it is put into a tree. Values inside it are named by
-/// their numbers in the tree. A
-/// caller borrows a `ValueRef`.
+/// their numbers in the tree. A caller borrows a `ValueRef`.
 #[derive(Debug, PartialEq, Eq, Drop)]
 pub enum TreeValue {
     /// A bare word or a quoted string, its escapes undone.
@@ -107,8 +106,7 @@ impl Tree {
     ghost use Rattle.plist_reader.specs.Tree.{find_in, value_with, is_key};
 
     /// The number of the value that the dictionary `pairs` has under this key; `None` where it has
-    /// none, where `pairs` is no
-    /// dictionary, or where no value has that number. It takes no memory.
+    /// none, where `pairs` is no dictionary, or where no value has that number. It takes no memory.
     pub fn find(&self, pairs: u32, key: &[u8]) -> Option<u32>
         ensures { result ≡ find_in self.now pairs key.now }
     {

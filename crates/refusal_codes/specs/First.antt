@@ -1,6 +1,5 @@
 -- The least of a list of failures: the least place wins, and at one place the rule that comes first
--- in the list of
--- rules. fontc's own.
+-- in the list of rules. fontc's own.
 use Rattle.std.specs.Prelude.{◌≡◌, ℕ, Bool, false, Contains, ◌||◌, ◌&&◌, ◌==◌, nat_lt, List, [],
     ◌∷◌, Option, Some, None, Result, Ok, Err, if◌then◌else◌}
 use Rattle.std.specs.List.{AllByRecursion}

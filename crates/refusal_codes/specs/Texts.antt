@@ -1,6 +1,6 @@
 -- How a refusal reads: its rule's letter and number, the rule's name, the kind of the job that
--- found it, the name where
--- there is one, and the place, as `G2 CubicNode Raw A at 181`. fontc's own.
+-- found it, the name where there is one, and the place, as `G2 CubicNode Raw A at 181`. fontc's
+-- own.
 use Rattle.std.specs.Prelude.{ℕ, List, [], ◌∷◌, ◌++◌, codes}
 use Rattle.std.specs.List.{slice_index_or}
 use Rattle.std.specs.Fmt.{decimal}

@@ -100,8 +100,7 @@ impl FirstFailure {
 }
 
 /// The first of a list of failures is the least of them, and there is one unless the list is empty.
-/// A law: the function
-/// does nothing.
+/// A law: the function does nothing.
 pub fn first_failure_is_the_least()
     ensures least { (fs : List Failure) (f : Failure) → first_of fs ≡ Some f → IsLeast fs f }
     ensures none { (fs : List Failure) → first_of fs ≡ None → fs ≡ [] }

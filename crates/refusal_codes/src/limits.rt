@@ -1,6 +1,5 @@
 //! The numbers of which the rules speak. Those of counts and lengths are the most that is allowed.
-//! All of them are fontc's
-//! own.
+//! All of them are fontc's own.
 
 /// Bytes of a source.
 pub const SOURCE_BYTES: usize = 67_108_864;

@@ -4,8 +4,7 @@ ghost use Rattle.refusal_codes.specs.Rules.{rule_number, rule_code, rule_name};
 /// The written rules that a source can fail, in the order in which they win at one place.
 ///
 /// P rules are of the property list, S rules of the header and the glyph index, G rules of glyphs,
-/// F rules of feature
-/// code, and B rules of what is built. All of them are fontc's own.
+/// F rules of feature code, and B rules of what is built. All of them are fontc's own.
 #[derive(Clone, Copy, Debug, PartialEq, Eq)]
 pub enum Rule {
     /// The text isn't UTF-8. The place is the first byte of the first bad sequence.

@@ -1,8 +1,7 @@
 -- The rules that each kind of value fails: a value of another kind than the one asked is of a wrong
--- shape, a number
--- with a fraction isn't whole, and a number or a length may be outside its range. Of these only the
--- first is found at one
--- value. A dictionary that lacks a key fails itself. fontc's own.
+-- shape, a number with a fraction isn't whole, and a number or a length may be outside its range.
+-- Of these only the first is found at one value. A dictionary that lacks a key fails itself.
+-- fontc's own.
 use Rattle.std.specs.Prelude.{ℕ, Bool, false, ◌&&◌, ◌==◌, nat_le, List, [], ◌∷◌, length, Option,
     Some, None, is_some, flat_map, if◌then◌else◌}
 use Rattle.plist_reader.specs.declared.tree.Tree.{Tree}

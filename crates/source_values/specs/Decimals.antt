@@ -1,8 +1,6 @@
 -- Decimals, as a source writes them: an optional minus sign, digits, and maybe a point and more
--- digits. A decimal is
--- exact to nine digits of fraction; later digits are dropped. fontc's own reading of the numbers of
--- the Glyphs file
--- format, version 3.
+-- digits. A decimal is exact to nine digits of fraction; later digits are dropped. fontc's own
+-- reading of the numbers of the Glyphs file format, version 3.
 use Rattle.std.specs.Prelude.{ℕ, ◌+◌, ◌-◌, ◌*◌, zero, suc, min, Bool, true, false, ◌&&◌, ◌||◌, not,
     ◌==◌, nat_lt, nat_le, List, take, drop, length, fold, position, slice_index, slice_index_or,
     Option, Some, None, if◌then◌else◌}
@@ -53,8 +51,7 @@ decimal_of text = if slice_index text 0 == 45 then unsigned_of true (drop 1 text
     false text
 
 -- a decimal with its parts cut to 1000000000, which is greater than each number that any value of a
--- source may have.
--- Billionths are below it anyway
+-- source may have. Billionths are below it anyway
 abbrev pub cut : Decimal → Decimal
 cut d = record { negative = d.negative; whole = min d.whole 1000000000; billionths
     = min d.billionths 1000000000 }

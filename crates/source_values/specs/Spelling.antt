@@ -1,8 +1,6 @@
 -- What it is that a text spells a decimal, in the words of its parts: a sign, digits, and maybe a
--- point and more digits, of
--- which those after the ninth don't count. A law above `Decimals`. fontc's own reading of the
--- numbers of the Glyphs file
--- format, version 3.
+-- point and more digits, of which those after the ninth don't count. A law above `Decimals`.
+-- fontc's own reading of the numbers of the Glyphs file format, version 3.
 use Rattle.std.specs.Prelude.{◌≡◌, ℕ, Bool, true, false, List, [], ◌∷◌, ◌++◌, take, codes}
 use Rattle.std.specs.List.{list_all}
 use Rattle.std.specs.Char.{is_ascii_digit}

@@ -1,8 +1,6 @@
 -- Which values of a source fail which rule. A way leads from a value to others inside it; a table
--- says of each way what is
--- asked of the values that it reaches, and by which rule they fail. A law above the rules that the
--- readers note, in words
--- that know no order. fontc's own.
+-- says of each way what is asked of the values that it reaches, and by which rule they fail. A law
+-- above the rules that the readers note, in words that know no order. fontc's own.
 use Rattle.std.specs.Prelude.{◌≡◌, ℕ, Bool, true, false, List, [], ◌∷◌, ◌++◌, length, Option, Some,
     None, is_some, slice_get, ◌⊎◌, ◌↔◌, ◌==◌, if◌then◌else◌}
 use Rattle.std.specs.Option.{option_map_or}
@@ -19,8 +17,7 @@ IsOneOf [] x = ⊥
 IsOneOf (y ∷ ys) x = (x ≡ y) ⊎ IsOneOf ys x
 
 -- a step of a way: to the value under a key, to each value of a list, to the value at a place of a
--- list, or none, from a
--- value that passes a test
+-- list, or none, from a value that passes a test
 pub data Step : Type 0 where
   under : List ℕ → Step
   each_item : Step

@@ -20,8 +20,7 @@ pub struct Decimal {
 }
 
 /// A text spells a decimal exactly where the definition of reading gives it: digits of a fraction
-/// after the ninth don't count.
-/// A law: the function does nothing.
+/// after the ninth don't count. A law: the function does nothing.
 pub fn texts_spell_their_decimals()
     ensures { (text : List ℕ) (decimal : SeenDecimal)
         → (decimal_of text ≡ Some decimal) ↔ Spells text decimal }

@@ -120,8 +120,7 @@ pub fn copied(alloc: Global, text: Option<&str>) -> Result<Text, AllocError>
 }
 
 /// The whole number that a dictionary has under a key; `missing` where it has none, and `low` where
-/// it is not from `low`
-/// to `high`.
+/// it is not from `low` to `high`.
 pub fn natural_or(tree: &Tree, pairs: u32, key: &[u8], low: u16, high: u16, missing: u16) -> u16
     requires { low ≤ high }
     ensures value { result ≡ natural_or low high missing tree.now pairs key.now }

@@ -1,6 +1,5 @@
 -- The numbers that tables are made of (OpenType 1.9, "Data types"): the highest byte first, a
--- negative number as its two's
--- complement. And the bytes that are written to fill a table up.
+-- negative number as its two's complement. And the bytes that are written to fill a table up.
 use Rattle.std.specs.Prelude.{ℕ, ◌-◌, ◌%◌, ℤ, List, ◌++◌, length, replicate}
 use Rattle.std.specs.Int.{w16, w32, w64, to_be_bytes, cast_unsigned}
 

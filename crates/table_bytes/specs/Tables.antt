@@ -10,8 +10,7 @@ abbrev pub over_limit : ℕ → Option ℕ
 over_limit n = if nat_lt 4294967295 n then Some (min n 18446744073709551615) else None
 
 -- `too_large` is the length that is over the limit, if one is. Exactly then it is the error, and
--- else what was built, seen by
--- view, is the value, unless memory ran out.
+-- else what was built, seen by view, is the value, unless memory ran out.
 abbrev pub BuildsRefused : TableError → Option ℕ → Type 0
 BuildsRefused (table_errors.TooLarge n) too_large = too_large ≡ Some n
 BuildsRefused table_errors.NoMemory too_large = too_large ≡ None

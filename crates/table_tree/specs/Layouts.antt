@@ -1,12 +1,10 @@
 -- The bytes of a tree of offsets (OpenType 1.9, "Data types": an Offset16 or an Offset32 counts
--- from the first byte of the
--- table that has it, and 0 is an offset to nothing). Which part stands where is fontc's own. The
--- near part of a node is its fields,
--- and behind them the near parts of the nodes that its offsets lead to, in the order of the fields;
--- a node that is equal to an earlier
--- such node of the same parent stands once. Behind the near part of the whole tree stand the
--- layouts of the nodes that its far
--- offsets lead to, in the order in which these offsets stand there; such a node is never shared.
+-- from the first byte of the table that has it, and 0 is an offset to nothing). Which part stands
+-- where is fontc's own. The near part of a node is its fields, and behind them the near parts of
+-- the nodes that its offsets lead to, in the order of the fields; a node that is equal to an
+-- earlier such node of the same parent stands once. Behind the near part of the whole tree stand
+-- the layouts of the nodes that its far offsets lead to, in the order in which these offsets stand
+-- there; such a node is never shared.
 use Rattle.std.specs.Prelude.{ℕ, ◌+◌, ◌-◌, List, [], ◌∷◌, ◌++◌, length, map, nat_eq, nat_lt,
     if◌then◌else◌, Option, Some, None, is_some}
 use Rattle.std.specs.List.{flat_map}
@@ -65,8 +63,7 @@ first_above (offset width value ∷ pieces)
 -- ---- near parts
 
 -- What a near part has in order: pieces, and far offsets. Of a far offset, where the node that has
--- it begins in the near part, and
--- the layout of the node that it leads to.
+-- it begins in the near part, and the layout of the node that it leads to.
 pub data Cell : Type 0 where
   settled : Piece → Cell
   far_offset : ℕ → List Piece → Cell
@@ -84,8 +81,7 @@ moved place (settled piece) = settled piece
 moved place (far_offset start layout) = far_offset (place + start) layout
 
 -- a field of a node: its bytes; or the width of an offset, and the spelling and the near part of
--- the node that it leads to; or
--- the layout of the node that a far offset leads to
+-- the node that it leads to; or the layout of the node that a far offset leads to
 pub data Item : Type 0 where
   plain_item : List ℕ → Item
   near_item : Width → List ℕ → List Cell → Item
@@ -97,8 +93,7 @@ item_length (near_item width spelled cells) = bytes_in width
 item_length (far_item layout) = bytes_in four
 
 -- Where nodes stand, by their spellings, and where the next one will. A node stands where one with
--- its spelling does, and else it
--- is the next.
+-- its spelling does, and else it is the next.
 abbrev pub Places : Type 0
 Places = List (List ℕ × ℕ)
 

@@ -1,6 +1,6 @@
 -- That offsets lead to what they should, counted from the first byte of the node that has them: a
--- near offset to the near part of its
--- node, cell by cell, and a far offset to the layout of its node, piece by piece.
+-- near offset to the near part of its node, cell by cell, and a far offset to the layout of its
+-- node, piece by piece.
 use Rattle.std.specs.Prelude.{◌≡◌, ℕ, List, [], ◌∷◌, ◌+◌, ◌++◌, map, drop, slice_get, Some}
 use Rattle.table_tree.specs.Trees.{Tree, Width, four, end, number, bytes, null, near, far}
 use Rattle.table_tree.specs.Layouts.{Piece, offset, length_of, Cell, settled, far_offset, moved,
@@ -33,8 +33,7 @@ abbrev pub NearOffsetsLead : Tree → Type 0
 NearOffsetsLead tree = FieldsLead (near_part tree) (near_part tree) tree
 
 -- The first of these pieces is an offset of 32 bits. From the first byte of its node, so many bytes
--- behind the first of all, it leads
--- to these pieces.
+-- behind the first of all, it leads to these pieces.
 pub record IsFarOffsetTo (whole pieces : List Piece) (start : ℕ) (layout : List Piece)
     : Type 0 where
   pub value : ℕ

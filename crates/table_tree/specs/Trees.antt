@@ -1,6 +1,5 @@
 -- Trees of offsets as plain values, and how a tree is spelled as a list of numbers. That nodes with
--- the same spelling are one node
--- is `spelling_injective`.
+-- the same spelling are one node is `spelling_injective`.
 use Rattle.std.specs.Prelude.{◌≡◌, ℕ, ◌+◌, List, [], ◌∷◌, ◌++◌}
 use Rattle.std.specs.Coded.{Coded, coded_ℕ, coded_list}
 use Rattle.std.proofs.Common.{refl, ap, sym, ◌∙◌, append_assoc, arith}
@@ -17,9 +16,8 @@ bytes_in two = 2
 bytes_in four = 4
 
 -- A node is the list of its fields (OpenType 1.9, "Data types"): unsigned numbers, bytes, offsets
--- to nothing, offsets to a node
--- that stands near, and offsets of 32 bits to one that stands far. Each constructor puts one field
--- before the others.
+-- to nothing, offsets to a node that stands near, and offsets of 32 bits to one that stands far.
+-- Each constructor puts one field before the others.
 pub data Tree : Type 0 where
   end : Tree
   number : Width → ℕ → Tree → Tree

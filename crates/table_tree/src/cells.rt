@@ -18,8 +18,7 @@ pub enum Piece<'a> {
 }
 
 /// What a near part has in order: a piece; or a far offset, with where the node that has it begins
-/// in the near part, and with the
-/// layout of the node that it leads to.
+/// in the near part, and with the layout of the node that it leads to.
 #[derive(Drop)]
 pub enum Cell<'a> {
     Settled(Piece<'a>),

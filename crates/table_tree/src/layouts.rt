@@ -13,20 +13,18 @@ use std::alloc::Global;
 use table_bytes::{push_uint16, push_uint32};
 
 /// The bytes of a tree of offsets (OpenType 1.9, "Data types"): the near part of the tree, its
-/// fields and behind them the near parts
-/// of the nodes that its offsets lead to, in the order of the fields; then the layouts of the nodes
-/// that far offsets lead to, in the
-/// order in which these offsets stand in the near part. A node that is equal to an earlier one that
-/// a near offset of the same
-/// parent leads to stands once. Each offset counts from the first byte of the node that has it.
+/// fields and behind them the near parts of the nodes that its offsets lead to, in the order of the
+/// fields; then the layouts of the nodes that far offsets lead to, in the order in which these
+/// offsets stand in the near part. A node that is equal to an earlier one that a near offset of the
+/// same parent leads to stands once. Each offset counts from the first byte of the node that has
+/// it.
 ///
 /// The error is `Offset` exactly where an offset is greater than its width holds, and has the first
-/// such, by its place in the
-/// bytes. Else memory can run out.
+/// such, by its place in the bytes. Else memory can run out.
 ///
 /// Of any node, each near offset leads to the near part of its node, and each far offset to the
-/// layout of its node. Nodes are
-/// compared by their spellings, and those with one spelling are equal.
+/// layout of its node. Nodes are compared by their spellings, and those with one spelling are
+/// equal.
 pub fn layout(alloc: Global, tree: &Node) -> Result<Vec<u8>, LayoutError>
     ensures bytes { LaysOut result (layout_of tree.now) }
     ensures near { (node : Tree) → NearOffsetsLead node }

@@ -1,7 +1,6 @@
 -- What the seats at a turnstile's table know of the history, and how it is given out and taken in.
--- fontc's own.
--- A seat has members: one for a pass, all of them for the first seat and for the last, and none
--- once it was joined.
+-- fontc's own. A seat has members: one for a pass, all of them for the first seat and for the last,
+-- and none once it was joined.
 use Rattle.std.specs.Prelude.{◌≡◌, ℕ, zero, suc, ◌+◌, nat_eq, count_by, List, [], ◌∷◌, ◌++◌, length}
 use Rattle.turnstile.specs.Entries.{BeginsWith, entries_of}
 use Rattle.turnstile.specs.declared.knowledge.Stage.TheVariants.{Away}

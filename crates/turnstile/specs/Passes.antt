@@ -16,8 +16,7 @@ pub record TurnstileView : Type 0 where
   pub passes : ℕ
 
 -- of which turnstile the pass is, its number, what it has seen of the history, which entries it
--- made, the root of the
--- value, and whether it has a turn out
+-- made, the root of the value, and whether it has a turn out
 pub record PassView (E T : Type 0) : Type 0 where
   pub table : TableId
   pub worker : ℕ
@@ -52,8 +51,7 @@ module _ {E T : Type 0} where
       ++ drop (length p.seen) list; is_out = false }
 
   -- a list of entries, and a root, that a pass agrees with: the list begins with what the pass has
-  -- seen, and has of its
-  -- number just the entries that it made
+  -- seen, and has of its number just the entries that it made
   pub record IsHistoryOf (list : List (ℕ × E)) (root : T) (p : PassView E T) : Type 0 where
     pub begins : BeginsWith list p.seen
     pub mine : entries_of p.worker list ≡ p.mine

@@ -1,7 +1,6 @@
 -- The rule of a turnstile: what holds of its words, its slot and what its seats know, between any
--- two steps. fontc's own.
--- Word 0 is the history's length, word 1 the next ticket, and word 2 the ticket that is served. The
--- one slot has the value.
+-- two steps. fontc's own. Word 0 is the history's length, word 1 the next ticket, and word 2 the
+-- ticket that is served. The one slot has the value.
 use Rattle.std.specs.Prelude.{◌≡◌, ◌⊎◌, ℕ, ◌+◌, ◌%◌, ◌^◌, ◌<◌, ◌≤◌, List, [], ◌∷◌, length, Option,
     Some}
 use Rattle.std.specs.List.{sum_by}

@@ -81,8 +81,7 @@ module _ {B E T : Type 0} where
     pub same_root : root value ≡ m.root
 
   -- the pass has a turn out, and may end it with this value: its list has at most one entry more,
-  -- of this worker, and its
-  -- root is as it was
+  -- of this worker, and its root is as it was
   pub record MayLeave (entries : B → List (ℕ × E)) (root : B → T) (m : Member E T) (ticket : ℕ)
       (value : B) (me : Sat B E T) : Type 0 where
     pub at : ℕ

@@ -2,8 +2,8 @@
 //! they draw.
 //!
 //! The value stands for a list of entries, each with the number of the worker that made it. Every
-//! pass knows how much
-//! of the one list it has seen and which entries are its own, and no turn can take an entry back.
+//! pass knows how much of the one list it has seen and which entries are its own, and no turn can
+//! take an entry back.
 #![tactic(auto)]
 
 mod counted;

@@ -11,9 +11,8 @@ use std::marker::Model;
 use std::snapshot::Snapshot;
 
 /// The right to take turns at one turnstile. A contract sees which turnstile it is, the pass's
-/// number, what the pass has
-/// seen of the list of entries, which of them it made, the value's root, and whether it has a turn
-/// out.
+/// number, what the pass has seen of the list of entries, which of them it made, the value's root,
+/// and whether it has a turn out.
 #[derive(Drop)]
 pub struct Pass<B: Counted> {
     worker: u32,

@@ -87,9 +87,8 @@ fn open_table<B: Counted + Drop>(
 
 impl<B: Counted> Turnstile<B> {
     /// Ends the turnstile: takes all its passes, none of which may have a turn out, and gives the
-    /// value back. It takes no
-    /// memory. The other answer, which is free for want of memory, would hand back what was handed
-    /// in.
+    /// value back. It takes no memory. The other answer, which is free for want of memory, would
+    /// hand back what was handed in.
     pub fn close(self, passes: Vec<Pass<B>>) -> Result<B, (Turnstile<B>, Vec<Pass<B>>)>
         requires mine { All (λ p. (p.table ≡ self.table) × (p.is_out ≡ false)) passes.items }
         requires all { length passes.items ≡ self.passes }
@@ -108,8 +107,7 @@ impl<B: Counted> Turnstile<B> {
     }
 
     /// Waits for the pass's turn, and lends the value. The list has all that the pass has seen, and
-    /// of its number just
-    /// the entries that it made. It takes no memory.
+    /// of its number just the entries that it made. It takes no memory.
     pub fn enter<R: Wait>(&self, rt: &R, pass: &mut Pass<B>) -> Turn<B>
         requires pass { pass.old.table ≡ self.now.table }
         requires free { pass.old.is_out ≡ false }

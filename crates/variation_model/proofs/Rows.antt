@@ -115,10 +115,8 @@ unfolding deltas_of supports_of order_of
 corners_above = refl
 
 -- two axes, and masters of every kind, listed out of order: the zero one is first; then those on
--- the first axis, minus before
--- plus and near before far; then that on the second axis; then those off the axes, of which the
--- last has a number that no
--- master has alone
+-- the first axis, minus before plus and near before far; then that on the second axis; then those
+-- off the axes, of which the last has a number that no master has alone
 abbrev minus : ℕ → F2Dot14
 minus n = record { 0 = negsuc n }
 
@@ -183,8 +181,8 @@ unfolding supports_of order_of
 steep_last = refl
 
 -- where each delta is formed from the rounded ones before, the values 0, 1/2 and 9.8 have the
--- deltas 0, 1 and 9; formed from
--- unrounded ones the last would be 10, and miss the third master by 0.7
+-- deltas 0, 1 and 9; formed from unrounded ones the last would be 10, and miss the third master by
+-- 0.7
 slanted_rounded : deltas_of slanted (value (pos 0) ∷ value (pos 32768) ∷ value (pos 642253) ∷ [])
     ≡ pos 0 ∷ pos 1 ∷ pos 9 ∷ []
 unfolding deltas_of supports_of order_of

@@ -1,8 +1,7 @@
 -- Which sides of a region an earlier place cuts. A place that is inside a region has a ratio on
--- each axis where it isn't the peak:
--- how far it is from the peak, over how far the region reaches there. On the axes whose ratio no
--- other exceeds, the side toward
--- the place ends at its number from then on; all other sides stay. That is fontc's own.
+-- each axis where it isn't the peak: how far it is from the peak, over how far the region reaches
+-- there. On the axes whose ratio no other exceeds, the side toward the place ends at its number
+-- from then on; all other sides stay. That is fontc's own.
 use Rattle.std.specs.Prelude.{◌≡◌, ◌⊎◌, ℕ, ◌+◌, ◌<◌, List, length, slice_index_or, ℤ, pos, ◌-ℤ◌,
     ◌*ℤ◌, ◌≤ℤ◌, ◌<ℤ◌, EachIndex}
 use Rattle.fixed_math.specs.declared.F2Dot14.{F2Dot14}
@@ -32,8 +31,7 @@ IsInside sides place = EachIndex sides (λ axis. IsWithin (side_on axis sides)
     (coordinate_on axis place))
 
 -- the ratio on an axis, as numerator and denominator: how far a number is from the peak, over how
--- far the region reaches there.
--- At the peak there is none.
+-- far the region reaches there. At the peak there is none.
 abbrev pub HasRatio : Side → F2Dot14 → ℤ × ℤ → Type 0
 HasRatio side v ratio =
     ((v.0 <ℤ side.1.0) × (ratio ≡ (side.1.0 -ℤ v.0, side.1.0 -ℤ side.0.0)))

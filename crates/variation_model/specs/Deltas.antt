@@ -1,10 +1,8 @@
 -- The deltas of a value that has a number at each place, and the number that they give at a place.
--- A default value and deltas
--- over regions stand for a value at each master, and their sum by scalars is the value at an
--- instance (OpenType 1.9, "Font
--- variations common table formats", "Algorithm for interpolation of instance values"). That each
--- delta is formed from the
--- earlier ones as they are stored, and so rounded, is fontc's own.
+-- A default value and deltas over regions stand for a value at each master, and their sum by
+-- scalars is the value at an instance (OpenType 1.9, "Font variations common table formats",
+-- "Algorithm for interpolation of instance values"). That each delta is formed from the earlier
+-- ones as they are stored, and so rounded, is fontc's own.
 use Rattle.std.specs.Prelude.{◌≡◌, ℕ, ◌+◌, Bool, ◌&&◌, if◌then◌else◌, List, [], ◌∷◌, ◌++◌, map,
     slice_index_or, ℤ, pos, negsuc, ◌+ℤ◌, ◌-ℤ◌, ◌*ℤ◌, int_le, Option, Some, None, Result, Ok, Err,
     Vec}
@@ -30,8 +28,7 @@ abbrev pub region_at : List Region → ℕ → Region
 region_at regions i = slice_index_or regions i (record { sides = [] })
 
 -- the deltas of the places that are left, after those of the earlier ones: what a value lacks there
--- of what the earlier deltas
--- give, rounded
+-- of what the earlier deltas give, rounded
 abbrev pub deltas_after : List Region → List ℤ → List (List F2Dot14) → List ℤ → List ℤ
 deltas_after regions earlier [] values = []
 deltas_after regions earlier (place ∷ places) [] = []

@@ -1,6 +1,5 @@
 -- What holds of the order, of the supports and of the deltas of any places that a model has. Order,
--- supports and rounding are
--- fontc's own, and so are their laws.
+-- supports and rounding are fontc's own, and so are their laws.
 use Rattle.std.specs.Prelude.{◌≡◌, ◌≢◌, ◌⊎◌, ℕ, ◌<◌, ◌≤◌, Bool, true, false, List, length,
     replicate, take, ℤ, pos, ◌-ℤ◌, unsigned_abs, All, Contains, EachIndex, FitsSigned,
     slice_index_or, Result, Ok, Err, Vec}
@@ -88,8 +87,7 @@ MeetWithinHalf places values deltas =
         value_at_place values i) ≤ 32768)
 
 -- what is given at a place differs from each value there by at most one half, in 16.16, if the
--- deltas are the value's and the
--- place is one of these
+-- deltas are the value's and the place is one of these
 abbrev pub IsWithinHalfOfValues : List (List F2Dot14) → List ℤ → List F2Dot14 → ℤ → Type 0
 IsWithinHalfOfValues places deltas at given =
     (values : List Fixed) (i : ℕ) → deltas ≡ deltas_of places values → i < length places

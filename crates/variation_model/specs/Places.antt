@@ -33,8 +33,8 @@ abbrev pub sign_of : ℕ × F2Dot14 → ℕ
 sign_of coordinate = if int_lt coordinate.1.0 (pos 0) then 0 else 1
 
 -- what places are compared by, the first difference deciding: how many coordinates are active; how
--- many of them are not on
--- an axis; the axes of the active ones; their signs, minus first; their absolute values
+-- many of them are not on an axis; the axes of the active ones; their signs, minus first; their
+-- absolute values
 abbrev pub key_among : List (ℕ × F2Dot14) → List (ℕ × F2Dot14) → List ℕ
 key_among on_axis coordinates =
     length coordinates

@@ -1,7 +1,6 @@
 -- The scalar of a region at a place, in 16.16: by how much the region's deltas count there
--- (OpenType 1.9, "Font variations
--- common table formats", "Algorithm for interpolation of instance values"). The rounding and its
--- order are fontc's own.
+-- (OpenType 1.9, "Font variations common table formats", "Algorithm for interpolation of instance
+-- values"). The rounding and its order are fontc's own.
 use Rattle.std.specs.Prelude.{◌||◌, if◌then◌else◌, List, [], ◌∷◌, ℤ, pos, ◌-ℤ◌, int_lt, int_le}
 use Rattle.std.specs.Ordering.{int_eq}
 use Rattle.fixed_math.specs.declared.F2Dot14.{F2Dot14}

@@ -1,6 +1,6 @@
 -- The support of each place: the region where the delta that is stored for it has an effect
--- (OpenType 1.9, "Font variations
--- common table formats", "Variation regions"). How far a region reaches is fontc's own.
+-- (OpenType 1.9, "Font variations common table formats", "Variation regions"). How far a region
+-- reaches is fontc's own.
 use Rattle.std.specs.Prelude.{ℕ, ◌+◌, ◌*◌, Bool, true, not, ◌&&◌, ◌||◌, if◌then◌else◌, List, [],
     ◌∷◌, ◌++◌, slice_index_or, ℤ, pos, ◌-ℤ◌, int_lt, nat_lt, unsigned_abs}
 use Rattle.std.specs.List.{fold}

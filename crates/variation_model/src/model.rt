@@ -48,10 +48,9 @@ impl std::marker::Model for Model {
 
 impl Model {
     /// The model of these places, which are normalised coordinates: fewer than 4,294,967,296, each
-    /// with one coordinate per axis,
-    /// all different, and one of them zero on every axis. It takes time for at most the square of
-    /// the number of places times the
-    /// number of axes, and keeps a scalar for each two places.
+    /// with one coordinate per axis, all different, and one of them zero on every axis. It takes
+    /// time for at most the square of the number of places times the number of axes, and keeps a
+    /// scalar for each two places.
     pub fn new(alloc: Global, places: &[Location]) -> Result<Model, NoMemory>
         requires few { length places.now < 2 ^ 32 }
         requires one_length { EachIndex places.now
@@ -76,8 +75,7 @@ impl Model {
     }
 
     /// The positions of the places in the model's order, which is fontc's own. A position counts
-    /// from 0 in the caller's order, the
-    /// one in which the model was given the places.
+    /// from 0 in the caller's order, the one in which the model was given the places.
     pub fn order(&self) -> &[u32]
         ensures value { result.now ≡ order_of self.now }
         ensures sorted { IsInOrder self.now result.now }
@@ -88,11 +86,9 @@ impl Model {
     }
 
     /// The region of each place, in the model's order: start, peak and end on each axis, in 2.14
-    /// (OpenType 1.9, "Font variations
-    /// common table formats", "Variation regions"). How far a region reaches is fontc's own: each
-    /// earlier place that is inside it
-    /// cuts it, on the axes on which the place is farthest from the peak for how far the region
-    /// reaches there.
+    /// (OpenType 1.9, "Font variations common table formats", "Variation regions"). How far a
+    /// region reaches is fontc's own: each earlier place that is inside it cuts it, on the axes on
+    /// which the place is farthest from the peak for how far the region reaches there.
     pub fn supports(&self) -> &[Region]
         ensures value { result.now ≡ supports_of self.now }
         ensures as_many { length result.now ≡ length self.now }
@@ -107,14 +103,12 @@ impl Model {
     }
 
     /// The deltas of a value, in whole font units and in the model's order. The value's numbers at
-    /// the places are in 16.16, and
-    /// in the order in which the model was given the places. Each delta is formed from the earlier
-    /// ones as they are answered, and
-    /// rounded to the nearest, a tie going up. The error is `TooLarge` exactly where a delta is
-    /// outside an `i16`, and has the first
-    /// such, with its number in the model's order; the later ones are not formed. Else memory can
-    /// run out. It takes time for at
-    /// most the square of the number of places, and memory for its answer alone.
+    /// the places are in 16.16, and in the order in which the model was given the places. Each
+    /// delta is formed from the earlier ones as they are answered, and rounded to the nearest, a
+    /// tie going up. The error is `TooLarge` exactly where a delta is outside an `i16`, and has the
+    /// first such, with its number in the model's order; the later ones are not formed. Else memory
+    /// can run out. It takes time for at most the square of the number of places, and memory for
+    /// its answer alone.
     pub fn deltas(&self, alloc: Global, values: &[Fixed]) -> Result<Vec<i16>, DeltaError>
         requires { length values.now ≡ length self.now }
         ensures deltas { GivesDeltas result (deltas_of self.now values.now) }
@@ -134,12 +128,10 @@ impl Model {
     }
 
     /// What the deltas, one per place in the model's order, give at a place, which has one
-    /// coordinate per axis: the sum of the
-    /// deltas, each times its region's scalar there, over 65536 (OpenType 1.9, "Font variations
-    /// common table formats", "Algorithm
-    /// for interpolation of instance values"). The deltas of a value give at each place of the
-    /// model its number there, up to one
-    /// half. It takes no memory.
+    /// coordinate per axis: the sum of the deltas, each times its region's scalar there, over 65536
+    /// (OpenType 1.9, "Font variations common table formats", "Algorithm for interpolation of
+    /// instance values"). The deltas of a value give at each place of the model its number there,
+    /// up to one half. It takes no memory.
     pub fn value_at(&self, deltas: &[i16], at: &[F2Dot14]) -> i64
         requires deltas { length deltas.now ≡ length self.now }
         requires axes { length at.now ≡ axis_count self.now }

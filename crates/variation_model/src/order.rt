@@ -118,8 +118,7 @@ fn active(alloc: Global, place: &[F2Dot14]) -> Result<Vec<Coordinate>, AllocErro
 }
 
 /// What a place with these active coordinates is compared by: how many there are, how many of them
-/// are not on an axis, their
-/// axes, their signs with minus first, and their absolute values.
+/// are not on an axis, their axes, their signs with minus first, and their absolute values.
 fn key(
     alloc: Global,
     on_axis: &[Coordinate],

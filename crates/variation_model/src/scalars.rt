@@ -5,8 +5,8 @@ use fixed_math::{F2Dot14, Fixed, mul, ratio};
 use font_ir::Region;
 
 /// By how much the deltas of a region count at a place, in 16.16, from 0 to 1 (OpenType 1.9, "Font
-/// variations common table
-/// formats"). The place has one coordinate per axis of the region. It takes no memory.
+/// variations common table formats"). The place has one coordinate per axis of the region. It takes
+/// no memory.
 pub fn scalar(region: &Region, at: &[F2Dot14]) -> Fixed
     requires { length at.now ≡ length region.now.sides }
     ensures value { result.0 ≡ scalar_of region.now.sides at.now }

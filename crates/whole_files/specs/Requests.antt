@@ -18,8 +18,7 @@ pub data AreRoomyReads (path : List ℕ) : List Call → Type 0 where
       → AreRoomyReads path (calls ++ ReadCall path room ∷ [])
 
 -- These calls begin this path, and then offer it bytes, each append all that the calls before it
--- have left: behind them
--- these bytes are left.
+-- have left: behind them these bytes are left.
 pub data OfferAll (path bytes : List ℕ) : List Call → List ℕ → Type 0 where
   begun : OfferAll path bytes (BeginCall path ∷ []) bytes
   one_more_append : (calls : List Call) (left : List ℕ) (taken : ℕ) → OfferAll path bytes calls left

@@ -39,8 +39,7 @@ impl From<AllocError> for ReadWholeError {
 /// past the limit.
 ///
 /// `TooLong` says that there are more, `Failed` that a read failed, and `NoMemory` that memory ran
-/// out. Whatever it answers, each
-/// path is as before.
+/// out. Whatever it answers, each path is as before.
 #[tactic(auto, using(crate::proofs::Asked::no_reads_yet, crate::proofs::Asked::read_with_room))]
 pub fn read_whole<F: Files>(
     alloc: Global,
@@ -129,7 +128,8 @@ pub fn write_whole<F: Files>(files: &mut F, path: &str, bytes: &[u8]) -> Result<
     ensures ok { OnOk result (Leaves (replaced_by bytes.now (F.holds files.old path.now))
         (F.holds files.new path.now)) }
     ensures err { OnErr result (Leaves (F.holds files.old path.now) (F.holds files.new path.now)
-        ⊎ ((n : ℕ) × Leaves (replaced_by (take n bytes.now) (F.holds files.old path.now)) (F.holds files.new path.now))) }
+        ⊎ ((n : ℕ) × Leaves (replaced_by (take n bytes.now) (F.holds files.old path.now))
+            (F.holds files.new path.now))) }
     ensures others { LeavesOthers path.now (F.holds files.old) (F.holds files.new) }
 
     // It fails only where the count of failed writes of this path rose.

@@ -1,10 +1,9 @@
 //! Runs fontc on worked sources, and compares how each run ends with how it must end.
 //!
 //! Each word of the command line names a file of rows; `data/header.rows` says how a row is
-//! written. A row is run over files
-//! and a console in memory, and where it asks for that over the files of the system too. The table
-//! of rows that passed is
-//! printed, and a line for each that differs; the exit status is 1 where one does.
+//! written. A row is run over files and a console in memory, and where it asks for that over the
+//! files of the system too. The table of rows that passed is printed, and a line for each that
+//! differs; the exit status is 1 where one does.
 #![tactic(auto)]
 
 mod ending;

@@ -75,9 +75,8 @@ fn counts_appends<F: Files>(rt: &HostRuntime, files: &mut F) -> Result<bool> {
 }
 
 /// Whether a place gives the same bytes when it is read a second time, right after the first and
-/// after another place, and
-/// whether a read goes by its place alone, also behind one that met the end of a path that then
-/// grows.
+/// after another place, and whether a read goes by its place alone, also behind one that met the
+/// end of a path that then grows.
 fn reads_twice<F: Files>(rt: &HostRuntime, files: &mut F) -> Result<bool> {
     fs::write(rt, PATH, "glyfhmtxloca")?;
     let is_again = reads(files, 0, b"glyf")
