@@ -5,9 +5,9 @@ use Rattle.std.specs.Prelude.{min, codes, if◌then◌else◌}
 use Rattle.std.proofs.lemmas.Bool.Decides.{nat_tests}
 use Rattle.refusal_codes.specs.declared.refusal.Refusal.{Refusal}
 use Rattle.refusal_codes.specs.Gives.{◌>>=◌}
+use Rattle.plist_reader.specs.declared.tree.Tree.{Tree}
+use Rattle.plist_reader.specs.Grammar.{HasTree}
 use Rattle.plist_reader.specs.Reading.{read_of}
-use Rattle.plist_reader.proofs.GivenTexts.{given}
-use Rattle.plist_reader.proofs.OneAnswer.{tree-of}
 use Rattle.glyphs_source.specs.HeaderReading.{header_of}
 use Rattle.glyphs_source.specs.IndexReading.{index_of}
 use Rattle.table_bytes.specs.Tables.{over_limit}
@@ -67,9 +67,10 @@ fitting tables font e =
     let fits = unless font_too_large (over_limit (file_len tables)) (Ok (file tables)) font e in
     (small (file_len tables) fits.0, same_file (file tables) font (Ok (file tables)) refl fits.1)
 
-pub accepted_font : (source font : List ℕ) → font_of source ≡ Ok font → IsFontOf source font
+pub accepted_font : (tree_of_computed : (source : List ℕ) (t : Tree) → read_of source ≡ Ok t
+    → HasTree source t) (source font : List ℕ) → font_of source ≡ Ok font → IsFontOf source font
 unfolding font_of tree_font written
-accepted_font source font e =
+accepted_font tree_of_computed source font e =
     let whole = within 67108864 (length source) source_too_large (read_of source >>= tree_font) font
         e in
     let tree = passed (read_of source) tree_font font whole.1 in
@@ -93,7 +94,7 @@ accepted_font source font e =
       index = index.value;
       glyphs = glyphs.value;
       few_bytes = whole.0;
-      read = tree-of source tree.value tree.is;
+      read = tree_of_computed source tree.value tree.is;
       header_read = header.is;
       index_read = index.is;
       drawn = glyphs.is;
@@ -112,11 +113,13 @@ below limit n refusal otherwise few =
 fits : (n : ℕ) → n ≤ 4294967295 → over_limit n ≡ None
 fits n few = is_within n (min n 18446744073709551615) refl (omega arith)
 
-pub font_accepted : (source font : List ℕ) → IsFontOf source font → font_of source ≡ Ok font
+pub font_accepted : (tree_computed : (source : List ℕ) (t : Tree) → HasTree source t
+    → read_of source ≡ Ok t) (source font : List ℕ) → IsFontOf source font
+        → font_of source ≡ Ok font
 unfolding font_of tree_font written
-font_accepted source font f =
+font_accepted tree_computed source font f =
     below 67108864 (length source) source_too_large (read_of source >>= tree_font) f.few_bytes
-    ∙ ap (λ tree. tree >>= tree_font) (given source f.tree f.read)
+    ∙ ap (λ tree. tree >>= tree_font) (tree_computed source f.tree f.read)
     ∙ ap (λ header. header >>= λ header. (index_of f.tree >>= λ index.
         (glyphs_in f.tree header index >>= glyphs_font header))) f.header_read
     ∙ ap (λ index. index >>= λ index. (glyphs_in f.tree f.header index >>= glyphs_font f.header))

@@ -1,3 +1,4 @@
+mod Components
 mod Runs
 mod Steps
 mod Rows

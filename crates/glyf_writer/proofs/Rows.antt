@@ -1,6 +1,8 @@
 -- Worked examples: the bytes of outlines, as fonts from outside have them.
 use Rattle.std.proofs.Common.{◌≡◌, ℕ, ℤ, pos, true, false, List, [], ◌∷◌, replicate, ◌++◌, refl}
 use Rattle.font_ir.specs.declared.outline.StoredPoint.{StoredPoint}
+use Rattle.table_bytes.specs.DataTypes.{padded}
+use Rattle.glyf_writer.specs.CompositeData.{Component, composite_bytes, composite_of}
 use Rattle.glyf_writer.specs.GlyphData.{simple_data, with_repeats}
 use Rattle.glyf_writer.specs.Tables.{loca_bytes}
 
@@ -45,3 +47,18 @@ runs_row = refl
 
 pub no_points_row : simple_data true [] ≡ []
 no_points_row = refl
+
+-- a composite of the triangle alone, moved by 100: of 18 bytes, and two zeros
+abbrev moved : Component
+moved = record { glyph = 1; x = pos 100; y = pos 0 }
+
+pub composite_row : padded (composite_bytes (composite_of
+    (point (pos 350) (pos 700) ∷ point (pos 100) (pos 0) ∷ point (pos 600) (pos 0) ∷ [])
+    (moved ∷ [])))
+    ≡ 255 ∷ 255 ∷ 0 ∷ 100 ∷ 0 ∷ 0 ∷ 2 ∷ 88 ∷ 2 ∷ 188 ∷ 0 ∷ 3 ∷ 0 ∷ 1 ∷ 0 ∷ 100 ∷ 0 ∷ 0 ∷ 0 ∷ 0 ∷ []
+composite_row = refl
+
+-- and where that glyph has no points
+pub empty_composite_row : padded (composite_bytes (composite_of [] (moved ∷ [])))
+    ≡ 255 ∷ 255 ∷ 0 ∷ 0 ∷ 0 ∷ 0 ∷ 0 ∷ 0 ∷ 0 ∷ 0 ∷ 0 ∷ 3 ∷ 0 ∷ 1 ∷ 0 ∷ 100 ∷ 0 ∷ 0 ∷ 0 ∷ 0 ∷ []
+empty_composite_row = refl

@@ -1,3 +1,4 @@
+pub mod CompositeData
 pub mod GlyphData
 pub mod Outlines
 pub mod Tables

@@ -3,10 +3,12 @@
 #![tactic(auto)]
 
 mod bytes;
+mod composite;
 mod flags;
 mod outline;
 mod simple;
 mod tables;
 
+pub use composite::composite_bytes;
 pub use simple::simple_bytes;
 pub use tables::glyf_loca;

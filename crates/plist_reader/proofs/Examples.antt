@@ -189,17 +189,18 @@ depths = refl
 
 -- places count bytes, so also behind a character of two: text behind the value, and an escape that
 -- is none
-behind_accents : outcomes ((34 ∷ 195 ∷ 169 ∷ 34 ∷ (codes "x"))
-    ∷ (34 ∷ 195 ∷ 169 ∷ 92 ∷ (codes "q" ++ (34 ∷ []))) ∷ [])
-    ≡ Some (refusal TrailingText 4) ∷ Some (refusal BadEscape 3) ∷ []
+behind_accents : are_read (
+    (codes "\"" ++ 195 ∷ 169 ∷ codes "\"x", refused TrailingText 4)
+    ∷ (codes "\"" ++ 195 ∷ 169 ∷ codes "\\q\"", refused BadEscape 3) ∷ [])
 unfolding on_literals
 behind_accents = refl
 
 -- of several rules the first holds: a bracket too deep also in a byte string, a key twice before a
 -- bracket too deep, and an escape before both
-first_of_several : outcomes ((replicate 64 40 ++ codes "<(") ∷ (replicate 63 40 ++ codes "{a=1;a(")
-    ∷ (replicate 64 40 ++ (34 ∷ 92 ∷ (codes "("))) ∷ [])
-    ≡ Some (refusal TooDeep 65) ∷ Some (refusal DuplicateKey 68) ∷ Some (refusal BadEscape 65) ∷ []
+first_of_several : are_read (
+    (times 64 (codes "(") ++ codes "<(", refused TooDeep 65)
+    ∷ (times 63 (codes "(") ++ codes "{a=1;a(", refused DuplicateKey 68)
+    ∷ (times 64 (codes "(") ++ codes "\"\\(", refused BadEscape 65) ∷ [])
 unfolding on_literals
 first_of_several = refl
 

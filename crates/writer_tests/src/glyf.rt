@@ -1,5 +1,5 @@
-use fixtures::{GLYPH_DATA, glyph, one_contour, points_at_origin, triangle};
-use glyf_writer::{glyf_loca, simple_bytes};
+use fixtures::{GLYPH_DATA, composite, glyph, one_contour, points_at_origin, triangle};
+use glyf_writer::{composite_bytes, glyf_loca, simple_bytes};
 use std::alloc::Global;
 use std::sync::Arc;
 use std::test::Fail;
@@ -17,6 +17,23 @@ fn the_triangle_stands_behind_a_glyph_without_data(rt: HostRuntime) -> Result<()
     let (glyf, loca) = glyf_loca(rt.alloc(), parts.as_slice())?;
     assert!(rt; glyf == hex::decode(rt.alloc(), GLYPH_DATA)?);
     assert!(rt; loca == hex::decode(rt.alloc(), "00000000000000000000001c")?);
+    Ok(())
+}
+
+#[test]
+fn components_stand_by_their_offsets(rt: HostRuntime) -> Result<(), Fail> {
+    let drawn = composite(rt.alloc(), triangle(rt.alloc())?, (100, 0), (-3, 5))?;
+    let data = composite_bytes(rt.alloc(), &drawn, 0, &[1, 2])?;
+    // No number of contours, the bounds, and of each component flags, glyph and offset. Bit 5 of
+    // the first flags says that another one follows.
+    let expected = hex::decode(
+        rt.alloc(),
+        "ffff0000000001f402bc\
+        0023000100640000\
+        00030002fffd0005\
+        0000",
+    )?;
+    assert!(rt; data == expected);
     Ok(())
 }
 

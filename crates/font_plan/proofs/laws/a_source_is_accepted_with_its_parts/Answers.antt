@@ -3,8 +3,10 @@ use Rattle.font_plan.proofs.laws.a_source_is_accepted_with_its_parts.Goals as go
 
 -- src/laws.rt:9:1
 pub returns-clause-parts : goal.returns-clause-parts
-returns-clause-parts c = accepted_font
+returns-clause-parts c =
+    accepted_font c.sources_have_one_answer.ensures.tree_of_computed
 
 -- src/laws.rt:9:1
 pub returns-clause-accepted : goal.returns-clause-accepted
-returns-clause-accepted c = font_accepted
+returns-clause-accepted c =
+    font_accepted c.sources_have_one_answer.ensures.tree_computed
