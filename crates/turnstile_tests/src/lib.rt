@@ -3,7 +3,7 @@
 
 mod numbers;
 
-pub use numbers::{Numbers, TITLE, all_take_turns, take_turns, written_by};
+pub use numbers::{Numbers, TITLE, all_take_turns, close_list, take_turns, written_by};
 
 #[cfg(test)]
 mod tests;

@@ -15,6 +15,7 @@ ghost use Rattle.std.specs.Prelude.{
   IfOk,
 };
 ghost use Rattle.turnstile.specs.Entries.{AddsAtMostOne, entries_of};
+ghost use Rattle.turnstile.specs.Passes.{IsHistoryOf};
 ghost use Rattle.turnstile_tests.specs.Turns.{numbers_of, IsInOrder, IsFresh, IsDone, SameWorkers};
 
 use refusal_codes::NoMemory;
@@ -156,6 +157,22 @@ pub fn written_by<R: Threads + Wait + Sync>(
     let numbers = Numbers::with_room(alloc, TITLE, 0)?;
     let (turnstile, mut passes) = Turnstile::new(alloc, numbers, workers)?;
     all_take_turns(rt, &turnstile, passes.as_mut_slice(), turns);
+    let list = close_list(turnstile, passes)?;
+    Ok(list)
+}
+
+/// Ends a turnstile whose workers are done: the list begins with what each pass saw, and has of its
+/// number just what it wrote down.
+pub fn close_list(
+    turnstile: Turnstile<Numbers>,
+    passes: Vec<Pass<Numbers>>,
+) -> Result<Numbers, NoMemory>
+    requires done { All (IsDone turnstile) passes.items }
+    requires all { length passes.items ≡ turnstile.passes }
+    ensures history { IfOk result (λ n. All (IsHistoryOf n.entries.items n.title) passes.items) }
+    ensures nobody_else { IfOk result (λ n. (k : ℕ) → turnstile.passes ≤ k
+        → entries_of k n.entries.items ≡ []) }
+{
     match turnstile.close(passes) {
         Ok(closed) => Ok(closed),
         Err(_) => Err(NoMemory),

@@ -55,3 +55,10 @@ fn passes_are_numbered_from_zero(rt: HostRuntime) -> Result<(), Fail> {
     }
     Ok(())
 }
+
+#[test]
+fn one_worker_writes_its_numbers_down(rt: HostRuntime) -> Result<(), Fail> {
+    let numbers = written_by(&rt, rt.alloc(), 1, 3)?;
+    assert!(rt; numbers.entries.as_slice() == [(0, 0), (0, 1), (0, 2)].as_slice());
+    Ok(())
+}

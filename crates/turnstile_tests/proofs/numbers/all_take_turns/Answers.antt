@@ -3,7 +3,7 @@ use Rattle.std.proofs.Crossing.{crosses}
 use denote.Param.Send.{sendable}
 use Rattle.turnstile.specs.Passes.{PassView}
 use Rattle.turnstile_tests.specs.Turns.{IsDone}
-use Rattle.turnstile_tests.proofs.Sending.{seat_send}
+use Rattle.turnstile.specs.Sending.{seat_send}
 use Rattle.turnstile_tests.proofs.numbers.all_take_turns.Goals as goal
 
 pub for_each_mut-requires-send-T : goal.for_each_mut-requires-send-T

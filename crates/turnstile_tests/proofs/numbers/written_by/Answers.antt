@@ -1,7 +1,7 @@
-use Rattle.std.proofs.Common.{◌≡◌, ℕ, false, length, sym, ap, ◌∙◌, arith}
+use Rattle.std.proofs.Common.{length, sym, ap, ◌∙◌, arith}
 use Rattle.std.proofs.lemmas.List.{with_items_is}
-use Rattle.std.proofs.lemmas.List.Elements.{All-same, All-weaker}
-use Rattle.turnstile.specs.Passes.{PassView, IsHistoryOf}
+use Rattle.std.proofs.lemmas.List.Elements.{All-same}
+use Rattle.turnstile.specs.Passes.{IsHistoryOf}
 use Rattle.turnstile_tests.specs.Turns.{IsFresh, IsDone}
 use Rattle.turnstile_tests.proofs.Orders.{fresh, length-new_passes, in_order}
 use Rattle.turnstile_tests.proofs.numbers.written_by.Goals as goal
@@ -12,18 +12,15 @@ all_take_turns-requires-clause-fresh g c κs within =
     All-same (IsFresh t) c.as_mut_slice.result.now _
     (c.as_mut_slice.ensures.value ∙ c.in_ok-turnstile.ensures.each) (fresh t _ 0 c.args.workers)
 
-pub close-requires-clause-mine : goal.close-requires-clause-mine
-close-requires-clause-mine g c =
-    let t = c.in_ok-turnstile.turnstile in
+pub close_list-requires-clause-done : goal.close_list-requires-clause-done
+close_list-requires-clause-done g c =
     let qs = c.all_take_turns.new.passes in
     let same = with_items_is c.in_ok-turnstile.passes qs
     (omega (arith, c.all_take_turns.auto.passes, c.as_mut_slice.ensures.len)) in
-    let Mine : PassView ℕ ℕ → Type 0 = λ p. (p.table ≡ t.table) × (p.is_out ≡ false) in
-    All-same Mine _ qs same (All-weaker (IsDone t) Mine (λ p done. (done.0, done.1)) qs
-    c.all_take_turns.ensures.done)
+    All-same (IsDone c.in_ok-turnstile.turnstile) _ qs same c.all_take_turns.ensures.done
 
-pub close-requires-clause-all : goal.close-requires-clause-all
-close-requires-clause-all g c =
+pub close_list-requires-clause-all : goal.close_list-requires-clause-all
+close_list-requires-clause-all g c =
     let qs = c.all_take_turns.new.passes in
     let same = with_items_is c.in_ok-turnstile.passes qs
     (omega (arith, c.all_take_turns.auto.passes, c.as_mut_slice.ensures.len)) in
@@ -33,17 +30,17 @@ close-requires-clause-all g c =
     ∙ (length-new_passes c.in_ok-turnstile.turnstile _ 0 c.args.workers
     ∙ sym c.in_ok-turnstile.ensures.passes)))
 
-pub returns-in-Ok : goal.returns-in-Ok
-returns-in-Ok g c =
+pub returns : goal.returns
+returns g c =
     let t = c.in_ok-turnstile.turnstile in
     let qs = c.all_take_turns.new.passes in
     let len = c.all_take_turns.auto.passes in
     let same = with_items_is c.in_ok-turnstile.passes qs
     (omega (arith, len, c.as_mut_slice.ensures.len)) in
-    let closed = c.in-Ok.closed in
+    let closed = c.in_ok-list.list in
     let history = All-same (IsHistoryOf closed.entries.items closed.title) qs _ (sym same)
-    c.in-Ok.ensures.history in
+    c.in_ok-list.ensures.history in
     in_order t _ closed.title c.args.workers c.as_mut_slice.result.now qs closed.entries.items
     (c.as_mut_slice.ensures.value ∙ c.in_ok-turnstile.ensures.each) len
     c.all_take_turns.ensures.workers c.all_take_turns.ensures.done history
-    (λ k le. c.in-Ok.ensures.nobody_else k (omega (arith, le, c.in_ok-turnstile.ensures.passes)))
+    (λ k le. c.in_ok-list.ensures.nobody_else k (omega (arith, le, c.in_ok-turnstile.ensures.passes)))

@@ -1,4 +1,5 @@
--- A seat at a table may go to another thread where what the slots hold may.
+-- A seat at a table may go to another thread where what the slots hold may; so a pass may where the
+-- value may. It serves the proofs of crates that start threads.
 use denote.RattleType.{RattleType}
 use denote.Param.Send.{IsSend}
 use Rattle.atomic_table.specs.contracts.shared.Seat.{the_row}
