@@ -5,3 +5,5 @@ pub mod Tickets
 pub mod Rule
 pub mod Steps
 pub mod Passes
+-- lemmas that the proofs of other crates need
+pub mod Sending

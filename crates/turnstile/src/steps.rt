@@ -50,7 +50,7 @@ fn wait_for<B: Counted, R: Wait>(rt: &R, common: &Common<B>, seat: &mut Place<B>
     ensures taken { (at : ℕ) (m : Member B.Entry B.Root) → ticket ≡ at % 2 ^ 64
         → seat.old.me ≡ (seat_of (Waiting at) m, []) → Takes B.entries B.root at m seat.new.me }
 {
-    let mut looks = 0;
+    let mut looks = 1;
     for _ in rt.forever() {
         let served = common.load::<Look>(seat, SERVED);
         if served == ticket {

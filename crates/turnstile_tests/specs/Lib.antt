@@ -1,0 +1,2 @@
+-- What workers write down in their turns at a turnstile. fontc's own.
+pub mod Turns
