@@ -12,7 +12,7 @@ ghost use Rattle.refusal_codes.specs.Gives.{Gives};
 ghost use Rattle.glyphs_source.specs.Repeats.{IsWithoutRepeats, TellsRepeatOf};
 ghost use Rattle.glyphs_source.specs.Same.{same_index, same_index_equiv};
 ghost use Rattle.glyphs_source.specs.IndexReading.{entries_from, glyph_numbers, glyph_name,
-    entry_of, repeated_names, repeats, counting, repeated_codes, index_of};
+    entry_of, repeated_names, repeats, counting, repeated_codes, index_of, AreNamed};
 
 use crate::entries::{IndexEntry, read_entry, read_name};
 use crate::index_rules::note_index;
@@ -91,18 +91,17 @@ impl Eq for GlyphIndex {
     ghost laws = { same_index_equiv };
 }
 
-/// The glyphs that a source names, in the order of the file.
+/// The glyphs that a source names, in the order of the file. Each name has 1 to 255 bytes.
 ///
 /// The error is the least failure by place, then by rule, of the rules of single values; where none
-/// of them fails, it is
-/// the first glyph whose name an earlier one has, or else the first in which a code stands again
-/// among those exported.
-/// Where memory runs out, the error is that.
+/// of them fails, it is the first glyph whose name an earlier one has, or else the first in which a
+/// code stands again among those exported. Where memory runs out, the error is that.
 pub fn glyph_index(alloc: Global, tree: &Tree) -> Result<GlyphIndex, ReadError>
     requires { IsTree tree.now }
     ensures entries { Gives (λ index. index) result (index_of tree.now) }
     ensures few { IfOk result (λ index. length index < 2 ^ 32) }
     ensures distinct { IfOk result IsWithoutRepeats }
+    ensures named { IfOk result AreNamed }
     ensures repeat { IfErr result (TellsRepeatOf tree.now) }
 {
     read_index(alloc, tree)
@@ -146,7 +145,8 @@ fn collect(
 ) -> Result<IndexMap<Name, IndexEntry>, ReadError>
     requires { length glyphs.now < 2 ^ 32 }
     ensures { Gives (λ map. map.entries) result
-        (judged (refusal_of INDEX []) None (foremost (repeated_names tree.now [] glyphs.now)) (entries_from tree.now 0 glyphs.now)) }
+        (judged (refusal_of INDEX []) None (foremost (repeated_names tree.now [] glyphs.now))
+            (entries_from tree.now 0 glyphs.now)) }
 {
     let mut entries = IndexMap::with_capacity(alloc, glyphs.len())?;
     for (number, glyph) in glyphs.iter().enumerate() {
@@ -172,7 +172,8 @@ fn add_glyph(
     ensures again { IfOk result (λ again. again
         ≡ is_among (glyph_name tree.now glyph) (keys_of entries.old.entries)) }
     ensures added { IfOk result (λ again. again ≡ false →
-        entries.new.entries ≡ entries.old.entries ++ (glyph_name tree.now glyph, entry_of tree.now number glyph) ∷ []) }
+        entries.new.entries ≡ entries.old.entries
+            ++ (glyph_name tree.now glyph, entry_of tree.now number glyph) ∷ []) }
 {
     let name = read_name(alloc, tree, glyph)?;
     let entry = read_entry(alloc, tree, number, glyph, &name)?;
