@@ -1,11 +1,15 @@
 -- The place of a name in a list that a set keeps.
 use Rattle.std.proofs.Common.{◌≡◌, ℕ, suc, ◌+◌, Bool, true, false, cond, not, ◌||◌, ◌&&◌, List, [],
-    ◌∷◌, length, map, is_some, Option, Some, None, ltb, refl, ap, sym, ◌∙◌, arith}
-use Rattle.std.specs.List.{position, position_or_len, prefix_len, list_any, IsDistinct,
+    ◌∷◌, ◌++◌, ◌≤◌, length, map, is_some, Option, Some, None, ltb, refl, ap, sym, ◌∙◌, subst,
+    arith}
+use Rattle.std.specs.Prelude.{if◌then◌else◌}
+use Rattle.std.specs.List.{All, position, position_or_len, prefix_len, list_any, IsDistinct,
     AllByRecursion}
 use Rattle.std.specs.Cmp.Lexicographic.{pointwise}
 use Rattle.std.proofs.lemmas.Bool.Decides.{nat_tests}
-use Rattle.std.proofs.lemmas.List.{length-map}
+use Rattle.std.proofs.lemmas.List.{length-map, map-append}
+use Rattle.std.proofs.lemmas.List.Elements.{All-push}
+use Rattle.refusal_codes.specs.declared.limits.TheConstants.{NAME_BYTES}
 
 prefix_len-map : {A B : Type 0} (p : B → Bool) (f : A → B) (xs : List A)
     → prefix_len p (map f xs) ≡ prefix_len (λ x. p (f x)) xs
@@ -72,3 +76,20 @@ pointwise-map e f (x ∷ xs) (y ∷ ys) = ap (λ same. e (f x) (f y) && same) (p
 -- the second of two tests decides where the first passed
 pub and_second : (a b x y : Bool) → x ≡ true → x ≡ a → y ≡ b → y ≡ (a && b)
 and_second a b x y t e f = f ∙ ap (λ first. first && b) (sym t ∙ e)
+
+abbrev IsShort : List ℕ → Type 0
+IsShort name = length name ≤ NAME_BYTES
+
+-- with a short name more, where it isn't there, all are short
+short_kept : {A : Type 0} (f : A → List ℕ) (found : Bool) (keys : List A) (key : A)
+    → All IsShort (map f keys) → IsShort (f key)
+    → All IsShort (map f (if found then keys else keys ++ key ∷ []))
+short_kept f true keys key h k = h
+short_kept f false keys key h k = subst (All IsShort) (sym (map-append f keys (key ∷ [])))
+    (All-push IsShort (map f keys) (f key) h k)
+
+pub short_inserted : {A : Type 0} (f : A → List ℕ) (found : Bool) (keys new : List A) (key : A)
+    → new ≡ (if found then keys else keys ++ key ∷ [])
+    → All IsShort (map f keys) → IsShort (f key) → All IsShort (map f new)
+short_inserted f found keys new key e h k = subst (λ (ks : List _). All IsShort (map f ks)) (sym e)
+    (short_kept f found keys key h k)

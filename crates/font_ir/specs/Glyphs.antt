@@ -1,9 +1,9 @@
 -- The glyphs of a font in the order of their glyph numbers.
 use Rattle.std.specs.Prelude.{◌≡◌, ◌≢◌, ℕ, ◌≤◌, Bool, ◌&&◌, List, length, Option, nat_eq}
-use Rattle.std.specs.List.{AllPairs, position}
+use Rattle.std.specs.List.{All, AllPairs, position}
 use Rattle.std.specs.Option.{option_eq}
 use Rattle.std.specs.Cmp.{IsEquivalence, nat_eq_equiv, on_equiv, and_equiv}
-use Rattle.refusal_codes.specs.declared.limits.TheConstants.{GLYPHS}
+use Rattle.refusal_codes.specs.declared.limits.TheConstants.{GLYPHS, NAME_BYTES}
 use Rattle.std.specs.Cmp.Lexicographic.{pointwise, lists_equiv, options_equiv, nat_list_eq_equiv}
 
 -- each glyph's number in the source, None for a `.notdef` that the compiler made, and each glyph's
@@ -16,10 +16,11 @@ pub record Glyphs : Type 0 where
 abbrev pub gid_of : List (List ℕ) → List ℕ → Option ℕ
 gid_of names name = position (pointwise nat_eq name) names
 
--- at most 65,535 names, all different, and a number for each
+-- at most 65,535 names, all different and of at most 255 bytes, and a number for each
 pub record IsGlyphOrder (order : Glyphs) : Type 0 where
   pub few : length order.names ≤ GLYPHS
   pub different : AllPairs (λ a b. a ≢ b) order.names
+  pub short : All (λ name. length name ≤ NAME_BYTES) order.names
   pub one_number : length order.numbers ≡ length order.names
 
 -- the test that two orders are the same

@@ -1,7 +1,7 @@
 -- What a header fulfils: the ranges of its numbers, lengths and counts, as many coordinates as
 -- axes, masters that lie where their coordinates say, no two of them at one place, and a map from
 -- user to design coordinates on each axis. The ranges are fontc's own.
-use Rattle.std.specs.Prelude.{◌≡◌, ◌≢◌, ℕ, ◌<◌, ◌≤◌, ℤ, pos, neg_ℤ, ◌≤ℤ◌, List, length, map,
+use Rattle.std.specs.Prelude.{◌≡◌, ◌≢◌, ℕ, ◌<◌, ◌≤◌, pos, neg_ℤ, ◌≤ℤ◌, List, length, map,
     slice_index_or}
 use Rattle.std.specs.List.{All, AllPairs}
 use Rattle.fixed_math.specs.declared.Fixed.{Fixed}

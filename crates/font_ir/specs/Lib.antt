@@ -11,5 +11,6 @@ pub mod Places
 pub mod ReadGlyphs
 -- lemmas that the proofs of other crates need
 pub mod ExtremesLaws
+pub mod HeaderLaws
 pub mod PlaceLaws
 pub mod OutlineLaws

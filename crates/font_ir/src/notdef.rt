@@ -14,8 +14,18 @@ use std::alloc::Global;
 /// The `.notdef` of a font whose source has none: without contours, half an em wide (rounded down)
 /// at every master.
 ///
-/// Its number is 4294967295 and its place 0.
+/// Its number is 4294967295 and its place 0. It is a glyph that the writers take.
 pub fn made_notdef(alloc: Global, header: &Header) -> Result<FlatGlyph, NoMemory>
+    requires { IsHeader header.now }
+    ensures glyph { IfOk result (λ glyph. glyph ≡ made_notdef_of header.now) }
+    ensures flat { IfOk result IsFlatGlyph }
+{
+    let glyph = empty_box(alloc, header)?;
+    Ok(glyph)
+}
+
+/// The glyph without contours.
+fn empty_box(alloc: Global, header: &Header) -> Result<FlatGlyph, NoMemory>
     ensures { IfOk result (λ glyph. glyph ≡ made_notdef_of header.now) }
 {
     let masters = header.masters.as_slice();

@@ -3,6 +3,7 @@ ghost use Rattle.std.specs.Prelude.{◌≡◌, ◌≤◌, ◌<◌, ◌++◌, [],
 ghost use Rattle.std.specs.List.{list_any};
 ghost use Rattle.std.specs.Cmp.Lexicographic.{pointwise};
 ghost use Rattle.std.specs.Cmp.{partial_equiv_from_equiv};
+ghost use Rattle.refusal_codes.specs.declared.limits.TheConstants.{GLYPHS, NAME_BYTES};
 ghost use Rattle.font_ir.specs.Glyphs.{gid_of, orders_eq, orders_equiv, IsGlyphOrder};
 
 use indexmap::IndexSet;
@@ -11,7 +12,7 @@ use std::alloc::Global;
 use std::marker::Model;
 
 /// The glyphs of the font, in the order of their glyph numbers: at most 65,535, with different
-/// names.
+/// names of at most 255 bytes.
 ///
 /// A glyph has its place in the source's list of glyphs as its number; `None` is a `.notdef` that
 /// the compiler made.
@@ -80,14 +81,15 @@ impl GlyphOrder {
     }
 
     /// Adds a glyph at the end, unless its name is there: then the answer is false and nothing
-    /// changes. Nor does it where memory runs out.
+    /// changes. Nor does it where memory runs out. The name has at most 255 bytes.
     pub fn push(
         &mut self,
         alloc: Global,
         number: Option<u32>,
         name: &[u8],
     ) -> Result<bool, NoMemory>
-        requires { length self.old.names < 65535 }
+        requires room { length self.old.names < GLYPHS }
+        requires short { length name.now ≤ NAME_BYTES }
         ensures added { IfOk result (λ added. added
             ≡ not (is_some (gid_of self.old.names name.now))) }
         ensures ok { IfOk result (λ added. self.new

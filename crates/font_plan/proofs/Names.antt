@@ -1,12 +1,17 @@
--- The names of the font's glyphs all differ.
+-- The names of the font's glyphs all differ, and have at most 255 bytes.
 use Rattle.std.proofs.Common.{◌≡◌, ℕ, ◌+◌, Bool, true, false, ◌&&◌, ◌||◌, not, List, [], ◌∷◌, ◌++◌,
-    map, is_some, Some, None, ap, refl, ◌∙◌, nat_eq, ltb, cond, length, arith}
-use Rattle.std.specs.Prelude.{codes, if◌then◌else◌}
+    map, is_some, Some, None, ap, refl, ◌∙◌, subst, ◌≤◌, nat_eq, ltb, cond,
+    length, arith}
+use Rattle.std.specs.Prelude.{codes, slice_get, if◌then◌else◌}
 use Rattle.std.specs.List.{IsDistinct, AllByRecursion, list_any, position, prefix_len}
 use Rattle.std.proofs.lemmas.Bool.Decides.{nat_tests}
 use Rattle.std.specs.Map.{keys_of}
 use Rattle.std.specs.Cmp.Lexicographic.{pointwise, nat_list_eq_equiv}
+use Rattle.std.proofs.lemmas.Option.{slice_get_within, get_or_from_slice_get}
+use Rattle.refusal_codes.specs.declared.limits.TheConstants.{NAME_BYTES}
 use Rattle.font_ir.specs.Glyphs.{gid_of}
+use Rattle.font_ir.specs.Headers.{IsNameLong}
+use Rattle.glyphs_source.specs.IndexReading.{AreNamed}
 use Rattle.font_plan.specs.Font.{Entry, is_notdef, is_other, others_from}
 
 -- ---- a name has no place among names that it is none of
@@ -113,3 +118,11 @@ pub names_differ : (index : List Entry) → IsDistinct (pointwise nat_eq) (keys_
     ++ map (λ glyph. glyph.1.0) (others_from 0 index))
 unfolding IsDistinct
 names_differ index d = (none_notdef 0 index, others_differ 0 index d)
+
+-- ---- a name of the index is short
+
+pub short_there : (index : List Entry) (n : ℕ) (entry : Entry) → AreNamed index
+    → slice_get index n ≡ Some entry → length entry.0 ≤ NAME_BYTES
+short_there index n entry named e =
+    (subst (λ (x : Entry). IsNameLong x.0) (get_or_from_slice_get index n entry entry e)
+        (named n entry (slice_get_within index n entry e))).1

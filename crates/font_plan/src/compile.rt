@@ -4,6 +4,7 @@ ghost use Rattle.plist_reader.specs.Tree.{IsTree};
 ghost use Rattle.refusal_codes.specs.Gives.{Compiles};
 ghost use Rattle.refusal_codes.specs.declared.limits.TheConstants.{SOURCE_BYTES};
 ghost use Rattle.glyphs_source.specs.HeaderReading.{IsReadHeader};
+ghost use Rattle.glyphs_source.specs.IndexReading.{AreNamed};
 ghost use Rattle.font_ir.specs.FlatGlyphs.{glyphs_of};
 ghost use Rattle.font_plan.specs.Drawn.{IsDrawn};
 ghost use Rattle.font_plan.specs.Font.{font_of, tree_font, too_many_glyphs, glyphs_font, written,
@@ -65,6 +66,7 @@ fn compile_glyphs(
 ) -> Result<Vec<u8>, CompileError>
     requires header { IsReadHeader header.now }
     requires few { length index.now < 2 ^ 32 }
+    requires named { AreNamed index.now }
     requires drawn { All (IsDrawn header.now) (glyphs_of glyphs.now) }
     requires order { length glyphs.now ≡ length (order_in index.now).names }
     ensures { Compiles (λ font. font.items) result (glyphs_font header.now (glyphs_of glyphs.now)) }

@@ -5,7 +5,9 @@ ghost use Rattle.std.specs.Prelude.{◌≡◌, ◌<◌, ◌≤◌, ◌^◌, ◌+
 ghost use Rattle.std.specs.List.{IsDistinct};
 ghost use Rattle.std.specs.Option.{option_map};
 ghost use Rattle.std.specs.Cmp.Lexicographic.{pointwise};
+ghost use Rattle.refusal_codes.specs.declared.limits.TheConstants.{NAME_BYTES};
 ghost use Rattle.font_ir.specs.Glyphs.{gid_of};
+ghost use Rattle.glyphs_source.specs.IndexReading.{AreNamed};
 ghost use Rattle.font_plan.specs.Font.{Entry, is_other, others_from, notdef_from, order_in};
 
 use font_ir::{GlyphOrder, Name};
@@ -21,6 +23,7 @@ const NOTDEF: &[u8] = b".notdef";
 pub fn order_in(alloc: Global, index: &GlyphIndex) -> Result<GlyphOrder, NoMemory>
     requires few { length index.now < 2 ^ 32 }
     requires glyphs { length (order_in index.now).names ≤ 65535 }
+    requires named { AreNamed index.now }
     ensures { IfOk result (λ order. order ≡ order_in index.now) }
 {
     let _count = index.len();
@@ -53,6 +56,7 @@ fn push_others(alloc: Global, index: &GlyphIndex, order: &mut GlyphOrder) -> Res
     requires glyphs { length order.old.names + length (others_from 0 index.now) ≤ 65535 }
     requires different { IsDistinct (pointwise nat_eq)
         (order.old.names ++ map (λ glyph. glyph.1.0) (others_from 0 index.now)) }
+    requires named { AreNamed index.now }
     ensures numbers { OnOk result (order.new.numbers
         ≡ order.old.numbers ++ map (λ glyph. Some glyph.0) (others_from 0 index.now)) }
     ensures names { OnOk result (order.new.names
@@ -67,7 +71,7 @@ fn push_others(alloc: Global, index: &GlyphIndex, order: &mut GlyphOrder) -> Res
     Ok(())
 }
 
-/// Adds a glyph whose name isn't there.
+/// Adds a glyph whose name isn't there and has at most 255 bytes.
 fn push_glyph(
     alloc: Global,
     number: Option<u32>,
@@ -75,6 +79,7 @@ fn push_glyph(
     order: &mut GlyphOrder,
 ) -> Result<(), NoMemory>
     requires room { length order.old.names < 65535 }
+    requires short { length name.now ≤ NAME_BYTES }
     requires new { is_some (gid_of order.old.names name.now) ≡ false }
     ensures numbers { OnOk result (order.new.numbers ≡ order.old.numbers ++ number ∷ []) }
     ensures names { OnOk result (order.new.names ≡ order.old.names ++ name.now ∷ []) }

@@ -5,6 +5,7 @@ ghost use Rattle.std.specs.List.{All};
 ghost use Rattle.refusal_codes.specs.Gives.{Compiles};
 ghost use Rattle.glyphs_source.specs.HeaderReading.{IsReadHeader};
 ghost use Rattle.glyf_writer.specs.GlyphData.{simple_data};
+ghost use Rattle.font_ir.specs.Headers.{IsHeader};
 ghost use Rattle.font_ir.specs.Outlines.{outline_at};
 ghost use Rattle.font_ir.specs.FlatGlyphs.{glyphs_of};
 ghost use Rattle.metrics_tables.specs.Measuring.{measures_of};
@@ -131,7 +132,7 @@ fn write_tables(
     glyf: Vec<u8>,
     loca: Vec<u8>,
 ) -> Result<Vec<u8>, CompileError>
-    requires header { IsReadHeader header.now }
+    requires header { IsHeader header.now }
     requires measures { AreMeasures measures.now }
     ensures { Compiles (λ font. font.items) result
         (filed (tables_with header.now measures.now glyf.items loca.items)) }

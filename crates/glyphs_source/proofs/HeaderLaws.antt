@@ -1,7 +1,7 @@
 -- A header that is read has one master, at no axis, and its numbers are in their ranges.
-use Rattle.std.proofs.Common.{◌≡◌, ℕ, ◌+◌, ◌<◌, ◌≤◌, ◌*◌, ◌/◌, ◌^◌, pos, ◌-ℤ◌, ◌==◌, ◌&&◌, ◌||◌,
-    not, cond, nat_le, Bool, true, false, List, [], ◌∷◌, ◌++◌, length, map, Option, Some, None,
-    Result, Ok, Err, refl, sym, ap, ◌∙◌, subst, lit<, lit≤, arith}
+use Rattle.std.proofs.Common.{◌≡◌, ℕ, ◌+◌, ◌≤◌, ◌*◌, ◌/◌, pos, ◌-ℤ◌, ◌==◌, ◌&&◌, ◌||◌, not, cond,
+    nat_le, Bool, true, false, List, [], ◌∷◌, ◌++◌, length, map, Option, Some, None, Result, Ok,
+    Err, refl, sym, ap, ◌∙◌, subst, lit≤, arith}
 use Rattle.std.specs.Prelude.{codes, IfOk, option_and_then, unwrap_or, if◌then◌else◌}
 use Rattle.std.specs.Option.{option_map_or}
 use Rattle.std.specs.List.{AllByRecursion}
@@ -11,6 +11,7 @@ use Rattle.plist_reader.specs.declared.tree.Tree.{Tree}
 use Rattle.plist_reader.specs.Tree.{find_in, text_at}
 use Rattle.font_ir.specs.declared.header.Header.{Header}
 use Rattle.font_ir.specs.declared.header.Master.{Master}
+use Rattle.font_ir.specs.Headers.{IsHeader}
 use Rattle.refusal_codes.specs.declared.first.Failure.{Failure}
 use Rattle.refusal_codes.specs.declared.errors.ReadError.{ReadError}
 use Rattle.refusal_codes.specs.Gives.{Gives}
@@ -27,13 +28,15 @@ use Rattle.glyphs_source.specs.HeaderReading.{IsMetric, HasMetricsInRange, HasNu
     IsReadHeader, units_per_em, masters_failures_by, masters_failures, name_and_numbers_failures,
     design_forms_failures, feature_forms_failures, top_failures, header_failures, whole_rules_by,
     header_whole_failures, master_record, first_master, master_numbers, header_record, header_of}
+use Rattle.glyphs_source.specs.ReadHeaders.{read_header_is_whole}
 
 -- of two lists that are empty together the second is
-last_empty : (xs ys : List Failure) → xs ++ ys ≡ [] → ys ≡ []
+pub last_empty : (xs ys : List Failure) → xs ++ ys ≡ [] → ys ≡ []
 last_empty [] ys e = e
 last_empty (x ∷ xs) ys e = absurd cc
 
-dictionary_there : (b : Bool) (xs : List Failure) (x : Failure) → (if b then xs else x ∷ []) ≡ []
+pub dictionary_there : (b : Bool) (xs : List Failure) (x : Failure)
+    → (if b then xs else x ∷ []) ≡ []
     → xs ≡ []
 dictionary_there true xs x e = e
 dictionary_there false xs x e = absurd cc
@@ -78,7 +81,7 @@ located t m ms e = ap (map (λ (master : Master). master.location)) e
 
 -- ---- its numbers
 
-abbrev IsWithin : ℕ → ℕ → ℕ → Type 0
+abbrev pub IsWithin : ℕ → ℕ → ℕ → Type 0
 IsWithin low high n = (low ≤ n) × (n ≤ high)
 
 picked : (low high whole : ℕ) (p q : Bool) → nat_le low whole ≡ p → nat_le whole high ≡ q
@@ -112,7 +115,7 @@ unfolding units_per_em
 units_within t = natural-within t 16 16384 16 (find_in t t.top (codes "unitsPerEm")) (lit≤ tt)
     (lit≤ tt, lit≤ tt)
 
-first_empty : (xs ys : List Failure) → xs ++ ys ≡ [] → xs ≡ []
+pub first_empty : (xs ys : List Failure) → xs ++ ys ≡ [] → xs ≡ []
 first_empty [] ys e = refl
 first_empty (x ∷ xs) ys e = absurd cc
 
@@ -128,11 +131,12 @@ name_within t n None e = absurd cc
 name_within t n (Some text) e = sized t n (length text) (nat_le 1 (length text))
     (nat_le (length text) 255) refl refl e
 
-name_under : (t : Tree) (o : Option ℕ) → under_by (name_failures t) (fails MissingKey t t.top) o
-    ≡ [] → IsWithin 1 255 (length (unwrap_or (option_and_then (text_at t.nodes) o) []))
+pub name_under : (t : Tree) (pairs : ℕ) (o : Option ℕ)
+    → under_by (name_failures t) (fails MissingKey t pairs) o ≡ []
+    → IsWithin 1 255 (length (unwrap_or (option_and_then (text_at t.nodes) o) []))
 unfolding name_failures
-name_under t None e = absurd cc
-name_under t (Some n) e = name_within t n (text_at t.nodes n) e
+name_under t pairs None e = absurd cc
+name_under t pairs (Some n) e = name_within t n (text_at t.nodes n) e
 
 family_within : (t : Tree) → first_of (header_failures t) ≡ None
     → IsWithin 1 255 (length (header_record t).family)
@@ -143,7 +147,7 @@ family_within t e =
     let forms = name_and_numbers_failures t t.top ++ design_forms_failures t t.top in
     let own = first_empty (name_and_numbers_failures t t.top) _
         (first_empty forms _ (first_empty _ _ top)) in
-    name_under t (find_in t t.top (codes "familyName"))
+    name_under t t.top (find_in t t.top (codes "familyName"))
         (last_empty _ _ (first_empty _ _ (first_empty _ _ own)))
 
 signed : (a u : ℕ) → a ≤ u → u ≤ a + 16383 → a ≤ 16383
@@ -227,3 +231,9 @@ pub given_header : (t : Tree) (r : Result Header ReadError)
     → IfOk r IsReadHeader
 given_header t (Ok header) g = read_header t header g
 given_header t (Err error) g = tt
+
+pub given_whole : (t : Tree) (r : Result Header ReadError)
+    → Gives (λ header. header) r (header_of t)
+    → IfOk r IsHeader
+given_whole t (Ok header) g = read_header_is_whole header (read_header t header g)
+given_whole t (Err error) g = tt

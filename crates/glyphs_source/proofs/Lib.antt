@@ -1,5 +1,6 @@
 pub mod Examples
 pub mod HeaderLaws
+pub mod IndexNames
 pub mod IndexLaws
 pub mod LocalRules
 pub mod RepeatLaws

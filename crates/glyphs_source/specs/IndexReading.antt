@@ -3,14 +3,14 @@
 use Rattle.std.specs.Prelude.{ℕ, ◌+◌, Bool, false, not, ◌&&◌, ◌||◌, ◌==◌, nat_eq, List, [], ◌∷◌,
     ◌++◌, map, Option, Some, None, Result, codes, if◌then◌else◌}
 use Rattle.std.specs.Option.{option_map_or}
-use Rattle.std.specs.List.{list_any}
+use Rattle.std.specs.List.{All, list_any}
 use Rattle.std.specs.Cmp.Lexicographic.{pointwise}
 use Rattle.plist_reader.specs.declared.tree.Tree.{Tree}
 use Rattle.plist_reader.specs.Tree.{find_in}
 use Rattle.plist_reader.specs.Keys.{is_among}
+use Rattle.font_ir.specs.Headers.{IsNameLong}
 use Rattle.refusal_codes.specs.declared.refusal.Refusal.{Refusal}
-use Rattle.refusal_codes.specs.declared.rule.Rule.TheVariants.{WrongShape, DuplicateGlyph,
-    DuplicateUnicode}
+use Rattle.refusal_codes.specs.declared.rule.Rule.TheVariants.{DuplicateGlyph, DuplicateUnicode}
 use Rattle.refusal_codes.specs.declared.first.Failure.{Failure}
 use Rattle.refusal_codes.specs.First.{first_of, foremost, or_next, refusal_of, judged}
 use Rattle.refusal_codes.specs.declared.job.TheConstants.{INDEX}
@@ -132,3 +132,9 @@ index_of t =
     let codes_again = foremost (repeated_codes t [] (map (λ entry. entry.1) entries)) in
     judged (refusal_of INDEX []) (first_of (index_failures t)) (or_next names_again codes_again)
         entries
+
+-- ---- what each index that is read fulfils
+
+-- each name has 1 to 255 bytes
+abbrev pub AreNamed : List (List ℕ × IndexEntry) → Type 0
+AreNamed index = All (λ entry. IsNameLong entry.0) index

@@ -2,6 +2,7 @@ ghost use Rattle.std.specs.Prelude.{◌≡◌, ◌≤◌, [], Ok, IfOk};
 ghost use Rattle.plist_reader.specs.declared.tree.Tree.{Tree as SeenTree};
 ghost use Rattle.plist_reader.specs.Tree.{IsTree};
 ghost use Rattle.font_ir.specs.declared.header.Header.{Header as SeenHeader};
+ghost use Rattle.font_ir.specs.Headers.{IsHeader};
 ghost use Rattle.refusal_codes.specs.Gives.{Gives};
 ghost use Rattle.glyphs_source.specs.HeaderReading.{units_per_em, master_record, first_master,
     master_numbers, place_under, header_record, header_of, IsReadHeader};
@@ -16,14 +17,15 @@ use std::alloc::{AllocError, Global};
 
 /// What a source says of the whole font.
 ///
-/// One master is read, without axes. The error is the least failure by place, then by rule, of the
-/// rules of single values; where none of them fails, it is that there is no master, at the place of
-/// their list, or that the master has coordinates, at the place of the master. Where memory runs
-/// out, the error is that.
+/// One master is read, without axes. What is read fulfils the conditions of every call that takes a
+/// header. The error is the least failure by place, then by rule, of the rules of single values;
+/// where none of them fails, it is that there is no master, at the place of their list, or that the
+/// master has coordinates, at the place of the master. Where memory runs out, the error is that.
 pub fn header(alloc: Global, tree: &Tree) -> Result<Header, ReadError>
     requires { IsTree tree.now }
     ensures record { Gives (λ header. header) result (header_of tree.now) }
     ensures read { IfOk result IsReadHeader }
+    ensures whole { IfOk result IsHeader }
 {
     read_header(alloc, tree)
 }

@@ -12,7 +12,7 @@ ghost use Rattle.refusal_codes.specs.Gives.{Gives};
 ghost use Rattle.glyphs_source.specs.Repeats.{IsWithoutRepeats, TellsRepeatOf};
 ghost use Rattle.glyphs_source.specs.Same.{same_index, same_index_equiv};
 ghost use Rattle.glyphs_source.specs.IndexReading.{entries_from, glyph_numbers, glyph_name,
-    entry_of, repeated_names, repeats, counting, repeated_codes, index_of};
+    entry_of, repeated_names, repeats, counting, repeated_codes, index_of, AreNamed};
 
 use crate::entries::{IndexEntry, read_entry, read_name};
 use crate::index_rules::note_index;
@@ -91,7 +91,7 @@ impl Eq for GlyphIndex {
     ghost laws = { same_index_equiv };
 }
 
-/// The glyphs that a source names, in the order of the file.
+/// The glyphs that a source names, in the order of the file. Each name has 1 to 255 bytes.
 ///
 /// The error is the least failure by place, then by rule, of the rules of single values; where none
 /// of them fails, it is the first glyph whose name an earlier one has, or else the first in which a
@@ -101,6 +101,7 @@ pub fn glyph_index(alloc: Global, tree: &Tree) -> Result<GlyphIndex, ReadError>
     ensures entries { Gives (λ index. index) result (index_of tree.now) }
     ensures few { IfOk result (λ index. length index < 2 ^ 32) }
     ensures distinct { IfOk result IsWithoutRepeats }
+    ensures named { IfOk result AreNamed }
     ensures repeat { IfErr result (TellsRepeatOf tree.now) }
 {
     read_index(alloc, tree)

@@ -1,6 +1,6 @@
 -- The tables `head`, `hhea`, `maxp` and `hmtx` as bytes, field by field (OpenType 1.9, the chapters
 -- of these names).
-use Rattle.std.specs.Prelude.{◌≡◌, ℕ, ◌+◌, ◌*◌, ◌/◌, ◌<◌, ◌≤◌, ℤ, pos, ◌-ℤ◌, List, [], ◌∷◌, ◌++◌,
+use Rattle.std.specs.Prelude.{◌≡◌, ℕ, ◌+◌, ◌*◌, ◌/◌, ◌≤◌, ℤ, pos, ◌-ℤ◌, List, [], ◌∷◌, ◌++◌,
     length, map, slice_index_or, slice_get, Option, None, Some}
 use Rattle.std.specs.Int.{w16, saturate_signed}
 use Rattle.std.specs.Option.{option_map_or}
@@ -130,9 +130,3 @@ hmtx_table measures = metric_records measures.advances measures.bounds
 pub record AreMeasures (measures : Measures) : Type 0 where
   pub few : length measures.advances ≤ 65535
   pub as_many_bounds : length measures.bounds ≡ length measures.advances
-
--- a default master, and a version of fontc's sources
-pub record HasOriginAndVersion (header : Header) : Type 0 where
-  pub origin : header.origin < length header.masters
-  pub major : header.major ≤ 32767
-  pub minor : header.minor ≤ 999

@@ -5,8 +5,9 @@ ghost use Rattle.font_ir.specs.FlatGlyphs.{glyphs_of};
 ghost use Rattle.metrics_tables.specs.Measuring.{measures_of, maxima_of, width_at, IsStatic,
     IsMeasurable, HasMastersPlaces, Measured};
 ghost use Rattle.font_ir.specs.Outlines.{contours_at, points_at, bounds_of};
-ghost use Rattle.metrics_tables.specs.Tables.{AreMeasures, HasOriginAndVersion};
+ghost use Rattle.metrics_tables.specs.Tables.{AreMeasures};
 ghost use Rattle.font_ir.specs.FlatGlyphs.{IsFlatGlyph};
+ghost use Rattle.font_ir.specs.Headers.{IsHeader};
 
 use crate::measures::{Maxima, MeasureError, Measures};
 use crate::outline::{advance_at, bounds_at, contours_of, points_of};
@@ -132,7 +133,7 @@ pub fn measure(
     order: &GlyphOrder,
     glyphs: &[Arc<FlatGlyph>],
 ) -> Result<Measures, MeasureError>
-    requires origin { HasOriginAndVersion header.now }
+    requires header { IsHeader header.now }
     requires static_font { IsStatic header.now (glyphs_of glyphs.now) }
     requires flat { All IsFlatGlyph (glyphs_of glyphs.now) }
     requires places { All (HasMastersPlaces header.now) (glyphs_of glyphs.now) }

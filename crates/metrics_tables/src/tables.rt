@@ -1,6 +1,7 @@
 ghost use Rattle.std.specs.Prelude.{◌≡◌, ◌++◌, IfOk, OnOk, ℤ};
 ghost use Rattle.table_bytes.specs.DataTypes.{uint16, int16};
 ghost use Rattle.font_ir.specs.Extremes.{least as least_of, greatest as greatest_of};
+ghost use Rattle.font_ir.specs.Headers.{IsHeader};
 ghost use Rattle.metrics_tables.specs.Comparisons.{greatest_count};
 ghost use Rattle.metrics_tables.specs.Tables as tables;
 
@@ -20,7 +21,7 @@ const MAGIC: u32 = 0x5F0F_3CF5;
 
 /// The font's version in 16.16, thousandths rounded down.
 fn font_revision(header: &Header) -> u32
-    requires { tables.HasOriginAndVersion header.now }
+    requires { IsHeader header.now }
     ensures { result ≡ tables.font_revision header.now }
 {
     65536 * u32::from(header.major) + 65536 * u32::from(header.minor) / 1000
@@ -29,7 +30,7 @@ fn font_revision(header: &Header) -> u32
 /// The table `head` (OpenType 1.9, "head"), with 0 as its checksumAdjustment.
 #[tactic(auto, unfolding(crate::specs::Tables::head_table))]
 pub fn head(alloc: Global, header: &Header, measures: &Measures) -> Result<Vec<u8>, NoMemory>
-    requires header { tables.HasOriginAndVersion header.now }
+    requires header { IsHeader header.now }
     requires measures { tables.AreMeasures measures.now }
     ensures { IfOk result (λ table. table.items ≡ tables.head_table header.now measures.now) }
 {
@@ -96,7 +97,7 @@ fn extremes_of(measures: &Measures) -> Extremes
 
 /// The default master's ascender and descender.
 fn vertical_metrics(header: &Header) -> (i16, i16)
-    requires { tables.HasOriginAndVersion header.now }
+    requires { IsHeader header.now }
     ensures ascender { result.0 ≡ tables.of_origin (λ m. m.ascender) header.now }
     ensures descender { result.1 ≡ tables.of_origin (λ m. m.descender) header.now }
 {
@@ -107,7 +108,7 @@ fn vertical_metrics(header: &Header) -> (i16, i16)
 /// The table `hhea` (OpenType 1.9, "hhea"), with the default master's ascender and descender.
 #[tactic(auto, unfolding(crate::specs::Tables::hhea_table))]
 pub fn hhea(alloc: Global, header: &Header, measures: &Measures) -> Result<Vec<u8>, NoMemory>
-    requires header { tables.HasOriginAndVersion header.now }
+    requires header { IsHeader header.now }
     requires measures { tables.AreMeasures measures.now }
     ensures { IfOk result (λ table. table.items ≡ tables.hhea_table header.now measures.now) }
 {
@@ -131,7 +132,7 @@ pub fn hhea(alloc: Global, header: &Header, measures: &Measures) -> Result<Vec<u
 /// The table `maxp` of a font with TrueType outlines (OpenType 1.9, "maxp").
 #[tactic(auto, unfolding(crate::specs::Tables::maxp_table))]
 pub fn maxp(alloc: Global, header: &Header, measures: &Measures) -> Result<Vec<u8>, NoMemory>
-    requires header { tables.HasOriginAndVersion header.now }
+    requires header { IsHeader header.now }
     requires measures { tables.AreMeasures measures.now }
     ensures { IfOk result (λ table. table.items ≡ tables.maxp_table measures.now) }
 {
@@ -168,7 +169,7 @@ fn push_record(
 
 /// The table `hmtx` (OpenType 1.9, "hmtx"): a record for each glyph.
 pub fn hmtx(alloc: Global, header: &Header, measures: &Measures) -> Result<Vec<u8>, NoMemory>
-    requires header { tables.HasOriginAndVersion header.now }
+    requires header { IsHeader header.now }
     requires measures { tables.AreMeasures measures.now }
     ensures { IfOk result (λ table. table.items ≡ tables.hmtx_table measures.now) }
 {

@@ -2,7 +2,7 @@ use Rattle.std.proofs.Common.{ℕ, Option, Ok, ap, sym, ◌∙◌, subst, IfSome
 use Rattle.std.proofs.lemmas.Option.{slice_get_within}
 use Rattle.font_ir.specs.declared.glyph.FlatGlyph.{FlatGlyph}
 use Rattle.refusal_codes.specs.Gives.{Gives}
-use Rattle.font_plan.specs.Drawn.{IsDrawn}
+use Rattle.glyphs_source.specs.ReadHeaders.{read_header_is_whole}
 use Rattle.font_plan.specs.Font.{Entry, drawn_of, notdef_of}
 use Rattle.font_plan.proofs.Steps.{no_notdef}
 use Rattle.font_plan.proofs.DrawnLaws.{made_notdef_drawn}
@@ -23,14 +23,17 @@ returns-in-Some-clause-glyph c =
         (λ entry. Gives (λ (glyph : FlatGlyph). glyph) c.drawn.result
         (drawn_of t h (c.in-Some.number, entry)))) found.1 c.drawn.ensures.glyph)
 
+pub made_notdef-requires : goal.made_notdef-requires
+made_notdef-requires c = read_header_is_whole c.args.header.now c.requires.read
+
 pub returns-in_ok-made_notdef-in-None-clause-glyph
     : goal.returns-in_ok-made_notdef-in-None-clause-glyph
 returns-in_ok-made_notdef-in-None-clause-glyph c =
     ap (notdef_of c.args.tree.now c.args.header.now) (no_notdef _ c.in-None.ensures.number)
-        ∙ ap Ok (sym c.in_ok-made_notdef-in-None.ensures)
+        ∙ ap Ok (sym c.in_ok-made_notdef-in-None.ensures.glyph)
 
 pub returns-in_ok-made_notdef-in-None-clause-drawn
     : goal.returns-in_ok-made_notdef-in-None-clause-drawn
 returns-in_ok-made_notdef-in-None-clause-drawn c
-    = subst (λ (glyph : FlatGlyph). IsDrawn c.args.header.now glyph)
-    (sym c.in_ok-made_notdef-in-None.ensures) (made_notdef_drawn c.args.header.now c.requires.read)
+    = made_notdef_drawn c.args.header.now _ c.in_ok-made_notdef-in-None.ensures.glyph
+    c.in_ok-made_notdef-in-None.ensures.flat

@@ -2,11 +2,12 @@
 use Rattle.std.proofs.Common.{◌≡◌, ◌≤◌, ◌+◌, ℕ, List, ◌∷◌, ◌++◌, map, length, Option, Some, false,
     is_some, [], nat_eq, ap, sym, ◌∙◌, subst, drop, arith}
 use Rattle.std.specs.List.{IsDistinct}
+use Rattle.refusal_codes.specs.declared.limits.TheConstants.{NAME_BYTES}
 use Rattle.font_ir.specs.Glyphs.{Glyphs, gid_of}
 use Rattle.std.specs.Cmp.Lexicographic.{pointwise}
 use Rattle.std.proofs.lemmas.List.{length-append, length-map}
 use Rattle.font_plan.specs.Font.{Entry, others_from}
-use Rattle.font_plan.proofs.Names.{new_name}
+use Rattle.font_plan.proofs.Names.{new_name, short_there}
 use Rattle.font_plan.proofs.Steps.{others_next, others_passed, moved, room_left}
 use Rattle.font_plan.proofs.order.push_others.Goals as goal
 use Rattle.font_plan.proofs.order.push_others.Goals.{then-is_other+in_ok-push_glyph, else-is_other}
@@ -34,6 +35,13 @@ push_glyph-requires-clause-room c =
         length-map (others_from 0 index) name_of, c.requires.glyphs) in
     room_left c.loop-number.order.names (map name_of (others_from (n + 1) (drop (n + 1) index))) _
         found.0.now whole few
+
+pub push_glyph-requires-clause-short : goal.push_glyph-requires-clause-short
+push_glyph-requires-clause-short c =
+    let found = c.entry_at.result in
+    subst (λ (name : List ℕ). length name ≤ NAME_BYTES) (sym c.as_bytes.ensures)
+        (short_there c.args.index.now c.loop-number.number (found.0.now, found.1.now)
+        c.requires.named c.entry_at.ensures)
 
 pub push_glyph-requires-clause-new : goal.push_glyph-requires-clause-new
 push_glyph-requires-clause-new c =

@@ -3,7 +3,7 @@ use Rattle.metrics_tables.proofs.measuring.measure.Goals as goal
 
 pub measures_at-requires : goal.measures_at-requires
 measures_at-requires c = measurable c.args.header.now c.args.glyphs.now c.requires.flat
-    c.requires.places c.requires.origin.origin
+    c.requires.places c.requires.header.origin
 
 pub returns-clause-measured : goal.returns-clause-measured
 returns-clause-measured c =

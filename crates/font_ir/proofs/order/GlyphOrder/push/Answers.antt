@@ -4,7 +4,7 @@ use Rattle.std.specs.Cmp.Lexicographic.{pointwise, bytes_decides}
 use Rattle.std.proofs.lemmas.Map.Made.{AllPairs-from_IsDistinct}
 use Rattle.std.proofs.lemmas.List.{length-map}
 use Rattle.font_ir.specs.Glyphs.{gid_of}
-use Rattle.font_ir.proofs.Names.{is_some-position_map, IsDistinct-map}
+use Rattle.font_ir.proofs.Names.{is_some-position_map, IsDistinct-map, short_inserted}
 use Rattle.font_ir.proofs.order.GlyphOrder.push.Goals as goal
 
 pub invariant_of-self-in-Continue-branch-4 : goal.invariant_of-self-in-Continue-branch-4
@@ -20,6 +20,9 @@ invariant_of-self-in-Continue-branch-4 c =
       different = AllPairs-from_IsDistinct bytes_decides _
           (IsDistinct-map (pointwise nat_eq) (λ name. name.items) c.insert.new.self.keys
           c.insert.ensures.unique);
+      short = short_inserted (λ key. key.items) _ old new _ c.in_ok-added.ensures.keys
+          c.self.invariant.short
+          (omega (arith, ap length c.in_ok-name.ensures.items, c.requires.short));
       one_number = omega (arith, names_old, names_new, c.in_ok-push.ensures.len,
           c.in_ok-reserve.ensures.len);
     }
