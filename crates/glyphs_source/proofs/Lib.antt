@@ -4,3 +4,4 @@ pub mod IndexLaws
 pub mod LocalRules
 pub mod RepeatLaws
 pub mod Repeating
+pub mod SourceTableLaws

@@ -6,7 +6,9 @@ mod font_header;
 mod header_rules;
 mod index;
 mod index_rules;
+mod rule_laws;
 
 pub use entries::IndexEntry;
 pub use font_header::{header, headers_have_one_master};
 pub use index::{GlyphIndex, glyph_index};
+pub use rule_laws::{header_rules_are_tabled, index_rules_are_tabled};
