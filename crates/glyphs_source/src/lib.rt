@@ -11,4 +11,7 @@ mod rule_laws;
 pub use entries::IndexEntry;
 pub use font_header::{header, headers_have_one_master};
 pub use index::{GlyphIndex, glyph_index};
-pub use rule_laws::{header_rules_are_tabled, index_rules_are_tabled};
+pub use rule_laws::{
+    glyphs_without_a_name_are_refused, header_rules_are_tabled, index_rules_are_tabled,
+    missing_keys_of_the_header_are_refused, wrong_versions_are_refused,
+};
