@@ -1,10 +1,8 @@
 -- The tables tell what the header and the index fail.
-use Rattle.std.proofs.Common.{◌≡◌, ℕ, cond, List, [], ◌++◌, Option, Some, None, is_some,
-    refl}
+use Rattle.std.proofs.Common.{◌≡◌, ℕ, cond, List, [], ◌++◌, Option, Some, None, is_some, refl}
 use Rattle.std.specs.Prelude.{codes}
 use Rattle.plist_reader.specs.declared.tree.Tree.{Tree}
 use Rattle.refusal_codes.specs.declared.rule.Rule.TheVariants.{WrongShape, WrongVersion, OutOfRange}
-use Rattle.refusal_codes.specs.declared.first.Failure.{Failure}
 use Rattle.source_values.specs.declared.kinds.Range.TheVariants.{Any, Natural, Code}
 use Rattle.source_values.specs.Values.{items_at, is_list}
 use Rattle.source_values.specs.Asking.{fails, dictionary}

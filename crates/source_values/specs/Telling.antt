@@ -1,7 +1,7 @@
 -- How tables tell of rules that are made of others, as records whose parts a proof finds by itself:
 -- what the proofs of tables in other crates need, and no reader.
-use Rattle.std.proofs.Common.{inl, inr, ◌≡◌, ◌⊎◌, ◌↔◌, not, ℕ, Bool, true, false, cond, List, [],
-    ◌∷◌, ◌++◌, Option, Some, None, is_some, refl, sym, ap, ◌∙◌, subst}
+use Rattle.std.proofs.Common.{inl, inr, ◌≡◌, not, ℕ, Bool, cond, List, [], ◌∷◌, ◌++◌, Option, Some,
+    None, refl, sym, ap, ◌∙◌, subst}
 use Rattle.std.specs.Prelude.{flat_map, slice_get}
 use Rattle.std.specs.Option.{option_map_or}
 use Rattle.std.proofs.lemmas.List.Concat.{flat_map-cons}
