@@ -1,3 +1,4 @@
 pub mod LayerReading
 pub mod LayerRules
+pub mod LayerTables
 pub mod OnLiterals

@@ -13,7 +13,7 @@ use plain_lists::Sequence;
 use plist_reader::Tree;
 use refusal_codes::{FirstFailure, Rule};
 use source_values::{
-    Asked, EmptyList, PlainText, Range, Whole, items_at, natural_or, note_at, optional, required,
+    Asked, EmptyList, NaturalOr, PlainText, items_at, note_at, optional, required_natural,
     text_under,
 };
 use std::alloc::{AllocError, Global};
@@ -103,17 +103,16 @@ fn read_layer(
     ensures layer { IfOk result (λ read. read ≡ layer_record tree.now layer) }
     ensures failures { OnOk result (first.new ≡ noted first.old (layer_failures tree.now layer)) }
 {
-    required(
-        tree,
-        layer,
-        b"width",
-        &Whole(Range::Natural(0, 32767)),
-        first,
-    );
+    let width = NaturalOr {
+        low: 0,
+        high: 32767,
+        missing: 0,
+    };
+    let width = required_natural(tree, layer, b"width", width, first);
     let shapes = read_shapes_under(alloc, tree, layer, first)?;
     optional(tree, layer, b"anchors", &EmptyList, first);
     Ok(LayerIr {
-        width: i32::from(natural_or(tree, layer, b"width", 0, 32767, 0)),
+        width: i32::from(width),
         shapes,
         anchors: Sequence::new(alloc),
     })

@@ -5,3 +5,5 @@ pub mod IndexLaws
 pub mod LocalRules
 pub mod RepeatLaws
 pub mod Repeating
+pub mod SourceRuleLaws
+pub mod SourceTableLaws

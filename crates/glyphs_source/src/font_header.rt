@@ -1,18 +1,19 @@
-ghost use Rattle.std.specs.Prelude.{◌≡◌, ◌≤◌, [], Ok, IfOk};
+ghost use Rattle.std.specs.Prelude.{◌≡◌, ◌≤◌, [], Ok, IfOk, codes};
 ghost use Rattle.plist_reader.specs.declared.tree.Tree.{Tree as SeenTree};
 ghost use Rattle.plist_reader.specs.Tree.{IsTree};
 ghost use Rattle.font_ir.specs.declared.header.Header.{Header as SeenHeader};
 ghost use Rattle.font_ir.specs.Headers.{IsHeader};
 ghost use Rattle.refusal_codes.specs.Gives.{Gives};
+ghost use Rattle.source_values.specs.Values.{natural_or};
 ghost use Rattle.glyphs_source.specs.HeaderReading.{units_per_em, master_record, first_master,
     master_numbers, place_under, header_record, header_of, IsReadHeader};
 
-use crate::header_rules::{note_header, whole_failure};
+use crate::header_rules::{Numbers, read_numbers, whole_failure};
 use font_ir::{Header, Master};
 use plain_lists::{Sequence, Text};
 use plist_reader::Tree;
 use refusal_codes::{FirstFailure, ReadError, job};
-use source_values::{copied, items_under, natural_or, place_at, text_under};
+use source_values::{copied, items_under, place_at, text_under};
 use std::alloc::{AllocError, Global};
 
 /// What a source says of the whole font.
@@ -43,27 +44,33 @@ fn read_header(alloc: Global, tree: &Tree) -> Result<Header, ReadError>
     ensures { Gives (λ header. header) result (header_of tree.now) }
 {
     let mut first = FirstFailure::new();
-    note_header(tree, &mut first);
+    let numbers = read_numbers(tree, &mut first);
     if let Some(failure) = first.get() {
         return Err(failure.refused(job::HEADER, Text::new(alloc)));
     }
     if let Some(failure) = whole_failure(tree) {
         return Err(failure.refused(job::HEADER, Text::new(alloc)));
     }
-    Ok(record(alloc, tree)?)
+    Ok(record(alloc, tree, numbers)?)
 }
 
 #[tactic(auto, unfolding(crate::specs::HeaderReading::header_record))]
-fn record(alloc: Global, tree: &Tree) -> Result<Header, AllocError>
+fn record(alloc: Global, tree: &Tree, numbers: Numbers) -> Result<Header, AllocError>
+    requires units { numbers.units ≡ units_per_em tree.now }
+    requires small { numbers.units ≤ 16384 }
+    requires major { numbers.major ≡ natural_or 0 32767 1 tree.now tree.now.top
+        (codes "versionMajor") }
+    requires minor { numbers.minor ≡ natural_or 0 999 0 tree.now tree.now.top
+        (codes "versionMinor") }
     ensures { IfOk result (λ header. header ≡ header_record tree.now) }
 {
     let family = copied(alloc, text_under(tree, tree.top, b"familyName"))?;
-    let masters = masters(alloc, tree, master_numbers(tree))?;
+    let masters = masters(alloc, tree, master_numbers(tree), numbers.units)?;
     Ok(Header {
-        upem: units_per_em(tree),
+        upem: numbers.units,
         family,
-        major: natural_or(tree, tree.top, b"versionMajor", 0, 32767, 1),
-        minor: natural_or(tree, tree.top, b"versionMinor", 0, 999, 0),
+        major: numbers.major,
+        minor: numbers.minor,
         axes: Sequence::new(alloc),
         masters,
         masters_place: place_under(tree, b"fontMaster"),
@@ -73,14 +80,6 @@ fn record(alloc: Global, tree: &Tree) -> Result<Header, AllocError>
         kern_place: place_under(tree, b"kerningLTR"),
         features: Text::from_string(String::new(alloc)),
     })
-}
-
-#[tactic(auto, unfolding(crate::specs::HeaderReading::units_per_em))]
-fn units_per_em(tree: &Tree) -> u16
-    ensures value { result ≡ units_per_em tree.now }
-    ensures small { result ≤ 16384 }
-{
-    natural_or(tree, tree.top, b"unitsPerEm", 16, 16384, 16)
 }
 
 /// The values of the list of masters.
@@ -102,30 +101,39 @@ fn place_under(tree: &Tree, key: &[u8]) -> u64
     }
 }
 
-fn masters(alloc: Global, tree: &Tree, numbers: &[u32]) -> Result<Sequence<Master>, AllocError>
+/// The first master, in a font whose em has so many units.
+fn masters(
+    alloc: Global,
+    tree: &Tree,
+    numbers: &[u32],
+    units: u16,
+) -> Result<Sequence<Master>, AllocError>
+    requires units { units ≡ units_per_em tree.now }
+    requires small { units ≤ 16384 }
     ensures { IfOk result (λ masters. masters ≡ first_master tree.now numbers.now) }
 {
     let mut masters = Vec::new(alloc);
     if let [number, ..] = numbers {
-        masters.push(master(alloc, tree, *number)?)?;
+        masters.push(master(alloc, tree, *number, units)?)?;
     }
     Ok(Sequence::from_vec(masters))
 }
 
 #[tactic(auto, unfolding(crate::specs::HeaderReading::master_record))]
-fn master(alloc: Global, tree: &Tree, number: u32) -> Result<Master, AllocError>
+fn master(alloc: Global, tree: &Tree, number: u32, units: u16) -> Result<Master, AllocError>
+    requires units { units ≡ units_per_em tree.now }
+    requires small { units ≤ 16384 }
     ensures { IfOk result (λ master. master ≡ master_record tree.now number) }
 {
     let id = copied(alloc, text_under(tree, number, b"id"))?;
-    let upem = units_per_em(tree);
-    let ascender = (u32::from(upem) * 4 / 5) as i16;
+    let ascender = (u32::from(units) * 4 / 5) as i16;
     Ok(Master {
         id,
         design: Sequence::new(alloc),
         user: Sequence::new(alloc),
         location: Sequence::new(alloc),
         ascender,
-        descender: ascender - upem as i16,
+        descender: ascender - units as i16,
         cap: 0,
         xheight: 0,
         place: place_at(tree, number),

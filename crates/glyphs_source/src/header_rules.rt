@@ -1,56 +1,106 @@
-ghost use Rattle.std.specs.Prelude.{◌≡◌, slice_get, []};
+ghost use Rattle.std.specs.Prelude.{◌≡◌, ◌≤◌, slice_get, [], codes};
 ghost use Rattle.std.specs.Option.{option_map_or};
 ghost use Rattle.refusal_codes.specs.First.{noted, foremost};
 ghost use Rattle.source_values.specs.Asking.{fails};
+ghost use Rattle.source_values.specs.Values.{natural_or};
 ghost use Rattle.glyphs_source.specs.HeaderReading.{version_failures, axis_value_failures,
     master_parts_failures, master_failures, masters_failures, name_and_numbers_failures,
     design_forms_failures, feature_forms_failures, top_failures, header_failures,
-    axis_count_failures, header_whole_failures};
+    axis_count_failures, header_whole_failures, units_per_em};
 
 use plist_reader::Tree;
 use refusal_codes::{Failure, FirstFailure, Rule};
 use source_values::{
-    AnyDictionary, Asked, Dictionary, Each, EmptyDictionary, EmptyList, NameText, PlainText, Range,
-    Whole, decimal_at, items_at, note_at, optional, place_at, required,
+    AnyDictionary, Asked, Dictionary, Each, EmptyDictionary, EmptyList, NameText, NaturalOr,
+    PlainText, decimal_at, is_dictionary, items_at, note_at, optional, optional_natural, place_at,
+    required, required_natural,
 };
 
-/// Notes the local rules that the header fails.
-pub fn note_header(tree: &Tree, first: &mut FirstFailure)
-    ensures { first.new ≡ noted first.old (header_failures tree.now) }
+/// The numbers that a source gives of the whole font.
+#[derive(Clone, Copy, Debug)]
+pub struct Numbers {
+    /// How many units its em has.
+    pub units: u16,
+    /// The first part of its version.
+    pub major: u16,
+    /// The second part of its version.
+    pub minor: u16,
+}
+
+/// The numbers of the header, as it has them where nothing fails. Notes the local rules that the
+/// header fails.
+#[tactic(auto, unfolding(crate::specs::HeaderReading::units_per_em))]
+pub fn read_numbers(tree: &Tree, first: &mut FirstFailure) -> Numbers
+    ensures units { result.units ≡ units_per_em tree.now }
+    ensures small { result.units ≤ 16384 }
+    ensures major { result.major ≡ natural_or 0 32767 1 tree.now tree.now.top
+        (codes "versionMajor") }
+    ensures minor { result.minor ≡ natural_or 0 999 0 tree.now tree.now.top (codes "versionMinor") }
+    ensures failures { first.new ≡ noted first.old (header_failures tree.now) }
 {
-    Dictionary(Top).note(tree, tree.top, first);
+    if is_dictionary(tree, tree.top) {
+        read_top(tree, tree.top, first)
+    } else {
+        note_at(tree, tree.top, Rule::WrongShape, first);
+        Numbers {
+            units: 16,
+            major: 1,
+            minor: 0,
+        }
+    }
 }
 
 /// What the top dictionary says of the whole font.
-#[derive(Clone, Copy)]
-struct Top;
-
-impl Asked for Top {
-    ghost failures = { λ asked. top_failures };
-
-    #[tactic(auto, using(refusal_codes::specs::FirstLaws::noting),
-        unfolding(crate::specs::HeaderReading::top_failures))]
-    fn note(&self, tree: &Tree, number: u32, first: &mut FirstFailure) {
-        note_name_and_numbers(tree, number, first);
-        note_design_forms(tree, number, first);
-        note_feature_forms(tree, number, first);
-        required(tree, number, b"fontMaster", &Masters, first);
-    }
+#[tactic(auto, using(refusal_codes::specs::FirstLaws::noting),
+    unfolding(crate::specs::HeaderReading::top_failures))]
+fn read_top(tree: &Tree, top: u32, first: &mut FirstFailure) -> Numbers
+    ensures units { result.units ≡ natural_or 16 16384 16 tree.now top (codes "unitsPerEm") }
+    ensures small { result.units ≤ 16384 }
+    ensures major { result.major ≡ natural_or 0 32767 1 tree.now top (codes "versionMajor") }
+    ensures minor { result.minor ≡ natural_or 0 999 0 tree.now top (codes "versionMinor") }
+    ensures failures { first.new ≡ noted first.old (top_failures tree.now top) }
+{
+    let numbers = read_name_and_numbers(tree, top, first);
+    note_design_forms(tree, top, first);
+    note_feature_forms(tree, top, first);
+    required(tree, top, b"fontMaster", &Masters, first);
+    numbers
 }
 
 #[tactic(auto, using(refusal_codes::specs::FirstLaws::noting),
     unfolding(crate::specs::HeaderReading::name_and_numbers_failures))]
-fn note_name_and_numbers(tree: &Tree, top: u32, first: &mut FirstFailure)
-    ensures { first.new ≡ noted first.old (name_and_numbers_failures tree.now top) }
+fn read_name_and_numbers(tree: &Tree, top: u32, first: &mut FirstFailure) -> Numbers
+    ensures units { result.units ≡ natural_or 16 16384 16 tree.now top (codes "unitsPerEm") }
+    ensures small { result.units ≤ 16384 }
+    ensures major { result.major ≡ natural_or 0 32767 1 tree.now top (codes "versionMajor") }
+    ensures minor { result.minor ≡ natural_or 0 999 0 tree.now top (codes "versionMinor") }
+    ensures failures { first.new ≡ noted first.old (name_and_numbers_failures tree.now top) }
 {
-    let units = Whole(Range::Natural(16, 16384));
-    let major = Whole(Range::Natural(0, 32767));
-    let minor = Whole(Range::Natural(0, 999));
+    let units = NaturalOr {
+        low: 16,
+        high: 16384,
+        missing: 16,
+    };
+    let major = NaturalOr {
+        low: 0,
+        high: 32767,
+        missing: 1,
+    };
+    let minor = NaturalOr {
+        low: 0,
+        high: 999,
+        missing: 0,
+    };
     required(tree, top, b".formatVersion", &Version, first);
-    required(tree, top, b"unitsPerEm", &units, first);
+    let units = required_natural(tree, top, b"unitsPerEm", units, first);
     required(tree, top, b"familyName", &NameText, first);
-    optional(tree, top, b"versionMajor", &major, first);
-    optional(tree, top, b"versionMinor", &minor, first);
+    let major = optional_natural(tree, top, b"versionMajor", major, first);
+    let minor = optional_natural(tree, top, b"versionMinor", minor, first);
+    Numbers {
+        units,
+        major,
+        minor,
+    }
 }
 
 #[tactic(auto, using(refusal_codes::specs::FirstLaws::noting),

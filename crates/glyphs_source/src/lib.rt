@@ -7,8 +7,13 @@ mod header_rules;
 mod index;
 mod index_rules;
 mod laws;
+mod rule_laws;
 
 pub use entries::IndexEntry;
 pub use font_header::{header, headers_have_one_master};
 pub use index::{GlyphIndex, glyph_index};
 pub use laws::{glyph_names_are_short, read_headers_are_whole};
+pub use rule_laws::{
+    glyphs_without_a_name_are_refused, header_rules_are_tabled, index_rules_are_tabled,
+    missing_keys_of_the_header_are_refused, wrong_versions_are_refused,
+};

@@ -4,6 +4,7 @@ pub mod KindLaws
 pub mod OnLiterals
 pub mod Spelling
 pub mod Tables
+pub mod Telling
 pub mod Values
 pub mod WayLaws
 pub mod Ways

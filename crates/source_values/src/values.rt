@@ -1,13 +1,12 @@
-ghost use Rattle.std.specs.Prelude.{◌≡◌, ◌≤◌, option_copied, option_map, unwrap_or, IfOk, []};
+ghost use Rattle.std.specs.Prelude.{◌≡◌, option_copied, option_map, unwrap_or, IfOk, []};
 ghost use Rattle.plist_reader.specs.Tree.{text_at, is_key};
 ghost use Rattle.refusal_codes.specs.First.{noted};
 ghost use Rattle.source_values.specs.Decimals.{cut};
 ghost use Rattle.source_values.specs.Values.{place_at, items_at, is_list, is_dictionary, decimal_at,
-    natural_in, natural_or, items_under, text_under, decimal_under};
+    items_under, text_under, decimal_under};
 ghost use Rattle.source_values.specs.Asking.{fails};
 
 use crate::decimals::{Decimal, read_decimal};
-use crate::kinds::Range;
 use plain_lists::Text;
 use plist_reader::{Tree, ValueRef};
 use refusal_codes::{FirstFailure, Rule};
@@ -116,39 +115,5 @@ pub fn copied(alloc: Global, text: Option<&str>) -> Result<Text, AllocError>
     match text {
         Some(text) => Ok(Text::from_string(String::from_str(alloc, text)?)),
         None => Ok(Text::from_string(String::new(alloc))),
-    }
-}
-
-/// The whole number that a dictionary has under a key; `missing` where it has none, and `low` where
-/// it is not from `low` to `high`.
-pub fn natural_or(tree: &Tree, pairs: u32, key: &[u8], low: u16, high: u16, missing: u16) -> u16
-    requires { low ≤ high }
-    ensures value { result ≡ natural_or low high missing tree.now pairs key.now }
-    ensures from { low ≤ missing → low ≤ result }
-    ensures to { missing ≤ high → result ≤ high }
-{
-    match tree.find(pairs, key) {
-        Some(number) => natural_in(tree, number, low, high),
-        None => missing,
-    }
-}
-
-/// The whole number that a value is; `low` where it is not from `low` to `high`.
-#[tactic(auto, unfolding(crate::specs::Values::natural_in))]
-fn natural_in(tree: &Tree, number: u32, low: u16, high: u16) -> u16
-    requires { low ≤ high }
-    ensures value { result ≡ natural_in low high tree.now number }
-    ensures from { low ≤ result }
-    ensures to { result ≤ high }
-{
-    match decimal_at(tree, number) {
-        Some(decimal) => {
-            if decimal.billionths == 0 && Range::Natural(low, high).holds(&decimal) {
-                decimal.whole as u16
-            } else {
-                low
-            }
-        }
-        None => low,
     }
 }

@@ -1,0 +1,5 @@
+use Rattle.glyphs_source.proofs.SourceRuleLaws.{header_by_rule}
+use Rattle.glyphs_source.proofs.rule_laws.header_rules_are_tabled.Goals as goal
+
+pub returns : goal.returns
+returns c = header_by_rule
