@@ -1,0 +1,6 @@
+pub mod NameIds
+pub mod Fvar
+pub mod Avar
+pub mod Texts
+pub mod Names
+pub mod Stores

@@ -1,0 +1,16 @@
+//! The tables of a font's design space and of its names: `fvar`, `avar` and `name` (OpenType 1.9).
+#![tactic(auto)]
+
+mod axes;
+mod axis_maps;
+mod fields;
+mod instances;
+mod names;
+mod scales;
+mod store;
+mod texts;
+mod utf16;
+
+pub use axes::fvar;
+pub use axis_maps::avar;
+pub use names::name;
