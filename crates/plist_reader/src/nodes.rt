@@ -5,6 +5,7 @@ ghost use Rattle.std.specs.Cmp.Lexicographic.{pointwise};
 ghost use Rattle.plist_reader.specs.Grammar.{node};
 ghost use Rattle.plist_reader.specs.Same.{same_node, same_nodes_equiv};
 ghost use Rattle.plist_reader.specs.Stored.{seen_node};
+ghost use Rattle.plist_reader.specs.Tree.{text_at, spells};
 
 use crate::pools::{Content, Pools};
 use crate::tree::{NodeRef, TreeValue};
@@ -83,6 +84,16 @@ impl Nodes {
             end: u64::from(node.end),
             value: self.pools.value(node.content),
         })
+    }
+
+    /// Whether the value with this number is a text with these bytes.
+    pub fn is_text(&self, number: u32, bytes: &[u8]) -> bool
+        ensures { result ≡ spells bytes.now (text_at self.now number) }
+    {
+        match self.stored.as_slice().get(number as usize) {
+            Some(node) => self.pools.is_text(node.content, bytes),
+            None => false,
+        }
     }
 
     /// Adds a value at the end. Where memory runs out, the values are as before.

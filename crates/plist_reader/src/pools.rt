@@ -1,5 +1,6 @@
 ghost use Rattle.std.specs.Prelude.{◌≡◌, ◌++◌, ◌≤◌, length, slice_range, IfOk, OnOk, OnErr};
 ghost use Rattle.plist_reader.specs.Stored.{value_of, IsIn, Extends, seen};
+ghost use Rattle.plist_reader.specs.Tree.{text_of, spells};
 
 use crate::tree::{TreeValue, ValueRef};
 use std::alloc::{AllocError, Global};
@@ -111,6 +112,17 @@ impl Pools {
             Content::Bytes(span) => ValueRef::Bytes(part(self.bytes.as_slice(), span)),
             Content::Items(span) => ValueRef::Items(part(self.items.as_slice(), span)),
             Content::Pairs(span) => ValueRef::Pairs(part(self.pairs.as_slice(), span)),
+        }
+    }
+
+    /// Whether a value that is held here is a text with these bytes.
+    pub(crate) fn is_text(&self, content: Content, bytes: &[u8]) -> bool
+        requires { IsIn self.now content }
+        ensures { result ≡ spells bytes.now (text_of (value_of self.now content)) }
+    {
+        match content {
+            Content::Text(span) => part(self.bytes.as_slice(), span) == bytes,
+            _ => false,
         }
     }
 }

@@ -132,14 +132,6 @@ impl Tree {
     fn is_key(&self, number: u32, key: &[u8]) -> bool
         ensures { result ≡ is_key self.now key.now number }
     {
-        match self.nodes.get(number) {
-            Some(
-                NodeRef {
-                    value: ValueRef::Text(text),
-                    ..
-                },
-            ) => text.as_bytes() == key,
-            _ => false,
-        }
+        self.nodes.is_text(number, key)
     }
 }

@@ -36,10 +36,7 @@ pub fn text_at(tree: &Tree, number: u32) -> Option<&str>
 pub fn is_text(tree: &Tree, word: &[u8], number: u32) -> bool
     ensures { result ≡ is_key tree.now word.now number }
 {
-    match text_at(tree, number) {
-        Some(text) => text.as_bytes() == word,
-        None => false,
-    }
+    tree.nodes.is_text(number, word)
 }
 
 /// The values of the list that a value is, where it is one.
