@@ -1,6 +1,6 @@
 -- What stands at the place that an index tells.
-use Rattle.std.proofs.Common.{◌≡◌, ℕ, suc, ◌+◌, ◌<◌, Bool, true, false, cond, List, [], ◌∷◌, map,
-    length, get_or, Option, Some, None, refl, sym, ap, ◌∙◌, arith}
+use Rattle.std.proofs.Common.{◌≡◌, ℕ, suc, ◌+◌, ◌<◌, Bool, true, false, cond, List, [], ◌∷◌, map}
+use Rattle.std.proofs.Common.{length, get_or, Option, Some, None, refl, sym, ap, ◌∙◌, arith}
 use Rattle.access_context.specs.declared.settled.Settled.{Settled}
 use Rattle.access_context.specs.Plain.{plain}
 use Rattle.access_context.specs.Read.{plain_item, read_of}
@@ -15,9 +15,9 @@ module _ {Id V : Type 0} (same : Id → Id → Bool) where
   stands_from n [] id p e = cc
   stands_from n (x ∷ xs) id p e =
       elim (same x.0 id) as (λ b. cond b (Some n) (place_from same (suc n) xs id) ≡ Some p
-          → (k : ℕ) × (p ≡ n + k) × (k < length (x ∷ xs))
-          × ((d : Id × Settled V) → cond b (Some (plain x.1)) (read_of same (map plain_item xs) id)
-          ≡ Some (plain (get_or (x ∷ xs) k d).1))) [
+      → (k : ℕ) × (p ≡ n + k) × (k < length (x ∷ xs))
+      × ((d : Id × Settled V) → cond b (Some (plain x.1)) (read_of same (map plain_item xs) id)
+      ≡ Some (plain (get_or (x ∷ xs) k d).1))) [
         | true ↦ λ e. let s : n ≡ p = cc in (0, omega arith, omega arith, λ d. refl)
         | false ↦ λ e. let r = stands_from (suc n) xs id p e
             in (suc r.0, omega (arith, r.1), omega (arith, r.2), λ d. r.3 d)
@@ -46,7 +46,7 @@ module _ {Id V : Type 0} (same : Id → Id → Bool) where
   unread n [] id e = refl
   unread n (x ∷ xs) id e =
       elim (same x.0 id) as (λ b. cond b (Some n) (place_from same (suc n) xs id) ≡ None
-          → cond b (Some (plain x.1)) (read_of same (map plain_item xs) id) ≡ None) [
+      → cond b (Some (plain x.1)) (read_of same (map plain_item xs) id) ≡ None) [
         | true ↦ λ e. cc
         | false ↦ λ e. unread (suc n) xs id e
       ] e

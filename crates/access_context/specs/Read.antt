@@ -1,6 +1,6 @@
 -- What a job reads: items by their ids, each with what came of it. fontc's own.
-use Rattle.std.specs.Prelude.{Bool, List, [], ◌∷◌, Option, Some, None, option_and_then,
-    if◌then◌else◌}
+use Rattle.std.specs.Prelude.{Bool, List, [], ◌∷◌, Option, Some, None, option_and_then}
+use Rattle.std.specs.Prelude.{if◌then◌else◌}
 use Rattle.std.specs.List.{list_all}
 use Rattle.access_context.specs.declared.settled.Settled.{Settled}
 use Rattle.access_context.specs.Plain.{Plain, plain, is_done, done_value}

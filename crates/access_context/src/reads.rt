@@ -1,5 +1,5 @@
-ghost use Rattle.std.specs.Prelude.{◌≡◌, ◌<◌, ℕ, Option, None, option_map, map, slice_get, IsSome,
-    Some, IfOk, OnOk, length};
+ghost use Rattle.std.specs.Prelude.{◌≡◌, ◌<◌, ℕ, Option, None, option_map, map, slice_get, IsSome};
+ghost use Rattle.std.specs.Prelude.{Some, IfOk, OnOk, length};
 ghost use Rattle.std.specs.BTreeMap as tree;
 ghost use Rattle.access_context.specs.Plain.{plain};
 ghost use Rattle.access_context.specs.Read.{plain_item, read_of, value_read, all_done};

@@ -1,12 +1,12 @@
 -- The least and the greatest coordinate of an axis are at the ends, and how pairs follow from
 -- coordinates.
-use Rattle.std.proofs.Common.{◌≡◌, ℕ, ◌+◌, ◌<◌, arith, refl, sym, ap, ◌∙◌, ℤ, pos, ◌≤ℤ◌, subst,
-    List, [], ◌∷◌, ◌++◌, append_assoc, length, get_or, map, take}
+use Rattle.std.proofs.Common.{◌≡◌, ℕ, ◌+◌, ◌<◌, arith, refl, sym, ap, ◌∙◌, ℤ, pos, ◌≤ℤ◌, subst}
+use Rattle.std.proofs.Common.{List, [], ◌∷◌, ◌++◌, append_assoc, length, get_or, map, take}
 use Rattle.std.proofs.lemmas.Int.{ints, clamps}
 use Rattle.std.proofs.lemmas.List.{map-append, take_more, get_or-map, length-map}
 use Rattle.std.proofs.lemmas.List.Folds.{fold-map}
-use Rattle.std.proofs.lemmas.List.Elements.{All-cons, All-nil, All-head, All-tail, All-weaker,
-    All-contains, Contains-get_or}
+use Rattle.std.proofs.lemmas.List.Elements.{All-cons, All-nil, All-head, All-tail, All-weaker}
+use Rattle.std.proofs.lemmas.List.Elements.{All-contains, Contains-get_or}
 use Rattle.std.specs.List.{All, Contains, fold}
 use Rattle.std.specs.Int.{int_max, int_min}
 use Rattle.fixed_math.specs.declared.F2Dot14.{F2Dot14}
@@ -26,7 +26,7 @@ All-from_map : (P : ℤ → Type 0) (h : Master → ℤ) (xs : List Master) → 
 All-from_map P h [] all = All-nil (λ m. P (h m))
 All-from_map P h (x ∷ xs) all =
     All-cons (λ m. P (h m)) x xs (All-head P (h x) (map h xs) all)
-        (All-from_map P h xs (All-tail P (h x) (map h xs) all))
+    (All-from_map P h xs (All-tail P (h x) (map h xs) all))
 
 -- the least number is at most each
 least_bounds : (xs : List ℤ) → All (λ y. least xs ≤ℤ y) xs
@@ -44,10 +44,10 @@ least_from_member x (y ∷ ys) h =
     let P : ℤ → Type 0 = λ z. low ≤ℤ z in
     let Q : ℤ → Type 0 = λ z. least_one ≤ℤ z in
     let below = All-contains P (y ∷ ys) least_one (All-tail P x (y ∷ ys) from.none_below) all.there
-        in
+    in
     let first = All-contains Q (y ∷ ys) x all.none_below h in
     let above = All-contains Q (x ∷ y ∷ ys) low (All-cons Q x (y ∷ ys) first all.none_below)
-        from.there in
+    from.there in
     omega (arith, ints, below, above)
 
 -- the running least from one of the coordinates is that of all
@@ -73,8 +73,8 @@ pub least_from : (kind : CoordinateScale) (axis : ℕ) (masters : List Master) (
 least_from kind axis masters from low member e =
     let P : ℤ → Type 0 = λ z. z ≤ℤ from in
     subst P (sym e) (All-contains (λ y. least (coordinates_on kind axis masters) ≤ℤ y)
-        (coordinates_on kind axis masters) from (least_bounds (coordinates_on kind axis masters))
-        member)
+    (coordinates_on kind axis masters) from (least_bounds (coordinates_on kind axis masters))
+    member)
 
 -- the greatest number is at least each
 greatest_bounds : (xs : List ℤ) → All (λ y. y ≤ℤ greatest xs) xs
@@ -92,10 +92,10 @@ greatest_from_member x (y ∷ ys) h =
     let P : ℤ → Type 0 = λ z. z ≤ℤ high in
     let Q : ℤ → Type 0 = λ z. z ≤ℤ greatest_one in
     let above = All-contains P (y ∷ ys) greatest_one (All-tail P x (y ∷ ys) from.none_above)
-        all.there in
+    all.there in
     let first = All-contains Q (y ∷ ys) x all.none_above h in
     let below = All-contains Q (x ∷ y ∷ ys) high (All-cons Q x (y ∷ ys) first all.none_above)
-        from.there in
+    from.there in
     omega (arith, ints, below, above)
 
 -- the running greatest from one of the coordinates is that of all
@@ -121,8 +121,8 @@ pub greatest_from : (kind : CoordinateScale) (axis : ℕ) (masters : List Master
 greatest_from kind axis masters from high member e =
     let P : ℤ → Type 0 = λ z. from ≤ℤ z in
     subst P (sym e) (All-contains (λ y. y ≤ℤ greatest (coordinates_on kind axis masters))
-        (coordinates_on kind axis masters) from (greatest_bounds (coordinates_on kind axis masters))
-        member)
+    (coordinates_on kind axis masters) from (greatest_bounds (coordinates_on kind axis masters))
+    member)
 
 -- a normalised coordinate from a scale
 pub normal_from : (kind : CoordinateScale) (origin axis : ℕ) (masters : List Master)
@@ -136,8 +136,8 @@ normal_from kind origin axis masters master x low default high d l g is =
     let v = (coordinate_on kind axis master).0 in
     let all = coordinates_on kind axis masters in
     ap made (is ∙ ap (λ z. normalised v z default high) l
-        ∙ ap (λ z. normalised v (least all) z high) d
-        ∙ ap (λ z. normalised v (least all) (default_on kind origin axis masters) z) g)
+    ∙ ap (λ z. normalised v (least all) z high) d
+    ∙ ap (λ z. normalised v (least all) (default_on kind origin axis masters) z) g)
 
 -- a loop's step over masters
 pub pairs_more : (masters : List Master) (origin axis i : ℕ) (master : Master)
@@ -151,13 +151,13 @@ pairs_more masters origin axis i master user design done next h at u d before ma
     let f : Master → Pair = master_pair masters origin axis in
     let own : (user, design) ≡ f (get_or masters i master) =
     ap (λ x. (x, design)) u ∙ ap (λ y. (normal_on User origin axis masters master, y)) d ∙ ap f at
-        in
+    in
     made ∙ ap (λ l. l ++ (user, design) ∷ []) before
-        ∙ append_assoc fixed_pairs (map f (take i masters)) ((user, design) ∷ [])
-        ∙ ap (λ p. fixed_pairs ++ (map f (take i masters) ++ p ∷ [])) own
-        ∙ ap (λ l. fixed_pairs ++ l) (sym (map-append f (take i masters)
-        (get_or masters i master ∷ []))) ∙ ap (λ l. fixed_pairs ++ map f l)
-        (sym (take_more masters i master h))
+    ∙ append_assoc fixed_pairs (map f (take i masters)) ((user, design) ∷ [])
+    ∙ ap (λ p. fixed_pairs ++ (map f (take i masters) ++ p ∷ [])) own
+    ∙ ap (λ l. fixed_pairs ++ l) (sym (map-append f (take i masters)
+    (get_or masters i master ∷ []))) ∙ ap (λ l. fixed_pairs ++ map f l)
+    (sym (take_more masters i master h))
 
 -- the default master's coordinate
 pub default_is : (kind : CoordinateScale) (origin axis : ℕ) (masters : List Master)
@@ -166,7 +166,7 @@ pub default_is : (kind : CoordinateScale) (origin axis : ℕ) (masters : List Ma
 default_is kind origin axis masters master x h at is =
     let number : Fixed → ℤ = λ y. y.0 in
     ap number (is ∙ ap (coordinate_on kind axis) at
-        ∙ sym (get_or-map (coordinate_on kind axis) masters origin master (record { 0 = pos 0 }) h))
+    ∙ sym (get_or-map (coordinate_on kind axis) masters origin master (record { 0 = pos 0 }) h))
 
 -- it is one of the coordinates
 pub default_member : (kind : CoordinateScale) (origin axis : ℕ) (masters : List Master)

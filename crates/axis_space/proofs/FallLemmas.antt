@@ -1,7 +1,8 @@
 -- Where pairs in their order don't rise: the first neighbours that don't are where pairs of the set
 -- don't, and where there are none the list is the only rising one.
-use Rattle.std.proofs.Common.{◌≡◌, ◌≢◌, zero, suc, inl, inr, arith, refl, sym, subst, ◌∙◌, ◌≤ℤ◌,
-    Bool, true, false, cond, List, [], ◌∷◌, Some, None, ap, Ok, Err, Result, ℕ, Option, ℤ}
+use Rattle.std.proofs.Common.{◌≡◌, ◌≢◌, zero, suc, inl, inr, arith, refl, sym, subst, ◌∙◌, ◌≤ℤ◌}
+use Rattle.std.proofs.Common.{Bool, true, false, cond, List, [], ◌∷◌, Some, None, ap, Ok, Err}
+use Rattle.std.proofs.Common.{Result, ℕ, Option, ℤ}
 use Rattle.std.proofs.lemmas.Int.{ints}
 use Rattle.std.proofs.lemmas.List.Elements.{All-cons, All-head, All-tail}
 use Rattle.std.proofs.lemmas.List.Kept.{AllPairs-cons}
@@ -11,12 +12,13 @@ use Rattle.std.specs.List.Sorted.{IsStrictlySortedBy}
 use Rattle.std.specs.declared.cmp.Ordering.TheVariants.{Less}
 use Rattle.fixed_math.specs.declared.F2Dot14.{F2Dot14}
 use Rattle.font_ir.specs.AxisMaps.{Pair, Rises, IsRisingList, pairs_of}
-use Rattle.axis_space.specs.AxisPairs.{Falls, IsFirstFall, pair_cmp, in_order, rises, fall_after,
-    first_fall, Orders, avar_pairs, judged_by}
+use Rattle.axis_space.specs.AxisPairs.{Falls, IsFirstFall, pair_cmp, in_order, rises, fall_after}
+use Rattle.axis_space.specs.AxisPairs.{first_fall, Orders, avar_pairs, judged_by}
 use Rattle.font_ir.specs.declared.header.Master.{Master}
-use Rattle.axis_space.proofs.PairLemmas.{before, not_before_itself, before_from_rises,
-    contains_head, contains_tail, contains_none, contains_cases, each_of, of_each, same_list,
-    in_order_sorted, in_order_keeps, in_order_from}
+use Rattle.axis_space.proofs.PairLemmas.{before, not_before_itself, before_from_rises}
+use Rattle.axis_space.proofs.PairLemmas.{contains_head, contains_tail, contains_none}
+use Rattle.axis_space.proofs.PairLemmas.{contains_cases, each_of, of_each, same_list}
+use Rattle.axis_space.proofs.PairLemmas.{in_order_sorted, in_order_keeps, in_order_from}
 
 -- a list that rises, by recursion
 abbrev Climbs : List Pair → Type 0
@@ -62,9 +64,11 @@ climbs_sorted : (ps : List Pair) → Climbs ps → IsStrictlySortedBy pair_cmp p
 unfolding IsStrictlySortedBy
 climbs_sorted [] c = tt
 climbs_sorted (p ∷ ps) c =
-    let P : Pair → Type 0 = λ q. pair_cmp p q ≡ Less in
-    (of_each P ps (λ q h. before_from_rises p q (each_of (Rises p) ps q c.0 h)), climbs_sorted ps
-        c.1)
+    let P : Pair → Type 0 = λ q. pair_cmp p q ≡ Less in (
+      of_each P ps (λ q h. before_from_rises p q (each_of (Rises p) ps q c.0 h)),
+      climbs_sorted ps
+          c.1,
+    )
 
 -- a list that rises has no two members that don't
 
@@ -88,14 +92,14 @@ climbs_rise (x ∷ xs) c p q h k ne le =
 rising_never_falls : (set ps : List Pair) → IsRisingList set ps → (p q : Pair) → ¬ (Falls set p q)
 rising_never_falls set ps r p q f =
     f.not_rising (climbs_rise ps (climbs_from_pairs ps r.rising) p q ((r.members p).1 f.first)
-        ((r.members q).1 f.second) f.different f.not_below)
+    ((r.members q).1 f.second) f.different f.not_below)
 
 -- two rising lists of a set are one
 pub one_rising_list : (set ps qs : List Pair) → IsRisingList set ps → IsRisingList set qs → ps ≡ qs
 one_rising_list set ps qs r s =
     same_list ps qs (climbs_sorted ps (climbs_from_pairs ps r.rising))
-        (climbs_sorted qs (climbs_from_pairs qs s.rising))
-        (λ p h. (s.members p).1 ((r.members p).0 h)) (λ p h. (r.members p).1 ((s.members p).0 h))
+    (climbs_sorted qs (climbs_from_pairs qs s.rising))
+    (λ p h. (s.members p).1 ((r.members p).0 h)) (λ p h. (r.members p).1 ((s.members p).0 h))
 
 -- neighbours that rise make a list that rises
 
@@ -121,7 +125,7 @@ fall_here : (p q : Pair) (qs : List Pair) → AllByRecursion (λ z. pair_cmp p z
     → AllByRecursion (λ z. pair_cmp q z ≡ Less) qs → ¬ (Rises p q) → IsFirstFall (p ∷ (q ∷ qs)) q.0
 fall_here p q qs above_p above_q not_up =
     let from_q : (b : Pair) → Contains (q ∷ qs) b
-        → q.0.0 ≤ℤ b.0.0 = λ b h. elim (contains_cases q qs b h) [
+    → q.0.0 ≤ℤ b.0.0 = λ b h. elim (contains_cases q qs b h) [
       | inl e ↦ subst (λ (z : Pair). q.0.0 ≤ℤ z.0.0) e (omega (arith, ints))
       | inr more ↦ before q b (each_of (λ z. pair_cmp q z ≡ Less) qs b above_q more)
     ] in
@@ -166,7 +170,7 @@ fall_later p q qs x above_q up rest =
       not_rising = f.not_rising;
     } in
     let from_q : (b : Pair) → Contains (q ∷ qs) b
-        → q.0.0 ≤ℤ b.0.0 = λ b h. elim (contains_cases q qs b h) [
+    → q.0.0 ≤ℤ b.0.0 = λ b h. elim (contains_cases q qs b h) [
       | inl e ↦ subst (λ (z : Pair). q.0.0 ≤ℤ z.0.0) e (omega (arith, ints))
       | inr more ↦ before q b (each_of (λ z. pair_cmp q z ≡ Less) qs b above_q more)
     ] in
@@ -179,9 +183,14 @@ fall_later p q qs x above_q up rest =
           | inr a_later ↦ absurd (past p q a b up (from_q a a_later) f.not_below b_first)
         ]
         | inr b_later ↦ elim (contains_cases p (q ∷ qs) a f.first) [
-          | inr a_later ↦ rest.least a b (record
-              { first = a_later; second = b_later; different = f.different; not_below
-              = f.not_below; not_rising = f.not_rising })
+          | inr a_later ↦ rest.least a b (record {
+            first = a_later;
+            second = b_later;
+            different = f.different;
+            not_below
+                = f.not_below;
+            not_rising = f.not_rising;
+          })
           | inl a_first ↦ elim (contains_cases q qs b b_later) [
             | inl b_q ↦ absurd (f.not_rising (subst (λ (z : Pair). Rises z b) a_first
                 (subst (Rises p) b_q up)))
@@ -255,7 +264,7 @@ pub refused : (set : List Pair) (x : F2Dot14) → first_fall (in_order set) ≡ 
     → IsFirstFall set x × ((ps : List Pair) → ¬ (IsRisingList set ps))
 refused set x some =
     let first : IsFirstFall set x = first_over set x
-        (first_in (in_order set) x (in_order_sorted set) some) in
+    (first_in (in_order set) x (in_order_sorted set) some) in
     (first, never_rising set x first)
 
 rising_list : (set : List Pair) → first_fall (in_order set) ≡ None → IsRisingList set (in_order set)

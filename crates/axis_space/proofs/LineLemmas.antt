@@ -1,6 +1,6 @@
 -- A part of a rise lies between nothing and the rise.
-use Rattle.std.proofs.Common.{◌≡◌, ◌≤◌, zero, suc, arith, sym, ap, ◌∙◌, true, cond, ℤ, pos, negsuc,
-    ◌+ℤ◌, ◌-ℤ◌, ◌*ℤ◌, ◌≤ℤ◌, ◌<ℤ◌, FitsSigned, to_z, of_z}
+use Rattle.std.proofs.Common.{◌≡◌, ◌≤◌, zero, suc, arith, sym, ap, ◌∙◌, true, cond, ℤ, pos, negsuc}
+use Rattle.std.proofs.Common.{◌+ℤ◌, ◌-ℤ◌, ◌*ℤ◌, ◌≤ℤ◌, ◌<ℤ◌, FitsSigned, to_z, of_z}
 use Rattle.std.proofs.Math.Nat.{mul-le-mul_left}
 use Rattle.std.proofs.lemmas.Int.{ints, by_lt_z, to_z-of_z}
 use Rattle.std.specs.Int.{w32, w64, w128}
@@ -77,7 +77,7 @@ part_way_is rise part whole rise' part' whole' q f g h fits e e' e'' is =
     let wrapped : ℤ → ℤ = λ z. to_z w128 (of_z w128 z) in
     let product : wrapped (wrapped rise' *ℤ wrapped part') ≡ rise *ℤ part =
     ap (λ z. wrapped (z *ℤ wrapped part')) r ∙ ap (λ z. wrapped (rise *ℤ z)) p
-        ∙ to_z-of_z w128 (rise *ℤ part) fits in
+    ∙ to_z-of_z w128 (rise *ℤ part) fits in
     is ∙ ap (λ n. nearest n (wrapped whole')) product ∙ ap (nearest (rise *ℤ part)) w
 
 pub widened : (z : ℤ) → FitsSigned w64 z → to_z w64 (of_z w64 (to_z w128 (of_z w128 z))) ≡ z
@@ -110,7 +110,7 @@ pub part_fits : (rise part whole q : ℤ) → q ≡ nearest (rise *ℤ part) who
 part_fits rise part whole q is p k l low high =
     by_lt_z rise (pos 0)
     (λ less. let bounds = part_down rise part whole p k l (omega (arith, ints))
-        in omega (arith, ints))
+    in omega (arith, ints))
     (λ least. let bounds = part_up rise part whole p k l least in omega (arith, ints))
 
 lt_true : (a b : ℤ) → a <ℤ b → int_lt a b ≡ true
@@ -121,7 +121,7 @@ pub between_higher : (p q : Point) (design : ℤ) → int_lt p.design.0 q.design
     (q.design.0 -ℤ p.design.0)
 between_higher p q design e =
     ap (λ b. cond b (p.user.0 +ℤ nearest ((q.user.0 -ℤ p.user.0) *ℤ (design -ℤ p.design.0))
-        (q.design.0 -ℤ p.design.0)) p.user.0) e
+    (q.design.0 -ℤ p.design.0)) p.user.0) e
 
 -- the reading between two points of which the second is higher
 pub between_is : (p q : Point) (design rise part whole way : ℤ) → p.design.0 <ℤ q.design.0
@@ -129,9 +129,9 @@ pub between_is : (p q : Point) (design rise part whole way : ℤ) → p.design.0
     → way ≡ nearest (rise *ℤ part) whole → p.user.0 +ℤ way ≡ between p q design
 between_is p q design rise part whole way less r n w is =
     let own : way ≡ nearest ((q.user.0 -ℤ p.user.0) *ℤ (design -ℤ p.design.0))
-        (q.design.0 -ℤ p.design.0) =
+    (q.design.0 -ℤ p.design.0) =
     is ∙ ap (λ z. nearest (z *ℤ part) whole) r
-        ∙ ap (λ z. nearest ((q.user.0 -ℤ p.user.0) *ℤ z) whole) n
-        ∙ ap (nearest ((q.user.0 -ℤ p.user.0) *ℤ (design -ℤ p.design.0))) w in
+    ∙ ap (λ z. nearest ((q.user.0 -ℤ p.user.0) *ℤ z) whole) n
+    ∙ ap (nearest ((q.user.0 -ℤ p.user.0) *ℤ (design -ℤ p.design.0))) w in
     ap (λ z. p.user.0 +ℤ z) own ∙ sym (between_higher p q design
-        (lt_true p.design.0 q.design.0 less))
+    (lt_true p.design.0 q.design.0 less))

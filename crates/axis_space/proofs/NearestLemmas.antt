@@ -1,7 +1,7 @@
 -- What the nearest whole number to a quotient is: it keeps the order, it is exact, and so a
 -- coordinate between the ends of an axis lies between -1 and 1.
-use Rattle.std.proofs.Common.{◌≡◌, ℕ, ◌*◌, ◌<◌, arith, ap, ◌∙◌, ℤ, pos, negsuc, ◌+ℤ◌, ◌-ℤ◌, ◌*ℤ◌,
-    ◌≤ℤ◌, ◌<ℤ◌, FitsSigned, to_z, of_z}
+use Rattle.std.proofs.Common.{◌≡◌, ℕ, ◌*◌, ◌<◌, arith, ap, ◌∙◌, ℤ, pos, negsuc, ◌+ℤ◌, ◌-ℤ◌, ◌*ℤ◌}
+use Rattle.std.proofs.Common.{◌≤ℤ◌, ◌<ℤ◌, FitsSigned, to_z, of_z}
 use Rattle.std.proofs.lemmas.Int.{ints, by_lt_z}
 use Rattle.std.specs.Int.{w16, w64, w128}
 use Rattle.fixed_math.specs.FloorLaws.{floor_monotone, floor_unique}
@@ -10,7 +10,7 @@ use Rattle.font_ir.specs.Normal.{nearest, normalised}
 nearest_monotone_nat : (m n : ℤ) (d : ℕ) → 0 < d → m ≤ℤ n → nearest m (pos d) ≤ℤ nearest n (pos d)
 nearest_monotone_nat m n d h le =
     floor_monotone (pos 2 *ℤ m +ℤ pos d) (pos 2 *ℤ n +ℤ pos d) (2 * d) (omega arith)
-        (omega (arith, ints))
+    (omega (arith, ints))
 
 -- a greater number has no smaller quotient
 pub nearest_monotone : (m n d : ℤ) → pos 0 <ℤ d → m ≤ℤ n → nearest m d ≤ℤ nearest n d
@@ -20,7 +20,7 @@ nearest_monotone m n (negsuc d) h le = absurd (omega (arith, ints))
 nearest_exact_nat : (z : ℤ) (d : ℕ) → 0 < d → nearest (z *ℤ pos d) (pos d) ≡ z
 nearest_exact_nat z d h =
     floor_unique (pos 2 *ℤ (z *ℤ pos d) +ℤ pos d) z (2 * d) (omega arith) (omega (arith, ints))
-        (omega (arith, ints))
+    (omega (arith, ints))
 
 -- a multiple is no fraction
 pub nearest_exact : (z d : ℤ) → pos 0 <ℤ d → nearest (z *ℤ d) d ≡ z
@@ -33,7 +33,7 @@ pub nearest_high : (way whole : ℤ) → pos 0 <ℤ whole → way ≤ℤ whole
 nearest_high way whole h k =
     let exact = nearest_exact (pos 16384) whole h in
     let bound = nearest_monotone (pos 16384 *ℤ way) (pos 16384 *ℤ whole) whole h
-        (omega (arith, ints)) in
+    (omega (arith, ints)) in
     omega (arith, ints)
 
 pub nearest_low : (way whole : ℤ) → pos 0 <ℤ whole → pos 0 ≤ℤ (way +ℤ whole)
@@ -41,7 +41,7 @@ pub nearest_low : (way whole : ℤ) → pos 0 <ℤ whole → pos 0 ≤ℤ (way +
 nearest_low way whole h k =
     let exact = nearest_exact (negsuc 16383) whole h in
     let bound = nearest_monotone (negsuc 16383 *ℤ whole) (pos 16384 *ℤ way) whole h
-        (omega (arith, ints)) in
+    (omega (arith, ints)) in
     omega (arith, ints)
 
 pub nearest_whole : (way whole : ℤ) → pos 0 <ℤ whole → way ≡ whole
@@ -68,7 +68,7 @@ part_is way whole way' whole' q f g e e' is =
     let w : way' ≡ way = omega (arith, ints) in
     let h : whole' ≡ whole = omega (arith, ints) in
     let n : to_z w128 (of_z w128 (pos 16384 *ℤ to_z w128 (of_z w128 way')))
-        ≡ (pos 16384 *ℤ way) = omega (arith, ints) in
+    ≡ (pos 16384 *ℤ way) = omega (arith, ints) in
     let d : to_z w128 (of_z w128 whole') ≡ whole = omega (arith, ints) in
     is ∙ ap (λ n. nearest n (to_z w128 (of_z w128 whole'))) n ∙ ap (nearest (pos 16384 *ℤ way)) d
 
@@ -92,7 +92,7 @@ normalised_not_negative v low zero high h k =
     let positive : pos 0 <ℤ (high -ℤ zero) = omega (arith, ints) in
     let exact = nearest_exact (pos 0) (high -ℤ zero) positive in
     let bound = nearest_monotone (pos 0 *ℤ (high -ℤ zero)) (pos 16384 *ℤ (v -ℤ zero)) (high -ℤ zero)
-        positive (omega (arith, ints)) in
+    positive (omega (arith, ints)) in
     omega (arith, ints))
     (λ l. let is = normalised_at v low zero high (omega (arith, ints)) in omega (arith, ints))
 
@@ -105,7 +105,7 @@ normalised_not_positive v low zero high h k =
     let positive : pos 0 <ℤ (zero -ℤ low) = omega (arith, ints) in
     let exact = nearest_exact (pos 0) (zero -ℤ low) positive in
     let bound = nearest_monotone (pos 16384 *ℤ (v -ℤ zero)) (pos 0 *ℤ (zero -ℤ low)) (zero -ℤ low)
-        positive (omega (arith, ints)) in
+    positive (omega (arith, ints)) in
     omega (arith, ints))
     (λ l. let is = normalised_at v low zero high (omega (arith, ints)) in omega (arith, ints))
 
@@ -118,7 +118,7 @@ normalised_monotone w v low zero high h le k =
     let at_w = normalised_below w low zero high (omega (arith, ints)) in
     let at_v = normalised_below v low zero high both_below in
     let bound = nearest_monotone (pos 16384 *ℤ (w -ℤ zero)) (pos 16384 *ℤ (v -ℤ zero)) (zero -ℤ low)
-        (omega (arith, ints)) (omega (arith, ints)) in
+    (omega (arith, ints)) (omega (arith, ints)) in
     omega (arith, ints))
     (λ v_from.
     by_lt_z zero w
@@ -126,7 +126,7 @@ normalised_monotone w v low zero high h le k =
     let at_w = normalised_above w low zero high both_above in
     let at_v = normalised_above v low zero high (omega (arith, ints)) in
     let bound = nearest_monotone (pos 16384 *ℤ (w -ℤ zero)) (pos 16384 *ℤ (v -ℤ zero))
-        (high -ℤ zero) (omega (arith, ints)) (omega (arith, ints)) in
+    (high -ℤ zero) (omega (arith, ints)) (omega (arith, ints)) in
     omega (arith, ints))
     (λ w_up_to.
     let at_w = normalised_not_positive w low zero high h w_up_to in

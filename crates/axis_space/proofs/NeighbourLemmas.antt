@@ -1,13 +1,13 @@
 -- The neighbours that the functions give are neighbours.
-use Rattle.std.proofs.Common.{◌≡◌, ◌<◌, inl, inr, arith, refl, ap, subst, ◌∙◌, ℤ, ◌≤ℤ◌, ◌<ℤ◌, Bool,
-    true, false, cond, List, [], ◌∷◌, length, Option, Some, None}
+use Rattle.std.proofs.Common.{◌≡◌, ◌<◌, inl, inr, arith, refl, ap, subst, ◌∙◌, ℤ, ◌≤ℤ◌, ◌<ℤ◌, Bool}
+use Rattle.std.proofs.Common.{true, false, cond, List, [], ◌∷◌, length, Option, Some, None}
 use Rattle.std.proofs.lemmas.Int.{ints}
 use Rattle.std.proofs.lemmas.List.Elements.{All-cons, All-nil, All-weaker}
 use Rattle.std.specs.Prelude.{IfSome, int_lt, int_le}
 use Rattle.std.specs.List.{All, find}
 use Rattle.std.specs.Ordering.{int_eq}
-use Rattle.axis_space.specs.Points.{IsFirst, IsBelow, IsAbove, Places, not_above, higher, below,
-    not_below, lower, above}
+use Rattle.axis_space.specs.Points.{IsFirst, IsBelow, IsAbove, Places, not_above, higher, below}
+use Rattle.axis_space.specs.Points.{not_below, lower, above}
 use Rattle.axis_space.specs.declared.points.Point.{Point}
 use Rattle.axis_space.proofs.PointLemmas.{le_true, some_neighbour}
 
@@ -33,7 +33,7 @@ equal_itself a = grind (arith, ints)
 found_here : (q : Point) (qs : List Point) → IsFirst (q ∷ qs) q
 found_here q qs =
     ap (λ b. cond b (Some q) (find (λ r. int_eq r.design.0 q.design.0) qs))
-        (equal_itself q.design.0)
+    (equal_itself q.design.0)
 
 found_there : (q p : Point) (qs : List Point) → int_eq q.design.0 p.design.0 ≡ false → IsFirst qs p
     → IsFirst (q ∷ qs) p
@@ -80,8 +80,12 @@ below_here : (design : ℤ) (q : Point) (qs : List Point) → q.design.0 ≤ℤ 
     → All (λ r. r.design.0 ≤ℤ design → r.design.0 ≤ℤ q.design.0) qs → IsBelow (q ∷ qs) design q
 below_here design q qs le all =
     let P : Point → Type 0 = λ r. r.design.0 ≤ℤ design → r.design.0 ≤ℤ q.design.0 in
-    record { first = found_here q qs; at_most = le; nearest
-        = All-cons P q qs (λ h. omega (arith, ints)) all }
+    record {
+      first = found_here q qs;
+      at_most = le;
+      nearest
+          = All-cons P q qs (λ h. omega (arith, ints)) all;
+    }
 
 apart_below : (design : ℤ) (q p : Point) → p.design.0 ≤ℤ design
     → (q.design.0 ≤ℤ design → q.design.0 <ℤ p.design.0) → int_eq q.design.0 p.design.0 ≡ false
@@ -107,13 +111,13 @@ below_nearer : (design : ℤ) (q s p : Point) (qs : List Point) (b : Bool)
 below_nearer design q s p qs true e le ih h =
     let same : s ≡ p = cc in
     subst (IsBelow (q ∷ qs) design) same (below_there design q s qs
-        (λ g. lt_holds q.design.0 s.design.0 e) ih)
+    (λ g. lt_holds q.design.0 s.design.0 e) ih)
 below_nearer design q s p qs false e le ih h =
     let same : q ≡ p = cc in
     let not_less = lt_fails q.design.0 s.design.0 e in
     let all = All-weaker (λ r. r.design.0 ≤ℤ design → r.design.0 ≤ℤ s.design.0)
-        (λ r. r.design.0 ≤ℤ design → r.design.0 ≤ℤ q.design.0)
-        (λ r f g. let l = f g in omega (arith, ints)) qs ih.nearest in
+    (λ r. r.design.0 ≤ℤ design → r.design.0 ≤ℤ q.design.0)
+    (λ r f g. let l = f g in omega (arith, ints)) qs ih.nearest in
     subst (IsBelow (q ∷ qs) design) same (below_here design q qs le all)
 
 below_gives_step : (design : ℤ) (q p : Point) (qs : List Point) (o : Option Point) (b : Bool)
@@ -125,20 +129,20 @@ below_gives_step design q p qs o false e at ih h =
 below_gives_step design q p qs None true e at ih h =
     let same : q ≡ p = cc in
     let all = All-weaker (λ r. design <ℤ r.design.0)
-        (λ r. r.design.0 ≤ℤ design → r.design.0 ≤ℤ q.design.0)
-        (λ r f g. absurd (omega (arith, ints))) qs (below_none design qs at) in
+    (λ r. r.design.0 ≤ℤ design → r.design.0 ≤ℤ q.design.0)
+    (λ r f g. absurd (omega (arith, ints))) qs (below_none design qs at) in
     subst (IsBelow (q ∷ qs) design) same (below_here design q qs (le_true q.design.0 design e) all)
 below_gives_step design q p qs (Some s) true e at ih h =
     below_nearer design q s p qs (int_lt q.design.0 s.design.0) refl (le_true q.design.0 design e)
-        ih h
+    ih h
 
 pub below_gives : (design : ℤ) (ps : List Point)
     → IfSome (below design ps) (λ p. IsBelow ps design p)
 below_gives design [] = tt
 below_gives design (q ∷ qs) =
     for_some (λ p. IsBelow (q ∷ qs) design p) (higher (not_above design q) (below design qs))
-        (λ p h. below_gives_step design q p qs (below design qs) (int_le q.design.0 design) refl
-        refl (below_gives design qs) h)
+    (λ p h. below_gives_step design q p qs (below design qs) (int_le q.design.0 design) refl
+    refl (below_gives design qs) h)
 
 -- the neighbour that the function gives is one, and where it gives none all points are on the other
 -- side
@@ -162,8 +166,12 @@ above_here : (design : ℤ) (q : Point) (qs : List Point) → design ≤ℤ q.de
     → All (λ r. design ≤ℤ r.design.0 → q.design.0 ≤ℤ r.design.0) qs → IsAbove (q ∷ qs) design q
 above_here design q qs le all =
     let P : Point → Type 0 = λ r. design ≤ℤ r.design.0 → q.design.0 ≤ℤ r.design.0 in
-    record { first = found_here q qs; at_least = le; nearest
-        = All-cons P q qs (λ h. omega (arith, ints)) all }
+    record {
+      first = found_here q qs;
+      at_least = le;
+      nearest
+          = All-cons P q qs (λ h. omega (arith, ints)) all;
+    }
 
 apart_above : (design : ℤ) (q p : Point) → design ≤ℤ p.design.0
     → (design ≤ℤ q.design.0 → p.design.0 <ℤ q.design.0) → int_eq q.design.0 p.design.0 ≡ false
@@ -189,13 +197,13 @@ above_nearer : (design : ℤ) (q s p : Point) (qs : List Point) (b : Bool)
 above_nearer design q s p qs true e le ih h =
     let same : s ≡ p = cc in
     subst (IsAbove (q ∷ qs) design) same (above_there design q s qs
-        (λ g. lt_holds s.design.0 q.design.0 e) ih)
+    (λ g. lt_holds s.design.0 q.design.0 e) ih)
 above_nearer design q s p qs false e le ih h =
     let same : q ≡ p = cc in
     let not_less = lt_fails s.design.0 q.design.0 e in
     let all = All-weaker (λ r. design ≤ℤ r.design.0 → s.design.0 ≤ℤ r.design.0)
-        (λ r. design ≤ℤ r.design.0 → q.design.0 ≤ℤ r.design.0)
-        (λ r f g. let l = f g in omega (arith, ints)) qs ih.nearest in
+    (λ r. design ≤ℤ r.design.0 → q.design.0 ≤ℤ r.design.0)
+    (λ r f g. let l = f g in omega (arith, ints)) qs ih.nearest in
     subst (IsAbove (q ∷ qs) design) same (above_here design q qs le all)
 
 above_gives_step : (design : ℤ) (q p : Point) (qs : List Point) (o : Option Point) (b : Bool)
@@ -207,20 +215,20 @@ above_gives_step design q p qs o false e at ih h =
 above_gives_step design q p qs None true e at ih h =
     let same : q ≡ p = cc in
     let all = All-weaker (λ r. r.design.0 <ℤ design)
-        (λ r. design ≤ℤ r.design.0 → q.design.0 ≤ℤ r.design.0)
-        (λ r f g. absurd (omega (arith, ints))) qs (above_none design qs at) in
+    (λ r. design ≤ℤ r.design.0 → q.design.0 ≤ℤ r.design.0)
+    (λ r f g. absurd (omega (arith, ints))) qs (above_none design qs at) in
     subst (IsAbove (q ∷ qs) design) same (above_here design q qs (le_true design q.design.0 e) all)
 above_gives_step design q p qs (Some s) true e at ih h =
     above_nearer design q s p qs (int_lt s.design.0 q.design.0) refl (le_true design q.design.0 e)
-        ih h
+    ih h
 
 pub above_gives : (design : ℤ) (ps : List Point)
     → IfSome (above design ps) (λ p. IsAbove ps design p)
 above_gives design [] = tt
 above_gives design (q ∷ qs) =
     for_some (λ p. IsAbove (q ∷ qs) design p) (lower (not_below design q) (above design qs))
-        (λ p h. above_gives_step design q p qs (above design qs) (int_le design q.design.0) refl
-        refl (above_gives design qs) h)
+    (λ p h. above_gives_step design q p qs (above design qs) (int_le design q.design.0) refl
+    refl (above_gives design qs) h)
 
 placed_by : (points : List Point) (design : ℤ) (low high : Option Point) → below design points ≡ low
     → above design points ≡ high → IfSome low (λ p. IsBelow points design p)
@@ -234,4 +242,4 @@ placed_by points design None None e f h k some = absurd (some_neighbour design p
 pub placed : (points : List Point) (design : ℤ) → 0 < length points → Places points design
 placed points design some =
     placed_by points design (below design points) (above design points) refl refl
-        (below_gives design points) (above_gives design points) some
+    (below_gives design points) (above_gives design points) some

@@ -1,15 +1,15 @@
 -- Pairs in their order: what the comparison says, that two lists in strict order with the same
 -- members are one, and that what puts pairs in order keeps their members.
-use Rattle.std.proofs.Common.{◌≡◌, ◌≢◌, ◌⊎◌, inl, inr, arith, refl, sym, ap, subst, ◌∙◌, ℤ, ◌<ℤ◌,
-    ◌≤ℤ◌, Bool, true, ◌&&◌, List, [], ◌∷◌}
+use Rattle.std.proofs.Common.{◌≡◌, ◌≢◌, ◌⊎◌, inl, inr, arith, refl, sym, ap, subst, ◌∙◌, ℤ, ◌<ℤ◌}
+use Rattle.std.proofs.Common.{◌≤ℤ◌, Bool, true, ◌&&◌, List, [], ◌∷◌}
 use Rattle.std.proofs.lemmas.Int.{ints}
-use Rattle.std.proofs.lemmas.Cmp.{int_ranked, int_cmp_total, on_total, then_total, tied_itself,
-    and_equiv, on_equiv, int_eq_equiv}
-use Rattle.std.proofs.lemmas.List.Elements.{All-cons, All-nil, All-contains, Contains-append_right,
-    Contains-append_cases}
+use Rattle.std.proofs.lemmas.Cmp.{int_ranked, int_cmp_total, on_total, then_total, tied_itself}
+use Rattle.std.proofs.lemmas.Cmp.{and_equiv, on_equiv, int_eq_equiv}
+use Rattle.std.proofs.lemmas.List.Elements.{All-cons, All-nil, All-contains, Contains-append_right}
+use Rattle.std.proofs.lemmas.List.Elements.{Contains-append_cases}
 use Rattle.std.proofs.lemmas.List.Sorted.{IsPermutation-sym, Contains-permutation}
-use Rattle.std.proofs.lemmas.List.Kept.{IsStrictlySortedBy-dedup, Contains-dedup,
-    Contains-from_dedup}
+use Rattle.std.proofs.lemmas.List.Kept.{IsStrictlySortedBy-dedup, Contains-dedup}
+use Rattle.std.proofs.lemmas.List.Kept.{Contains-from_dedup}
 use Rattle.std.specs.Cmp.{IsTotalOrder, IsEquivalence, int_cmp_is, both_tied}
 use Rattle.std.specs.List.{Contains, AllByRecursion, dedup}
 use Rattle.std.specs.List.Sorted.{IsStrictlySortedBy, IsSorted, IsPermutation}
@@ -90,20 +90,25 @@ pub contains_cases : (x : Pair) (xs : List Pair) (y : Pair) → Contains (x ∷ 
     → (x ≡ y) ⊎ Contains xs y
 contains_cases x xs y h =
     elim (Contains-append_cases (x ∷ []) xs y h)
-        [ inl one ↦ inl (only_one x y one) | inr more ↦ inr more ]
+    [ inl one ↦ inl (only_one x y one) | inr more ↦ inr more ]
 
 pub each_of : (P : Pair → Type 0) (xs : List Pair) (y : Pair) → AllByRecursion P xs → Contains xs y
     → P y
 each_of P [] y all h = absurd (contains_none y h)
 each_of P (x ∷ xs) y all h =
-    elim (contains_cases x xs y h) [ inl e ↦ subst P e all.0 | inr more ↦ each_of P xs y all.1 more
-        ]
+    elim (contains_cases x xs y h) [
+      | inl e ↦ subst P e all.0
+      | inr more ↦ each_of P xs y all.1 more
+    ]
 
 pub of_each : (P : Pair → Type 0) (xs : List Pair) → ((y : Pair) → Contains xs y → P y)
     → AllByRecursion P xs
 of_each P [] f = tt
-of_each P (x ∷ xs) f = (f x (contains_head x xs), of_each P xs
-    (λ y h. f y (contains_tail x xs y h)))
+of_each P (x ∷ xs) f = (
+  f x (contains_head x xs),
+  of_each P xs
+      (λ y h. f y (contains_tail x xs y h)),
+)
 
 -- lists in strict order
 
@@ -137,10 +142,10 @@ same_list [] (y ∷ ys) s t into back = absurd (contains_none y (back y (contain
 same_list (x ∷ xs) [] s t into back = absurd (contains_none x (into x (contains_head x xs)))
 same_list (x ∷ xs) (y ∷ ys) s t into back =
     let e : x ≡ y = same_heads x y xs ys s.0 t.0
-        (contains_cases y ys x (into x (contains_head x xs)))
-        (contains_cases x xs y (back y (contains_head y ys))) in
+    (contains_cases y ys x (into x (contains_head x xs)))
+    (contains_cases x xs y (back y (contains_head y ys))) in
     let tails : xs ≡ ys = same_list xs ys s.1 t.1 (tail_members x y xs ys s.0 e into)
-        (tail_members y x ys xs t.0 (sym e) back) in
+    (tail_members y x ys xs t.0 (sym e) back) in
     ap (λ z. z ∷ xs) e ∙ ap (λ zs. y ∷ zs) tails
 
 -- putting pairs in order
@@ -223,7 +228,7 @@ unfolding IsStrictlySortedBy
 with_pair_sorted p [] s = (tt, tt)
 with_pair_sorted p (q ∷ qs) s =
     placed_sorted (pair_cmp p q) p q qs (with_pair p qs) refl s (with_pair_sorted p qs s.1)
-        (with_pair_from p qs)
+    (with_pair_from p qs)
 
 pub in_order_sorted : (ps : List Pair) → IsStrictlySortedBy pair_cmp (in_order ps)
 unfolding IsStrictlySortedBy
@@ -257,7 +262,7 @@ pair_eq_equivalence = and_equiv (on_equiv (λ (p : Pair). p.0.0) int_eq_equiv)
 pair_eq_ties : (p q : Pair) → pair_eq p q ≡ eq_by_cmp pair_cmp p q
 pair_eq_ties p q =
     both_tied (int_eq p.0.0 q.0.0) (int_eq p.1.0 q.1.0) (int_cmp p.0.0 q.0.0) (int_cmp p.1.0 q.1.0)
-        refl refl
+    refl refl
 
 equal_from_is_eq : (o : Ordering) → is_eq o ≡ true → o ≡ Equal
 equal_from_is_eq Less e = cc
@@ -272,8 +277,8 @@ pub sorted_is_in_order : (set sorted : List Pair) → IsPermutation set sorted
     → IsSorted pair_cmp sorted → dedup pair_eq sorted ≡ in_order set
 sorted_is_in_order set sorted moved rises =
     same_list (dedup pair_eq sorted) (in_order set)
-        (IsStrictlySortedBy-dedup pair_cmp_total pair_eq_ties sorted rises) (in_order_sorted set)
+    (IsStrictlySortedBy-dedup pair_cmp_total pair_eq_ties sorted rises) (in_order_sorted set)
     (λ p h. in_order_keeps set p (Contains-permutation sorted set p
-        (IsPermutation-sym set sorted moved) (Contains-from_dedup pair_eq sorted p h)))
+    (IsPermutation-sym set sorted moved) (Contains-from_dedup pair_eq sorted p h)))
     (λ p h. Contains-dedup pair_eq_equivalence pair_eq_same sorted p
-        (Contains-permutation set sorted p moved (in_order_from set p h)))
+    (Contains-permutation set sorted p moved (in_order_from set p h)))

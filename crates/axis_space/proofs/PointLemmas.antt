@@ -1,14 +1,15 @@
 -- Neighbours: what the functions give is what the relations say, and so a reading is one.
-use Rattle.std.proofs.Common.{◌≡◌, ℕ, ◌<◌, arith, refl, sym, ap, subst, ◌∙◌, ℤ, pos, ◌+ℤ◌, ◌-ℤ◌,
-    ◌*ℤ◌, ◌≤ℤ◌, ◌<ℤ◌, Bool, true, false, cond, List, [], ◌∷◌, length, Option, Some, None}
+use Rattle.std.proofs.Common.{◌≡◌, ℕ, ◌<◌, arith, refl, sym, ap, subst, ◌∙◌, ℤ, pos, ◌+ℤ◌, ◌-ℤ◌}
+use Rattle.std.proofs.Common.{◌*ℤ◌, ◌≤ℤ◌, ◌<ℤ◌, Bool, true, false, cond, List, [], ◌∷◌, length}
+use Rattle.std.proofs.Common.{Option, Some, None}
 use Rattle.std.proofs.lemmas.Int.{ints, by_lt_z}
 use Rattle.std.proofs.lemmas.List.Elements.{All-head, All-tail}
 use Rattle.std.specs.Prelude.{IfSome, int_lt, int_le}
 use Rattle.std.specs.List.{All, find}
 use Rattle.std.specs.Ordering.{int_eq}
 use Rattle.font_ir.specs.Normal.{nearest}
-use Rattle.axis_space.specs.Points.{IsFirst, IsBelow, IsAbove, not_above, higher, below, not_below,
-    lower, above, between, reading, user_at, points_of}
+use Rattle.axis_space.specs.Points.{IsFirst, IsBelow, IsAbove, not_above, higher, below, not_below}
+use Rattle.axis_space.specs.Points.{lower, above, between, reading, user_at, points_of}
 use Rattle.font_ir.specs.declared.header.Master.{Master}
 use Rattle.axis_space.specs.declared.points.Point.{Point}
 use Rattle.axis_space.proofs.LineLemmas.{part_up, part_down}
@@ -25,7 +26,7 @@ higher_holds Q None b h k = k
 higher_holds Q (Some p) None h k = h
 higher_holds Q (Some p) (Some q) h k =
     elim (int_lt p.design.0 q.design.0) as (λ b. IfSome (cond b (Some q) (Some p)) Q)
-        [ true ↦ k | false ↦ h ]
+    [ true ↦ k | false ↦ h ]
 
 lower_holds : (Q : Point → Type 0) (a b : Option Point) → IfSome a Q → IfSome b Q
     → IfSome (lower a b) Q
@@ -33,7 +34,7 @@ lower_holds Q None b h k = k
 lower_holds Q (Some p) None h k = h
 lower_holds Q (Some p) (Some q) h k =
     elim (int_lt q.design.0 p.design.0) as (λ b. IfSome (cond b (Some q) (Some p)) Q)
-        [ true ↦ k | false ↦ h ]
+    [ true ↦ k | false ↦ h ]
 
 pub le_true : (a b : ℤ) → int_le a b ≡ true → a ≤ℤ b
 le_true a b e = grind (arith, ints)
@@ -56,16 +57,16 @@ pub below_holds : (P : Point → Type 0) (design : ℤ) (ps : List Point) → Al
 below_holds P design [] h = tt
 below_holds P design (p ∷ ps) h =
     higher_holds (λ q. (q.design.0 ≤ℤ design) × P q) (not_above design p) (below design ps)
-        (not_above_holds P design p (int_le p.design.0 design) refl (All-head P p ps h))
-        (below_holds P design ps (All-tail P p ps h))
+    (not_above_holds P design p (int_le p.design.0 design) refl (All-head P p ps h))
+    (below_holds P design ps (All-tail P p ps h))
 
 pub above_holds : (P : Point → Type 0) (design : ℤ) (ps : List Point) → All P ps
     → IfSome (above design ps) (λ q. (design ≤ℤ q.design.0) × P q)
 above_holds P design [] h = tt
 above_holds P design (p ∷ ps) h =
     lower_holds (λ q. (design ≤ℤ q.design.0) × P q) (not_below design p) (above design ps)
-        (not_below_holds P design p (int_le design p.design.0) refl (All-head P p ps h))
-        (above_holds P design ps (All-tail P p ps h))
+    (not_below_holds P design p (int_le design p.design.0) refl (All-head P p ps h))
+    (above_holds P design ps (All-tail P p ps h))
 
 -- the neighbours of the relations are those of the functions
 
@@ -100,7 +101,7 @@ below_step design q p qs true e first le all ih =
     let same : q ≡ p = cc in
     let Q : Point → Type 0 = λ z. higher (not_above design z) (below design qs) ≡ Some p in
     subst Q (sym same) (higher_first design p (below design qs) le
-        (below_holds P design qs (All-tail P q qs all)))
+    (below_holds P design qs (All-tail P q qs all)))
 below_step design q p qs false e first le all ih =
     let P : Point → Type 0 = λ r. r.design.0 ≤ℤ design → r.design.0 ≤ℤ p.design.0 in
     ap (higher (not_above design q)) (ih first) ∙ higher_later design q p (All-head P q qs all) e
@@ -111,7 +112,7 @@ below_by design [] p first le all = cc
 below_by design (q ∷ qs) p first le all =
     let P : Point → Type 0 = λ r. r.design.0 ≤ℤ design → r.design.0 ≤ℤ p.design.0 in
     below_step design q p qs (int_eq q.design.0 p.design.0) refl first le all
-        (λ f. below_by design qs p f le (All-tail P q qs all))
+    (λ f. below_by design qs p f le (All-tail P q qs all))
 
 above_step : (design : ℤ) (q p : Point) (qs : List Point) (b : Bool)
     → int_eq q.design.0 p.design.0 ≡ b → cond b (Some q)
@@ -124,7 +125,7 @@ above_step design q p qs true e first le all ih =
     let same : q ≡ p = cc in
     let Q : Point → Type 0 = λ z. lower (not_below design z) (above design qs) ≡ Some p in
     subst Q (sym same) (lower_first design p (above design qs) le
-        (above_holds P design qs (All-tail P q qs all)))
+    (above_holds P design qs (All-tail P q qs all)))
 above_step design q p qs false e first le all ih =
     let P : Point → Type 0 = λ r. design ≤ℤ r.design.0 → p.design.0 ≤ℤ r.design.0 in
     ap (lower (not_below design q)) (ih first) ∙ lower_later design q p (All-head P q qs all) e
@@ -135,7 +136,7 @@ above_by design [] p first le all = cc
 above_by design (q ∷ qs) p first le all =
     let P : Point → Type 0 = λ r. design ≤ℤ r.design.0 → p.design.0 ≤ℤ r.design.0 in
     above_step design q p qs (int_eq q.design.0 p.design.0) refl first le all
-        (λ f. above_by design qs p f le (All-tail P q qs all))
+    (λ f. above_by design qs p f le (All-tail P q qs all))
 
 pub below_is : (design : ℤ) (ps : List Point) (p : Point) → IsBelow ps design p
     → below design ps ≡ Some p
@@ -157,14 +158,14 @@ pub none_below : (design : ℤ) (ps : List Point) → All (λ r. design <ℤ r.d
 none_below design ps h =
     let P : Point → Type 0 = λ r. design <ℤ r.design.0 in
     ruled_out (λ q. (q.design.0 ≤ℤ design) × P q) (below design ps)
-        (λ q f. let le = f.0 in let lt = f.1 in omega (arith, ints)) (below_holds P design ps h)
+    (λ q f. let le = f.0 in let lt = f.1 in omega (arith, ints)) (below_holds P design ps h)
 
 pub none_above : (design : ℤ) (ps : List Point) → All (λ r. r.design.0 <ℤ design) ps
     → above design ps ≡ None
 none_above design ps h =
     let P : Point → Type 0 = λ r. r.design.0 <ℤ design in
     ruled_out (λ q. (design ≤ℤ q.design.0) × P q) (above design ps)
-        (λ q f. let le = f.0 in let lt = f.1 in omega (arith, ints)) (above_holds P design ps h)
+    (λ q f. let le = f.0 in let lt = f.1 in omega (arith, ints)) (above_holds P design ps h)
 
 -- the reading
 
@@ -179,7 +180,7 @@ at_itself design ps p first at =
     let high : above design ps ≡ Some p =
     above_by design ps p first (omega (arith, ints)) (λ k d l. λ le. omega (arith, ints)) in
     ap (λ o. reading o (above design ps) design) low ∙ ap (λ o. reading (Some p) o design) high
-        ∙ between_same p design
+    ∙ between_same p design
 
 -- a part of the way between two numbers lies between what they lie between
 part_bounded : (u v part whole low high : ℤ) → pos 0 <ℤ whole → pos 0 ≤ℤ part → part ≤ℤ whole
@@ -209,7 +210,7 @@ between_bounded : (p q : Point) (design low high : ℤ) (b : Bool) → int_lt p.
 between_bounded p q design low high true e from to h k =
     let less : p.design.0 <ℤ q.design.0 = grind (arith, ints) in
     part_bounded p.user.0 q.user.0 (design -ℤ p.design.0) (q.design.0 -ℤ p.design.0) low high
-        (omega (arith, ints)) (omega (arith, ints)) (omega (arith, ints)) h k
+    (omega (arith, ints)) (omega (arith, ints)) (omega (arith, ints)) h k
 between_bounded p q design low high false e from to h k = h
 
 pub reading_bounded : (a b : Option Point) (design low high : ℤ) → ((a ≡ None) → (b ≡ None) → ⊥)
@@ -229,7 +230,7 @@ no_higher None b e = (refl, e)
 no_higher (Some p) None e = cc
 no_higher (Some p) (Some q) e =
     elim (int_lt p.design.0 q.design.0) as (λ b. cond b (Some q) (Some p) ≡ None
-        → (Some p ≡ None) × (Some q ≡ None)) [
+    → (Some p ≡ None) × (Some q ≡ None)) [
       | true ↦ λ f. cc
       | false ↦ λ f. cc
     ] e
@@ -239,7 +240,7 @@ no_lower None b e = (refl, e)
 no_lower (Some p) None e = cc
 no_lower (Some p) (Some q) e =
     elim (int_lt q.design.0 p.design.0) as (λ b. cond b (Some q) (Some p) ≡ None
-        → (Some p ≡ None) × (Some q ≡ None)) [
+    → (Some p ≡ None) × (Some q ≡ None)) [
       | true ↦ λ f. cc
       | false ↦ λ f. cc
     ] e
@@ -252,21 +253,21 @@ pub some_neighbour : (design : ℤ) (ps : List Point) → 0 < length ps → belo
 some_neighbour design [] h e f = absurd (omega arith)
 some_neighbour design (p ∷ ps) h e f =
     one_side design p (no_higher (not_above design p) (below design ps) e).0
-        (no_lower (not_below design p) (above design ps) f).0
+    (no_lower (not_below design p) (above design ps) f).0
 
 pub below_side : (design : ℤ) (ps : List Point) (o : Option Point) → o ≡ below design ps
     → IfSome o (λ p. p.design.0 ≤ℤ design)
 below_side design ps o e =
     let P : Option Point → Type 0 = λ o. IfSome o (λ p. p.design.0 ≤ℤ design) in
     subst P (sym e) (first_fact (λ p. p.design.0 ≤ℤ design) (λ p. Unit {0}) (below design ps)
-        (below_holds (λ p. Unit {0}) design ps (λ k d l. tt)))
+    (below_holds (λ p. Unit {0}) design ps (λ k d l. tt)))
 
 pub above_side : (design : ℤ) (ps : List Point) (o : Option Point) → o ≡ above design ps
     → IfSome o (λ p. design ≤ℤ p.design.0)
 above_side design ps o e =
     let P : Option Point → Type 0 = λ o. IfSome o (λ p. design ≤ℤ p.design.0) in
     subst P (sym e) (first_fact (λ p. design ≤ℤ p.design.0) (λ p. Unit {0}) (above design ps)
-        (above_holds (λ p. Unit {0}) design ps (λ k d l. tt)))
+    (above_holds (λ p. Unit {0}) design ps (λ k d l. tt)))
 
 pub value_is : (masters : List Master) (axis : ℕ) (design u : ℤ) (low high : Option Point)
     → low ≡ below design (points_of masters axis) → high ≡ above design (points_of masters axis)
@@ -274,4 +275,4 @@ pub value_is : (masters : List Master) (axis : ℕ) (design u : ℤ) (low high :
 unfolding user_at
 value_is masters axis design u low high l h e =
     e ∙ ap (λ o. reading o high design) l ∙
-        ap (λ o. reading (below design (points_of masters axis)) o design) h
+    ap (λ o. reading (below design (points_of masters axis)) o design) h

@@ -4,8 +4,8 @@ use Rattle.std.proofs.lemmas.List.{length-map}
 use Rattle.font_ir.specs.declared.header.Master.{Master}
 use Rattle.axis_space.specs.Points.{IsReading, below, above, reading, user_at, points_of}
 use Rattle.axis_space.specs.declared.points.Point.{Point}
-use Rattle.axis_space.proofs.PointLemmas.{below_holds, above_holds, below_is, above_is, none_below,
-    none_above, at_itself, reading_bounded, some_neighbour}
+use Rattle.axis_space.proofs.PointLemmas.{below_holds, above_holds, below_is, above_is, none_below}
+use Rattle.axis_space.proofs.PointLemmas.{none_above, at_itself, reading_bounded, some_neighbour}
 use Rattle.axis_space.proofs.NeighbourLemmas.{placed}
 
 pub reading_is : (points : List Point) (design : ℤ) → 0 < length points
@@ -25,8 +25,8 @@ reading_is points design h = record {
   within = λ low high all.
       let P : Point → Type 0 = λ q. (low ≤ℤ q.user.0) × (q.user.0 ≤ℤ high) in
       reading_bounded (below design points) (above design points) design low high
-          (some_neighbour design points h) (below_holds P design points all)
-          (above_holds P design points all);
+      (some_neighbour design points h) (below_holds P design points all)
+      (above_holds P design points all);
 }
 
 pub reads : (masters : List Master) (axis : ℕ) (design u : ℤ) → 0 < length masters
@@ -35,4 +35,4 @@ unfolding user_at
 reads masters axis design u h e =
     let some : 0 < length (points_of masters axis) = simp length-map h in
     subst (IsReading (points_of masters axis) design) (sym e)
-        (reading_is (points_of masters axis) design some)
+    (reading_is (points_of masters axis) design some)

@@ -42,7 +42,7 @@ locations masters = map (normal_on Design 0 0 masters) masters
 abbrev thirds : List Master
 thirds =
     master (pos 26214400) (pos 26214400) ∷ master (pos 32768000) (pos 32768000)
-        ∷ master (pos 45875200) (pos 45875200) ∷ []
+    ∷ master (pos 45875200) (pos 45875200) ∷ []
 
 thirds_locations : locations thirds ≡ number (pos 0) ∷ number (pos 5461) ∷ number (pos 16384) ∷ []
 thirds_locations = refl
@@ -51,7 +51,7 @@ thirds_locations = refl
 abbrev near : List Master
 near =
     master (pos 0) (pos 0) ∷ master (pos 655360000) (pos 655360000)
-        ∷ master (pos 655366554) (pos 655366554) ∷ master (pos 1966080000) (pos 1966080000) ∷ []
+    ∷ master (pos 655366554) (pos 655366554) ∷ master (pos 1966080000) (pos 1966080000) ∷ []
 
 near_locations : locations near ≡ number (pos 0) ∷ number (pos 5461) ∷ number (pos 5461)
     ∷ number (pos 16384) ∷ []
@@ -94,7 +94,7 @@ ends_pairs = refl
 abbrev bent : List Master
 bent =
     master (pos 0) (pos 6553600) ∷ master (pos 3276800) (pos 26214400)
-        ∷ master (pos 6553600) (pos 58982400) ∷ []
+    ∷ master (pos 6553600) (pos 58982400) ∷ []
 
 -- half the way to the second is 250, half the way on to the third is 650
 bent_low : user_at (points_of bent 0) (pos 1638400) ≡ pos 16384000

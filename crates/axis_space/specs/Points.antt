@@ -1,8 +1,8 @@
 -- User coordinates from design coordinates, which is fontc's own: each master is a point, and of
 -- masters at one design coordinate the first counts; between two neighbours the reading is linear,
 -- rounded to the nearest in 16.16, a tie going up; past the ends it is that of the end.
-use Rattle.std.specs.Prelude.{◌≡◌, ℕ, List, [], ◌∷◌, map, ℤ, pos, ◌+ℤ◌, ◌-ℤ◌, ◌*ℤ◌, ◌≤ℤ◌, ◌<ℤ◌, ◌⊎◌,
-    int_lt, int_le, if◌then◌else◌, Option, Some, None, All}
+use Rattle.std.specs.Prelude.{◌≡◌, ℕ, List, [], ◌∷◌, map, ℤ, pos, ◌+ℤ◌, ◌-ℤ◌, ◌*ℤ◌, ◌≤ℤ◌, ◌<ℤ◌, ◌⊎◌}
+use Rattle.std.specs.Prelude.{int_lt, int_le, if◌then◌else◌, Option, Some, None, All}
 use Rattle.std.specs.List.{find}
 use Rattle.std.specs.Ordering.{int_eq}
 use Rattle.font_ir.specs.declared.header.Master.{Master}
@@ -13,8 +13,11 @@ use Rattle.axis_space.specs.declared.points.Point.{Point}
 
 -- the points of an axis
 abbrev pub point_on : ℕ → Master → Point
-point_on axis master = record { design = coordinate_on Design axis master; user
-    = coordinate_on User axis master }
+point_on axis master = record {
+  design = coordinate_on Design axis master;
+  user
+      = coordinate_on User axis master;
+}
 
 abbrev pub points_of : List Master → ℕ → List Point
 points_of masters axis = map (point_on axis) masters
@@ -41,8 +44,8 @@ pub record IsAbove (points : List Point) (design : ℤ) (p : Point) : Type 0 whe
 abbrev pub Places : List Point → ℤ → Type 0
 Places points design =
     ((p : Point) × (q : Point) × IsBelow points design p × IsAbove points design q)
-        ⊎ (((q : Point) × All (λ r. design <ℤ r.design.0) points × IsAbove points design q)
-        ⊎ ((p : Point) × All (λ r. r.design.0 <ℤ design) points × IsBelow points design p))
+    ⊎ (((q : Point) × All (λ r. design <ℤ r.design.0) points × IsAbove points design q)
+    ⊎ ((p : Point) × All (λ r. r.design.0 <ℤ design) points × IsBelow points design p))
 
 -- The same as functions: of two points the nearer one, of two with one design coordinate the first.
 abbrev pub not_above : ℤ → Point → Option Point
@@ -73,7 +76,7 @@ above design (p ∷ ps) = lower (not_below design p) (above design ps)
 abbrev pub between : Point → Point → ℤ → ℤ
 between p q design =
     if int_lt p.design.0 q.design.0 then p.user.0 +ℤ nearest
-        ((q.user.0 -ℤ p.user.0) *ℤ (design -ℤ p.design.0)) (q.design.0 -ℤ p.design.0)
+    ((q.user.0 -ℤ p.user.0) *ℤ (design -ℤ p.design.0)) (q.design.0 -ℤ p.design.0)
     else p.user.0
 
 -- the reading at a design coordinate from its neighbours: past the ends that of the end

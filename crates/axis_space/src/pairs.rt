@@ -1,8 +1,8 @@
 ghost use Rattle.std.specs.Prelude.{◌≡◌, ◌<◌, length, All, IfOk};
 ghost use Rattle.font_ir.specs.Coordinates.{HasAxis};
 ghost use Rattle.font_ir.specs.AxisMaps.{fixed_pairs, pairs_of};
-ghost use Rattle.axis_space.specs.AxisPairs.{GivesPairs, OrdersPairs, avar_pairs, in_order,
-    first_fall as fall_of, fall_after as fall_from, rises};
+ghost use Rattle.axis_space.specs.AxisPairs.{GivesPairs, OrdersPairs, avar_pairs, in_order};
+ghost use Rattle.axis_space.specs.AxisPairs.{first_fall as fall_of, fall_after as fall_from, rises};
 
 use crate::coordinates::{normal, scale_of};
 use crate::errors::MapError;

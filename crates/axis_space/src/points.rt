@@ -1,5 +1,5 @@
-ghost use Rattle.std.specs.Prelude.{◌≡◌, ◌*ℤ◌, ◌≤ℤ◌, ◌<ℤ◌, ◌<◌, pos, negsuc, length, All, Some,
-    IfSome};
+ghost use Rattle.std.specs.Prelude.{◌≡◌, ◌*ℤ◌, ◌≤ℤ◌, ◌<ℤ◌, ◌<◌, pos, negsuc, length, All, Some};
+ghost use Rattle.std.specs.Prelude.{IfSome};
 ghost use Rattle.font_ir.specs.Normal.{nearest};
 ghost use Rattle.font_ir.specs.Coordinates.{HasAxis};
 ghost use Rattle.axis_space.specs.Points as spec;

@@ -1,16 +1,17 @@
 -- How many codes and runs there are, and how high they go.
-use Rattle.std.proofs.Common.{◌≡◌, ℕ, zero, suc, ◌+◌, ◌<◌, ◌≤◌, Bool, true, false, cond, List, [],
-    ◌∷◌, length, filter, take, get_or, refl, ap, sym, ◌∙◌, arith, nat_le, ⊎_elim}
+use Rattle.std.proofs.Common.{◌≡◌, ℕ, zero, suc, ◌+◌, ◌<◌, ◌≤◌, Bool, true, false, cond, List, []}
+use Rattle.std.proofs.Common.{◌∷◌, length, filter, take, get_or, refl, ap, sym, ◌∙◌, arith, nat_le}
+use Rattle.std.proofs.Common.{⊎_elim}
 use Rattle.std.proofs.lemmas.Bool.{cases_lt}
 use Rattle.std.specs.List.Sorted.{IsNonDecreasingBy}
 use Rattle.std.proofs.lemmas.Bool.Decides.{nat_tests}
-use Rattle.std.proofs.lemmas.List.Elements.{All-nil, All-cons, All-head, All-tail, All-filter,
-    All-weaker, filter_passes}
+use Rattle.std.proofs.lemmas.List.Elements.{All-nil, All-cons, All-head, All-tail, All-filter}
+use Rattle.std.proofs.lemmas.List.Elements.{All-weaker, filter_passes}
 use Rattle.std.proofs.lemmas.List.Kept.{AllPairs-filter}
 use Rattle.std.specs.List.{All, AllPairs, AllWithin}
 use Rattle.cmap_writer.specs.declared.runs.Run.{Run}
-use Rattle.cmap_writer.specs.Runs.{Codes, run_of, continues, both, joined, longest_runs,
-    short_codes}
+use Rattle.cmap_writer.specs.Runs.{Codes, run_of, continues, both, joined, longest_runs}
+use Rattle.cmap_writer.specs.Runs.{short_codes}
 use Rattle.cmap_writer.specs.Cmap.{AreCodes, segments}
 use Rattle.cmap_writer.specs.Reading.{AreGlyphNumbers}
 use Rattle.cmap_writer.proofs.Joins.{is_next}
@@ -40,16 +41,16 @@ few_rising (code ∷ codes) low high rise above below h =
     let to : code.0 ≤ high = All-head (λ c. c.0 ≤ high) code codes below in
     let higher : All (λ c. code.0 + 1 ≤ c.0) codes =
     All-weaker (λ c. code.0 < c.0) (λ c. code.0 + 1 ≤ c.0) (λ c (l : code.0 < c.0). omega arith)
-        codes (pairs-head Rises code codes rise) in
+    codes (pairs-head Rises code codes rise) in
     let more = few_rising codes (code.0 + 1) high (pairs-tail Rises code codes rise) higher
-        (All-tail (λ c. c.0 ≤ high) code codes below) (omega arith) in
+    (All-tail (λ c. c.0 ≤ high) code codes below) (omega arith) in
     omega arith
 
 pub count_of_rising : (codes : Codes) (high : ℕ) → AllPairs Rises codes
     → All (λ code. code.0 ≤ high) codes → length codes ≤ high + 1
 count_of_rising codes high rise below =
     let n = few_rising codes 0 high rise (λ k d in_list. omega arith) below (omega arith)
-        in omega arith
+    in omega arith
 
 pub short_rise : (codes : Codes) → AllPairs Rises codes → AllPairs Rises (short_codes codes)
 short_rise codes rise = AllPairs-filter Rises (λ code. nat_le code.0 65534) codes rise
@@ -58,13 +59,13 @@ pub short_below : (codes : Codes) → All (λ code. code.0 ≤ 65534) (short_cod
 short_below codes =
     All-weaker (λ code. nat_le code.0 65534 ≡ true) (λ code. code.0 ≤ 65534)
     (λ code (h : nat_le code.0 65534 ≡ true). grind (arith, nat_tests)) (short_codes codes)
-        (filter_passes (λ code. nat_le code.0 65534) codes)
+    (filter_passes (λ code. nat_le code.0 65534) codes)
 
 pub rising_keys : (codes : Codes) → AllPairs Rises codes → IsNonDecreasingBy (λ code. code.0) codes
 rising_keys codes rise i j d low high =
     ⊎_elim
     (λ (less : i < j). let h : (get_or codes i d).0 < (get_or codes j d).0 = rise i j d less high
-        in omega arith)
+    in omega arith)
     (λ (most : j ≤ i).
     let same : i ≡ j = omega arith in
     let e : (get_or codes i d).0 ≡ (get_or codes j d).0 = ap (λ k. (get_or codes k d).0) same in
@@ -80,13 +81,13 @@ take-filter p [] (suc i) h ts fs = refl
 take-filter p (x ∷ xs) zero h ts fs =
     let here : p x ≡ false = fs zero x (omega arith) (omega arith) in
     take-filter p xs zero (omega arith) (λ k d low high. absurd (omega arith))
-        (λ k d low high. fs (suc k) d (omega arith) (omega arith))
+    (λ k d low high. fs (suc k) d (omega arith) (omega arith))
     ∙ sym (ap (λ b. cond b (x ∷ filter p xs) (filter p xs)) here)
 take-filter p (x ∷ xs) (suc i) h ts fs =
     let here : p x ≡ true = ts zero x (omega arith) (omega arith) in
     ap (λ ys. x ∷ ys) (take-filter p xs i (omega arith)
-        (λ k d low high. ts (suc k) d (omega arith) (omega arith))
-        (λ k d low high. fs (suc k) d (omega arith) (omega arith)))
+    (λ k d low high. ts (suc k) d (omega arith) (omega arith))
+    (λ k d low high. fs (suc k) d (omega arith) (omega arith)))
     ∙ sym (ap (λ b. cond b (x ∷ filter p xs) (filter p xs)) here)
 
 -- ---- runs
@@ -121,7 +122,7 @@ joined_ends high run (next ∷ runs) h hs = by (continues run next) refl
         let on = is_next run next e in
         let ends : next.first + next.more ≤ high = All-head (EndsBy high) next runs hs in
         All-cons (EndsBy high) (both run next) runs (omega arith)
-            (All-tail (EndsBy high) next runs hs)
+        (All-tail (EndsBy high) next runs hs)
     by false e = All-cons (EndsBy high) run (next ∷ runs) h hs
 
 pub run_ends : (high : ℕ) (codes : Codes) → All (λ code. code.0 ≤ high) codes
@@ -130,7 +131,7 @@ run_ends high [] h = All-nil (EndsBy high)
 run_ends high (code ∷ codes) h =
     let here : code.0 ≤ high = All-head (λ c. c.0 ≤ high) code codes h in
     joined_ends high (run_of code) (longest_runs codes) (omega arith)
-        (run_ends high codes (All-tail (λ c. c.0 ≤ high) code codes h))
+    (run_ends high codes (All-tail (λ c. c.0 ≤ high) code codes h))
 
 -- ---- of a font's codes
 
@@ -147,7 +148,7 @@ pub few_segments : (codes : Codes) → AreCodes codes → length (segments codes
 few_segments codes are =
     let runs = run_count (short_codes codes) in
     let few = count_of_rising (short_codes codes) 65534 (short_rise codes are.rise)
-        (short_below codes) in
+    (short_below codes) in
     omega (arith, length-segments (longest_runs (short_codes codes)))
 
 pub some_segments : (codes : Codes) → 0 < length (segments codes)

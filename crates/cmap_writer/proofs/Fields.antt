@@ -1,8 +1,8 @@
 -- The fields of subtables: a count's binary logarithm, arrays of a segment's fields, and how long
 -- they are.
-use Rattle.std.proofs.Common.{◌≡◌, ℕ, zero, suc, ◌+◌, ◌*◌, ◌^◌, ◌<◌, ◌≤◌, List, [], ◌∷◌, ◌++◌,
-    length, map, refl, ap, sym, ◌∙◌, arith, length-append, ⊎_elim, lit<, nat_lt, Bool, true, false,
-    Some, None}
+use Rattle.std.proofs.Common.{◌≡◌, ℕ, zero, suc, ◌+◌, ◌*◌, ◌^◌, ◌<◌, ◌≤◌, List, [], ◌∷◌, ◌++◌}
+use Rattle.std.proofs.Common.{length, map, refl, ap, sym, ◌∙◌, arith, length-append, ⊎_elim, lit<}
+use Rattle.std.proofs.Common.{nat_lt, Bool, true, false, Some, None}
 use Rattle.std.specs.Prelude.{if◌then◌else◌}
 use Rattle.std.proofs.Math.Nat.{pow-le-pow_right, pow-suc}
 use Rattle.std.proofs.lemmas.Bool.{cases_lt}
@@ -11,11 +11,11 @@ use Rattle.std.specs.List.{flat_map}
 use Rattle.table_bytes.specs.DataTypes.{uint16}
 use Rattle.cmap_writer.specs.declared.runs.Run.{Run}
 use Rattle.cmap_writer.specs.declared.segments.Segment.{Segment}
-use Rattle.cmap_writer.specs.Subtables.{segments_of, greatest_power, format_4, format_4_head,
-    search_fields, later_arrays, format_4_length, format_12}
+use Rattle.cmap_writer.specs.Subtables.{segments_of, greatest_power, format_4, format_4_head}
+use Rattle.cmap_writer.specs.Subtables.{search_fields, later_arrays, format_4_length, format_12}
 use Rattle.cmap_writer.specs.Runs.{Codes}
-use Rattle.cmap_writer.specs.Cmap.{two_records, table_of, short_encoding, whole_encoding, segments,
-    too_large}
+use Rattle.cmap_writer.specs.Cmap.{two_records, table_of, short_encoding, whole_encoding, segments}
+use Rattle.cmap_writer.specs.Cmap.{too_large}
 
 power_fits : (bound n : ℕ) → 2 ^ suc bound ≤ n → greatest_power (suc bound) n ≡ suc bound
 power_fits bound n h = grind (arith, nat_tests)
@@ -33,7 +33,7 @@ greatest_power-is zero n r low high small = omega arith
 greatest_power-is (suc k) n r low high small =
     ⊎_elim
     (λ (less : r < suc k). power_is_less k n (omega (arith, doubles r k (omega arith)))
-        ∙ greatest_power-is k n r low high (omega arith))
+    ∙ greatest_power-is k n r low high (omega arith))
     (λ (most : suc k ≤ r).
     let same : suc k ≡ r = omega arith in
     power_fits k n (rw same low) ∙ same)
@@ -44,7 +44,7 @@ selector-fits n r low few =
     ⊎_elim
     (λ (less : r < 16). omega arith)
     (λ (most : 16 ≤ r). let large : 2 ^ 16 ≤ 2 ^ r = pow-le-pow_right (lit< tt) most
-        in absurd (omega arith))
+    in absurd (omega arith))
     (cases_lt r 16)
 
 pub length-segments : (runs : List Run) → length (segments_of runs) ≡ length runs + 1
@@ -103,12 +103,12 @@ length-format_4 segments =
 pub whole_table_is : (segments : List Segment) (groups : List Run) (len : ℕ)
     → len ≡ length (format_4 segments)
     → two_records len ++ format_4 segments ++ format_12 groups
-        ≡ table_of (short_encoding segments ∷ whole_encoding groups ∷ [])
+    ≡ table_of (short_encoding segments ∷ whole_encoding groups ∷ [])
 unfolding table_of
 whole_table_is segments groups len e =
     ap (λ n. two_records n ++ format_4 segments ++ format_12 groups) e
     ∙ ap (λ bytes. two_records (length (format_4 segments)) ++ (format_4 segments ++ bytes))
-        (sym (append_none (format_12 groups)))
+    (sym (append_none (format_12 groups)))
 
 pub is_too_large : (codes : Codes) (n : ℕ) → n ≡ format_4_length (length (segments codes))
     → 65535 < n → too_large codes ≡ Some n
@@ -116,7 +116,7 @@ is_too_large codes n is over =
     let same : length (format_4 (segments codes)) ≡ n = length-format_4 (segments codes) ∙ sym is in
     let long : nat_lt 65535 n ≡ true = grind (arith, nat_tests) in
     ap (λ m. if nat_lt 65535 m then Some m else None) same
-        ∙ ap (λ (b : Bool). if b then Some n else None) long
+    ∙ ap (λ (b : Bool). if b then Some n else None) long
 
 pub is_not_too_large : (codes : Codes) (n : ℕ) → n ≡ format_4_length (length (segments codes))
     → n ≤ 65535 → too_large codes ≡ None
@@ -124,4 +124,4 @@ is_not_too_large codes n is within =
     let same : length (format_4 (segments codes)) ≡ n = length-format_4 (segments codes) ∙ sym is in
     let short : nat_lt 65535 n ≡ false = grind (arith, nat_tests) in
     ap (λ m. if nat_lt 65535 m then Some m else None) same
-        ∙ ap (λ (b : Bool). if b then Some n else None) short
+    ∙ ap (λ (b : Bool). if b then Some n else None) short

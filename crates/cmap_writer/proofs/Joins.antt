@@ -1,11 +1,12 @@
 -- Joining a run to the runs after it, and that the runs of codes are the only longest ones.
-use Rattle.std.proofs.Common.{◌≡◌, ℕ, zero, suc, ◌+◌, ◌<◌, Bool, true, false, cond, ◌&&◌, drop,
-    get_or, drop-cons, List, [], ◌∷◌, ◌++◌, length, refl, ap, sym, ◌∙◌, arith, append_assoc, eqb}
+use Rattle.std.proofs.Common.{◌≡◌, ℕ, zero, suc, ◌+◌, ◌<◌, Bool, true, false, cond, ◌&&◌, drop}
+use Rattle.std.proofs.Common.{get_or, drop-cons, List, [], ◌∷◌, ◌++◌, length, refl, ap, sym, ◌∙◌}
+use Rattle.std.proofs.Common.{arith, append_assoc, eqb}
 use Rattle.std.proofs.lemmas.Bool.{eqb-true, eq-eqb}
 use Rattle.std.specs.List.{flat_map}
 use Rattle.cmap_writer.specs.declared.runs.Run.{Run}
-use Rattle.cmap_writer.specs.Runs.{Codes, codes_from, codes_of, Continues, IsApart, AreApart,
-    AreLongestRuns, run_of, continues, both, joined, longest_runs}
+use Rattle.cmap_writer.specs.Runs.{Codes, codes_from, codes_of, Continues, IsApart, AreApart}
+use Rattle.cmap_writer.specs.Runs.{AreLongestRuns, run_of, continues, both, joined, longest_runs}
 
 both_true : (a b : Bool) → (a && b) ≡ true → (a ≡ true) × (b ≡ true)
 both_true true b e = (refl, e)
@@ -14,13 +15,13 @@ both_true false b e = cc
 pub is_next : (run next : Run) → continues run next ≡ true → Continues run next
 is_next run next e =
     let parts = both_true (eqb next.first (run.first + run.more + 1))
-        (eqb next.glyph (run.glyph + run.more + 1)) e in
+    (eqb next.glyph (run.glyph + run.more + 1)) e in
     (eqb-true _ _ parts.0, eqb-true _ _ parts.1)
 
 pub goes_on : (run next : Run) → Continues run next → continues run next ≡ true
 goes_on run next h =
     ap (λ b. b && eqb next.glyph (run.glyph + run.more + 1)) (eq-eqb next.first _ h.0)
-        ∙ eq-eqb next.glyph _ h.1
+    ∙ eq-eqb next.glyph _ h.1
 
 not_next : (run next : Run) → continues run next ≡ false → ¬ (Continues run next)
 not_next run next e h = let t = goes_on run next h in cc
@@ -50,16 +51,16 @@ joined_on run next (r ∷ rs) e = by (continues next r) refl
         let h = is_next run next e in
         let k = is_next next r f in
         let on : continues (both run next) r
-            ≡ true = goes_on (both run next) r (omega arith, omega arith) in
+        ≡ true = goes_on (both run next) r (omega arith, omega arith) in
         ap (λ b. cond b (both run (both next r) ∷ rs) (run ∷ both next r ∷ rs)) e
         ∙ ap (λ r'. r' ∷ rs) (same_run run.first run.glyph (run.more + 1 + (next.more + 1 + r.more))
-            (run.more + 1 + next.more + 1 + r.more) (omega arith))
+        (run.more + 1 + next.more + 1 + r.more) (omega arith))
         ∙ sym (ap (λ b. cond b (both (both run next) r ∷ rs) (both run next ∷ r ∷ rs)) on)
     by false f =
         let h = is_next run next e in
         let not : ¬ (Continues next r) = not_next next r f in
         let off : continues (both run next) r
-            ≡ false = is_apart (both run next) r (λ k. not (omega arith, omega arith)) in
+        ≡ false = is_apart (both run next) r (λ k. not (omega arith, omega arith)) in
         ap (λ b. cond b (both run next ∷ r ∷ rs) (run ∷ next ∷ r ∷ rs)) e
         ∙ sym (ap (λ b. cond b (both (both run next) r ∷ rs) (both run next ∷ r ∷ rs)) off)
 
@@ -102,7 +103,7 @@ flat_map-joined run (next ∷ runs) = by (continues run next) refl
     by true e =
         let h = is_next run next e in
         ap (λ codes. codes ++ flat_map codes_of runs)
-            (codes_from-more run.first run.glyph run.more next.more
+        (codes_from-more run.first run.glyph run.more next.more
         ∙ (λ i. codes_of run ++ codes_from (sym h.0 i) (sym h.1 i) next.more))
         ∙ append_assoc (codes_of run) (codes_of next) (flat_map codes_of runs)
     by false e = refl
@@ -142,9 +143,9 @@ longest_runs-front code glyph (suc m) rest =
     let next : Run = record { first = code + 1; glyph = glyph + 1; more = m } in
     ap (joined (run_of (code, glyph))) (longest_runs-front (code + 1) (glyph + 1) m rest)
     ∙ joined_on (run_of (code, glyph)) next (longest_runs rest)
-        (goes_on (run_of (code, glyph)) next (omega arith, omega arith))
+    (goes_on (run_of (code, glyph)) next (omega arith, omega arith))
     ∙ ap (λ run. joined run (longest_runs rest))
-        (same_run code glyph (0 + 1 + m) (suc m) (omega arith))
+    (same_run code glyph (0 + 1 + m) (suc m) (omega arith))
 
 joined-apart : (run : Run) (runs : List Run) → IsApart run runs → joined run runs ≡ run ∷ runs
 joined-apart run [] h = refl
@@ -174,17 +175,17 @@ onto_drop codes i d run h =
 pub step_on : (codes : Codes) (i : ℕ) (d : ℕ × ℕ) (run : Run) → i < length codes
     → continues run (run_of (get_or codes i d)) ≡ true
     → joined run (longest_runs (drop i codes))
-        ≡ joined (made run.first run.glyph (run.more + 1)) (longest_runs (drop (i + 1) codes))
+    ≡ joined (made run.first run.glyph (run.more + 1)) (longest_runs (drop (i + 1) codes))
 step_on codes i d run h e =
     onto_drop codes i d run h
     ∙ joined_on run (run_of (get_or codes i d)) (longest_runs (drop (i + 1) codes)) e
     ∙ ap (λ r. joined r (longest_runs (drop (i + 1) codes)))
-        (same_run run.first run.glyph (run.more + 1 + 0) (run.more + 1) (omega arith))
+    (same_run run.first run.glyph (run.more + 1 + 0) (run.more + 1) (omega arith))
 
 pub step_off : (codes : Codes) (i : ℕ) (d : ℕ × ℕ) (run : Run) → i < length codes
     → continues run (run_of (get_or codes i d)) ≡ false
     → joined run (longest_runs (drop i codes))
-        ≡ run ∷ joined (run_of (get_or codes i d)) (longest_runs (drop (i + 1) codes))
+    ≡ run ∷ joined (run_of (get_or codes i d)) (longest_runs (drop (i + 1) codes))
 step_off codes i d run h e =
     onto_drop codes i d run h ∙ joined_off run (run_of (get_or codes i d))
-        (longest_runs (drop (i + 1) codes)) e
+    (longest_runs (drop (i + 1) codes)) e

@@ -1,11 +1,12 @@
 -- That a code is found in exactly one group and one segment, by the runs that stand for the codes.
-use Rattle.std.proofs.Common.{◌≡◌, inl, inr, ℕ, zero, suc, ◌+◌, ◌-◌, ◌%◌, ◌<◌, ◌≤◌, List, [], ◌∷◌,
-    ◌++◌, map, get_or, refl, ap, sym, subst, ◌∙◌, arith, ⊎_elim}
+use Rattle.std.proofs.Common.{◌≡◌, inl, inr, ℕ, zero, suc, ◌+◌, ◌-◌, ◌%◌, ◌<◌, ◌≤◌, List, [], ◌∷◌}
+use Rattle.std.proofs.Common.{◌++◌, map, get_or, refl, ap, sym, subst, ◌∙◌, arith, ⊎_elim}
 use Rattle.std.proofs.lemmas.Bool.{cases_lt}
 use Rattle.std.proofs.lemmas.List.{get_or_default}
-use Rattle.std.proofs.lemmas.List.Elements.{All-nil, All-cons, All-head, All-tail, All-weaker,
-    All-contains, All-map, All-contains_itself, Contains-append_left, Contains-append_right,
-    Contains-append_cases}
+use Rattle.std.proofs.lemmas.List.Elements.{All-nil, All-cons, All-head, All-tail, All-weaker}
+use Rattle.std.proofs.lemmas.List.Elements.{All-contains, All-map, All-contains_itself}
+use Rattle.std.proofs.lemmas.List.Elements.{Contains-append_left, Contains-append_right}
+use Rattle.std.proofs.lemmas.List.Elements.{Contains-append_cases}
 use Rattle.std.proofs.lemmas.List.Kept.{AllPairs-cons}
 use Rattle.std.proofs.lemmas.List.Quantifiers.{all_pairs_push}
 use Rattle.std.specs.List.{flat_map, All, AllPairs, Contains}
@@ -13,8 +14,8 @@ use Rattle.cmap_writer.specs.declared.runs.Run.{Run}
 use Rattle.cmap_writer.specs.declared.segments.Segment.{Segment}
 use Rattle.cmap_writer.specs.Runs.{Codes, codes_from, codes_of, longest_runs}
 use Rattle.cmap_writer.specs.Subtables.{segment_of, last_segment, segments_of}
-use Rattle.cmap_writer.specs.Reading.{AreGlyphNumbers, IsInSegment, SegmentsLead, IsInGroup,
-    glyph_in_group, GroupsLead}
+use Rattle.cmap_writer.specs.Reading.{AreGlyphNumbers, IsInSegment, SegmentsLead, IsInGroup}
+use Rattle.cmap_writer.specs.Reading.{glyph_in_group, GroupsLead}
 use Rattle.cmap_writer.proofs.Joins.{whole}
 use Rattle.cmap_writer.proofs.Bounds.{Rises, pairs-head, pairs-tail}
 
@@ -34,7 +35,7 @@ pairs_across : {X : Type 0} (R : X → X → Type 0) (xs ys : List X) → AllPai
 pairs_across R [] ys h = All-nil (λ x. All (R x) ys)
 pairs_across R (x ∷ xs) ys h =
     All-cons (λ x. All (R x) ys) x xs (all_right (R x) xs ys (pairs-head R x (xs ++ ys) h))
-        (pairs_across R xs ys (pairs-tail R x (xs ++ ys) h))
+    (pairs_across R xs ys (pairs-tail R x (xs ++ ys) h))
 
 pairs-map : {X Y : Type 0} (R : Y → Y → Type 0) (f : X → Y) (xs : List X)
     → AllPairs (λ a b. R (f a) (f b)) xs → AllPairs R (map f xs)
@@ -87,7 +88,7 @@ codes_are code glyph zero = All-cons (IsOf code glyph zero) (code, glyph) []
     (omega arith, omega arith, omega arith) (All-nil (IsOf code glyph zero))
 codes_are code glyph (suc more) =
     All-cons (IsOf code glyph (suc more)) (code, glyph) (codes_from (code + 1) (glyph + 1) more)
-        (omega arith, omega arith, omega arith)
+    (omega arith, omega arith, omega arith)
     (All-weaker (IsOf (code + 1) (glyph + 1) more) (IsOf code glyph (suc more))
     (λ p h. let a = h.0 in let b = h.1 in let e = h.2 in (omega arith, omega arith, omega arith))
     (codes_from (code + 1) (glyph + 1) more) (codes_are (code + 1) (glyph + 1) more))
@@ -105,7 +106,7 @@ code_there code glyph (suc more) n from to =
     let there = code_there (code + 1) (glyph + 1) more n (omega arith) (omega arith) in
     let P : ℕ → Type 0 = λ h. Contains (codes_from code glyph (suc more)) (n, h) in
     subst P g (Contains-append_right ((code, glyph) ∷ []) (codes_from (code + 1) (glyph + 1) more)
-        (n, glyph + 1 + (n - (code + 1))) there))
+    (n, glyph + 1 + (n - (code + 1))) there))
     (λ (here : n ≤ code).
     let c : code ≡ n = omega arith in
     let g : glyph ≡ glyph + (n - code) = omega arith in
@@ -137,9 +138,9 @@ groups_rise [] h = λ i j d below in_list. absurd (omega arith)
 groups_rise (run ∷ runs) h =
     let across = pairs_across Rises (codes_of run) (all_codes runs) h in
     let end = code_there run.first run.glyph run.more (run.first + run.more) (omega arith)
-        (omega arith) in
+    (omega arith) in
     let last = All-contains (λ x. All (Rises x) (all_codes runs)) (codes_of run)
-        (run.first + run.more, run.glyph + (run.first + run.more - run.first)) across end in
+    (run.first + run.more, run.glyph + (run.first + run.more - run.first)) across end in
     AllPairs-cons (λ a b. a.first + a.more < b.first) run runs
     (firsts (λ p. run.first + run.more < p.0) runs last)
     (groups_rise runs (pairs_right Rises (codes_of run) (all_codes runs) h))
@@ -155,7 +156,7 @@ group_found (run ∷ runs) code glyph h =
     elim (Contains-append_cases (codes_of run) (all_codes runs) (code, glyph) h) [
       | inl here ↦
           let p = All-contains (IsOf run.first run.glyph run.more) (codes_of run) (code, glyph)
-              (codes_are run.first run.glyph run.more) here in
+          (codes_are run.first run.glyph run.more) here in
           (run, (zero, omega arith, refl), record { from = p.0; to = p.1 }, sym p.2)
       | inr there ↦
           let f = group_found runs code glyph there in
@@ -170,10 +171,10 @@ groups_have [] = All-nil (HasAll [])
 groups_have (run ∷ runs) =
     All-cons (HasAll (all_codes (run ∷ runs))) run runs
     (λ code h. Contains-append_left (codes_of run) (all_codes runs) (code, glyph_in_group code run)
-        (code_there run.first run.glyph run.more code h.from h.to))
+    (code_there run.first run.glyph run.more code h.from h.to))
     (All-weaker (HasAll (all_codes runs)) (HasAll (all_codes (run ∷ runs)))
     (λ g h code i. Contains-append_right (codes_of run) (all_codes runs)
-        (code, glyph_in_group code g) (h code i)) runs (groups_have runs))
+    (code, glyph_in_group code g) (h code i)) runs (groups_have runs))
 
 runs_lead : (runs : List Run) → AllPairs Rises (all_codes runs) → GroupsLead (all_codes runs) runs
 runs_lead runs h = record {
@@ -181,8 +182,11 @@ runs_lead runs h = record {
   found = group_found runs;
   one = λ code g k gs ks ig ik. only_one (λ r. r.first) (λ r. r.first + r.more) runs
       (groups_rise runs h) code g k gs ks ig.from ig.to ik.from ik.to;
-  no_other = λ code g gs ig. (glyph_in_group code g, All-contains (HasAll (all_codes runs)) runs g
-      (groups_have runs) gs code ig);
+  no_other = λ code g gs ig. (
+    glyph_in_group code g,
+    All-contains (HasAll (all_codes runs)) runs g
+        (groups_have runs) gs code ig,
+  );
 }
 
 pub groups_lead : (codes : Codes) → AllPairs Rises codes → GroupsLead codes (longest_runs codes)
@@ -205,10 +209,10 @@ segments_rise : (runs : List Run) → AllPairs (λ a b. a.first + a.more < b.fir
 segments_rise runs rise short =
     let ends : All (λ s. s.end_code < 65535) (map segment_of runs) =
     All-map (λ s. s.end_code < 65535) segment_of runs
-        (All-weaker EndsShort (λ r. r.first + r.more < 65535)
-        (λ r (h : r.first + r.more ≤ 65534). omega arith) runs short) in
+    (All-weaker EndsShort (λ r. r.first + r.more < 65535)
+    (λ r (h : r.first + r.more ≤ 65534). omega arith) runs short) in
     all_pairs_push Below (map segment_of runs) last_segment (pairs-map Below segment_of runs rise)
-        (λ k d in_list. ends k d in_list)
+    (λ k d in_list. ends k d in_list)
 
 delta_gives : (code first g glyph : ℕ) → first ≤ code → code ≤ 65534 → g + (code - first) ≡ glyph
     → glyph < 65536 → (code + (g + (65536 - first)) % 65536) % 65536 ≡ glyph
@@ -225,7 +229,7 @@ segments_lead codes rise numbers short =
       found = λ code glyph h.
           let f = groups.found code glyph h in
           let fits : glyph < 65536 = All-contains (λ c. c.1 < 65536) codes (code, glyph) numbers h
-              in
+          in
           let end : f.0.first + f.0.more ≤ 65534 = All-contains EndsShort runs f.0 short f.1 in
           let to = f.2.to in (
             segment_of f.0,
@@ -242,19 +246,19 @@ segments_lead codes rise numbers short =
           elim (Contains-append_cases (map segment_of runs) (last_segment ∷ []) s ss) [
             | inl here ↦
                 All-contains (λ t. IsInSegment code t → (glyph : ℕ) × Contains codes (code, glyph))
-                    (map segment_of runs) s
+                (map segment_of runs) s
                 (All-map (λ t. IsInSegment code t → (glyph : ℕ) × Contains codes (code, glyph))
-                    segment_of runs
+                segment_of runs
                 (All-weaker (Contains runs) (λ r. IsInSegment code (segment_of r)
-                    → (glyph : ℕ) × Contains codes (code, glyph))
+                → (glyph : ℕ) × Contains codes (code, glyph))
                 (λ r rs i. groups.no_other code r rs (record { from = i.from; to = i.to })) runs
-                    (All-contains_itself runs)))
+                (All-contains_itself runs)))
                 here is
             | inr last ↦
                 let start : s.start_code ≡ 65535 = All-contains (λ t. t.start_code ≡ 65535)
-                    (last_segment ∷ []) s
+                (last_segment ∷ []) s
                 (All-cons (λ t. t.start_code ≡ 65535) last_segment [] refl
-                    (All-nil (λ t. t.start_code ≡ 65535))) last in
+                (All-nil (λ t. t.start_code ≡ 65535))) last in
                 let from = is.from in
                 absurd (omega arith)
           ];

@@ -1,8 +1,8 @@
 -- The table "cmap" (OpenType 1.9): its header, its encoding records and their subtables one after
 -- another. Which encodings a font has is fontc's own: the codes up to 65534 always in format 4, and
 -- all codes in format 12 where one is above 65535.
-use Rattle.std.specs.Prelude.{◌≡◌, ℕ, ◌+◌, ◌*◌, ◌<◌, ◌≤◌, Bool, nat_lt, if◌then◌else◌, List, [],
-    ◌∷◌, ◌++◌, length, Option, Some, None, Result, Ok, Err, Vec}
+use Rattle.std.specs.Prelude.{◌≡◌, ℕ, ◌+◌, ◌*◌, ◌<◌, ◌≤◌, Bool, nat_lt, if◌then◌else◌, List, []}
+use Rattle.std.specs.Prelude.{◌∷◌, ◌++◌, length, Option, Some, None, Result, Ok, Err, Vec}
 use Rattle.std.specs.List.{flat_map, list_any, All, AllPairs}
 use Rattle.std.specs.declared.alloc.Global.{Global}
 use Rattle.table_bytes.specs.DataTypes.{uint16, uint32}
@@ -42,7 +42,7 @@ has_long_code codes = list_any (λ code. nat_lt 65535 code.0) codes
 abbrev pub encodings : Codes → List Encoding
 encodings codes =
     short_encoding (segments codes) ∷ (if has_long_code codes then whole_encoding
-        (longest_runs codes) ∷ [] else [])
+    (longest_runs codes) ∷ [] else [])
 
 -- the encoding records of subtables that stand one after another from an offset on
 abbrev pub encoding_records : ℕ → List Encoding → List ℕ
@@ -62,7 +62,7 @@ table_of encodings =
 abbrev pub two_records : ℕ → List ℕ
 two_records len =
     uint16 0 ++ uint16 2 ++ (uint16 3 ++ uint16 1 ++ uint32 20)
-        ++ (uint16 3 ++ uint16 10 ++ uint32 (20 + len))
+    ++ (uint16 3 ++ uint16 10 ++ uint32 (20 + len))
 
 abbrev pub cmap_table : Codes → List ℕ
 cmap_table codes = table_of (encodings codes)

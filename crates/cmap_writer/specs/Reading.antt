@@ -27,7 +27,7 @@ pub record SegmentsLead (codes : Codes) (segments : List Segment) : Type 0 where
   pub rise : AllPairs (λ a b. a.end_code < b.start_code) segments
   pub found : (code glyph : ℕ) → Contains codes (code, glyph)
       → (s : Segment) × Contains segments s × IsInSegment code s × (s.id_range_offset ≡ 0)
-          × (glyph_in_segment code s ≡ glyph)
+      × (glyph_in_segment code s ≡ glyph)
   pub one : (code : ℕ) (s t : Segment) → Contains segments s → Contains segments t
       → IsInSegment code s → IsInSegment code t → s ≡ t
   pub no_other : (code : ℕ) (s : Segment) → code ≤ 65534 → Contains segments s → IsInSegment code s

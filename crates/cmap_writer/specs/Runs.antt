@@ -1,8 +1,8 @@
 -- Runs of codes that follow each other and whose glyph numbers do too. They are what the segments
 -- of format 4 and the groups of format 12 stand for (OpenType 1.9, "cmap"). That each run is as
 -- long as can be is fontc's own.
-use Rattle.std.specs.Prelude.{◌≡◌, ℕ, zero, suc, ◌+◌, Bool, ◌==◌, ◌&&◌, nat_le, if◌then◌else◌, List,
-    [], ◌∷◌}
+use Rattle.std.specs.Prelude.{◌≡◌, ℕ, zero, suc, ◌+◌, Bool, ◌==◌, ◌&&◌, nat_le, if◌then◌else◌, List}
+use Rattle.std.specs.Prelude.{[], ◌∷◌}
 use Rattle.std.specs.List.{filter, flat_map}
 use Rattle.cmap_writer.specs.declared.runs.Run.{Run}
 

@@ -1,7 +1,7 @@
 -- The subtables of "cmap" as bytes, field by field (OpenType 1.9, "cmap", "Format 4: Segment
 -- mapping to delta values" and "Format 12: Segmented coverage").
-use Rattle.std.specs.Prelude.{ℕ, zero, suc, ◌+◌, ◌-◌, ◌*◌, ◌%◌, ◌^◌, nat_le, if◌then◌else◌, List,
-    [], ◌∷◌, ◌++◌, length, map}
+use Rattle.std.specs.Prelude.{ℕ, zero, suc, ◌+◌, ◌-◌, ◌*◌, ◌%◌, ◌^◌, nat_le, if◌then◌else◌, List}
+use Rattle.std.specs.Prelude.{[], ◌∷◌, ◌++◌, length, map}
 use Rattle.std.specs.List.{flat_map}
 use Rattle.table_bytes.specs.DataTypes.{uint16, uint32}
 use Rattle.cmap_writer.specs.declared.runs.Run.{Run}
@@ -58,7 +58,7 @@ format_4_head count =
     let format : ℕ = 4 in
     let seg_count_x2 : ℕ = 2 * count in
     uint16 format ++ uint16 (format_4_length count) ++ uint16 no_language ++ uint16 seg_count_x2
-        ++ search_fields count
+    ++ search_fields count
 
 -- the arrays after the last codes, field by field
 unfoldable pub later_arrays : List Segment → List ℕ

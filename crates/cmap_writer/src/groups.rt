@@ -20,8 +20,8 @@ fn push_group(table: &mut Vec<u8>, run: Run) -> Result<(), NoMemory>
 /// Appends the groups of format 12.
 fn push_groups(table: &mut Vec<u8>, runs: &[Run]) -> Result<(), NoMemory>
     requires { All (λ run. run.first + run.more ≤ 1114111) runs.now }
-    ensures { OnOk result (table.new.items ≡ table.old.items ++ flat_map spec.group_bytes runs.now)
-        }
+    ensures { OnOk result (table.new.items
+        ≡ table.old.items ++ flat_map spec.group_bytes runs.now) }
 {
     for run in runs {
         push_group(table, *run)?;

@@ -1,14 +1,14 @@
 -- What is drawn fulfils what writers ask of a flat glyph.
-use Rattle.std.proofs.Common.{◌≡◌, ℕ, ◌<◌, ◌≤◌, suc, Bool, true, false, List, [], ◌∷◌, ◌++◌, length,
-    get_or, map, None, Result, Ok, Err, refl, sym, ap, ◌∙◌, subst, arith}
-use Rattle.std.specs.Prelude.{not, ◌&&◌, ◌||◌, nat_le, flat_map, ℤ, pos, negsuc, neg_ℤ, ◌≤ℤ◌,
-    unsigned_abs, if◌then◌else◌, IfOk}
+use Rattle.std.proofs.Common.{◌≡◌, ℕ, ◌<◌, ◌≤◌, suc, Bool, true, false, List, [], ◌∷◌, ◌++◌, length}
+use Rattle.std.proofs.Common.{get_or, map, None, Result, Ok, Err, refl, sym, ap, ◌∙◌, subst, arith}
+use Rattle.std.specs.Prelude.{not, ◌&&◌, ◌||◌, nat_le, flat_map, ℤ, pos, negsuc, neg_ℤ, ◌≤ℤ◌}
+use Rattle.std.specs.Prelude.{unsigned_abs, if◌then◌else◌, IfOk}
 use Rattle.std.specs.List.{All, AllPairs, AllByRecursion, list_any, list_all}
 use Rattle.std.proofs.lemmas.Bool.{leb-true, ltb-false}
 use Rattle.std.proofs.lemmas.Int.{ints}
 use Rattle.std.proofs.lemmas.List.{length-map, get_or-map}
-use Rattle.std.proofs.lemmas.List.Elements.{All-from_recursion, recursion_from_All, All-nil,
-    All-map}
+use Rattle.std.proofs.lemmas.List.Elements.{All-from_recursion, recursion_from_All, All-nil}
+use Rattle.std.proofs.lemmas.List.Elements.{All-map}
 use Rattle.std.proofs.lemmas.List.Sums.{AllPass-from_list_all}
 use Rattle.fixed_math.specs.declared.Fixed.{Fixed}
 use Rattle.font_ir.specs.declared.glyph.DrawnPoint.{DrawnPoint}
@@ -19,18 +19,19 @@ use Rattle.font_ir.specs.declared.glyph.LayerIr.{LayerIr}
 use Rattle.font_ir.specs.declared.glyph.GlyphIr.{GlyphIr}
 use Rattle.font_ir.specs.declared.glyph.Kept.{Kept}
 use Rattle.font_ir.specs.declared.glyph.FlatGlyph.{FlatGlyph}
-use Rattle.font_ir.specs.FlatGlyphs.{IsSmall, IsSmallFixed, IsSmallPoint, shape_of, point_count,
-    IsFlatGlyph}
-use Rattle.font_ir.specs.ReadGlyphs.{ShapeForm, path_form, component_form, form_of, layer_form,
-    HasPoints, IsReadGlyph}
+use Rattle.font_ir.specs.FlatGlyphs.{IsSmall, IsSmallFixed, IsSmallPoint, shape_of, point_count}
+use Rattle.font_ir.specs.FlatGlyphs.{IsFlatGlyph}
+use Rattle.font_ir.specs.ReadGlyphs.{ShapeForm, path_form, component_form, form_of, layer_form}
+use Rattle.font_ir.specs.ReadGlyphs.{HasPoints, IsReadGlyph}
 use Rattle.refusal_codes.specs.declared.errors.ReadError.{ReadError}
 use Rattle.refusal_codes.specs.declared.first.Failure.{Failure}
 use Rattle.refusal_codes.specs.First.{foremost, refusal_of}
 use Rattle.refusal_codes.specs.declared.job.TheConstants.{FLAT}
 use Rattle.refusal_codes.specs.Gives.{Gives}
 use Rattle.refusal_codes.specs.JudgedLaws.{judged_ok}
-use Rattle.component_flatten.specs.Flattening.{contours_of, drawn_contours, flat_record,
-    has_many_points, is_small, is_small_point, has_small_points, are_small, limit_failures, flat_of}
+use Rattle.component_flatten.specs.Flattening.{contours_of, drawn_contours, flat_record}
+use Rattle.component_flatten.specs.Flattening.{has_many_points, is_small, is_small_point}
+use Rattle.component_flatten.specs.Flattening.{has_small_points, are_small, limit_failures, flat_of}
 
 -- ---- tests
 
@@ -125,14 +126,14 @@ pairs_map {X} {Y} R f (x ∷ xs) h = λ i j d below within.
     let first : i < length (x ∷ xs) = omega arith in
     subst (λ (a : Y). R a (get_or (map f (x ∷ xs)) j d)) (sym (get_or-map f (x ∷ xs) i x d first))
     (subst (λ (b : Y). R (f (get_or (x ∷ xs) i x)) b) (sym (get_or-map f (x ∷ xs) j x d second))
-        (h i j x below second))
+    (h i j x below second))
 
 one_shape : (glyph : GlyphIr) → IsReadGlyph glyph
     → AllPairs (λ a b. shape_of a ≡ shape_of b) (map drawn_contours glyph.layers)
 one_shape glyph read =
     pairs_map (λ (a b : List Contour). shape_of a ≡ shape_of b) drawn_contours glyph.layers
     (λ i j d below within. same_shape (get_or glyph.layers i d) (get_or glyph.layers j d)
-        (read.one_form i j d below within))
+    (read.one_form i j d below within))
 
 -- ---- the glyph
 
@@ -186,6 +187,6 @@ unfolding flat_of
 flat_glyph glyph read name (Err error) given = tt
 flat_glyph glyph read name (Ok x) given =
     let parts = judged_ok (refusal_of FLAT name) None
-        (foremost (limit_failures (flat_record glyph))) (flat_record glyph) x given in
+    (foremost (limit_failures (flat_record glyph))) (flat_record glyph) x given in
     let kept = limits_kept (flat_record glyph) parts.1 in
     subst (λ (y : FlatGlyph). IsFlatGlyph y) parts.2 (flat_facts glyph read kept.0 kept.1)

@@ -14,8 +14,10 @@ point x y = record { x = record { 0 = x }; y = record { 0 = y }; on = true }
 
 -- the triangle whose last corner is at x
 abbrev triangle_contour : ℤ → Contour
-triangle_contour x = record { points = point (pos 16384000) (pos 45875200) ∷ point (pos 0) (pos 0)
-    ∷ point x (pos 0) ∷ [] }
+triangle_contour x = record {
+  points = point (pos 16384000) (pos 45875200) ∷ point (pos 0) (pos 0)
+      ∷ point x (pos 0) ∷ [];
+}
 
 abbrev triangle : ℤ → GlyphIr
 triangle x = record {
@@ -51,14 +53,26 @@ greatest-drawn = refl
 
 -- and not beyond it, at either side
 pub beyond-refused : flat_of (codes "A") (triangle (pos 1073676289))
-    ≡ Err (record { stratum = 1; kind = 4; name = codes "A"; rule = CoordinateTooLarge; place
-    = 82 })
+    ≡ Err (record {
+      stratum = 1;
+      kind = 4;
+      name = codes "A";
+      rule = CoordinateTooLarge;
+      place
+          = 82;
+    })
 unfolding flat_of flat_record
 beyond-refused = refl
 
 pub below-refused : flat_of (codes "A") (triangle (neg_ℤ (pos 1073676289)))
-    ≡ Err (record { stratum = 1; kind = 4; name = codes "A"; rule = CoordinateTooLarge; place
-    = 82 })
+    ≡ Err (record {
+      stratum = 1;
+      kind = 4;
+      name = codes "A";
+      rule = CoordinateTooLarge;
+      place
+          = 82;
+    })
 unfolding flat_of flat_record
 below-refused = refl
 
@@ -78,8 +92,16 @@ many n = record {
 -- 8,000 points are drawn
 pub most_points-drawn :
     flat_of (codes "A") (many 8000)
-    ≡ Ok (record { number = 0; place = 82; places = [] ∷ []; widths = pos 500
-        ∷ []; drawn = (many_points 8000 ∷ []) ∷ []; kept = []; anchors = [] })
+    ≡ Ok (record {
+      number = 0;
+      place = 82;
+      places = [] ∷ [];
+      widths = pos 500
+          ∷ [];
+      drawn = (many_points 8000 ∷ []) ∷ [];
+      kept = [];
+      anchors = [];
+    })
 unfolding flat_of flat_record
 most_points-drawn = refl
 

@@ -2,8 +2,8 @@
 -- Components and anchors aren't built, so these definitions are meant only for a glyph that has
 -- none, as long as `flatten` asks for that by `HasNoComponents` and `HasNoAnchors`: its drawn
 -- contours at a place are the paths of its layer there, in their order.
-use Rattle.std.specs.Prelude.{ℕ, Bool, not, ◌&&◌, nat_lt, nat_le, List, [], ◌∷◌, ◌++◌, map,
-    flat_map, None, Result, unsigned_abs, if◌then◌else◌}
+use Rattle.std.specs.Prelude.{ℕ, Bool, not, ◌&&◌, nat_lt, nat_le, List, [], ◌∷◌, ◌++◌, map}
+use Rattle.std.specs.Prelude.{flat_map, None, Result, unsigned_abs, if◌then◌else◌}
 use Rattle.std.specs.List.{list_any, list_all}
 use Rattle.fixed_math.specs.declared.Fixed.{Fixed}
 use Rattle.font_ir.specs.declared.glyph.DrawnPoint.{DrawnPoint}
@@ -75,4 +75,4 @@ limit_failures flat =
 unfoldable pub flat_of : List ℕ → GlyphIr → Result FlatGlyph Refusal
 flat_of name glyph =
     judged (refusal_of FLAT name) None (foremost (limit_failures (flat_record glyph)))
-        (flat_record glyph)
+    (flat_record glyph)

@@ -2,8 +2,8 @@ ghost use Rattle.std.specs.Prelude.{◌≡◌, ◌+◌, ◌<◌, ◌^◌, length
 ghost use Rattle.std.specs.List.{list_any, list_all, sum_by};
 ghost use Rattle.refusal_codes.specs.First.{foremost};
 ghost use Rattle.font_ir.specs.FlatGlyphs.{point_count};
-ghost use Rattle.component_flatten.specs.Flattening.{has_many_points, is_small, is_small_point,
-    has_small_points, are_small};
+ghost use Rattle.component_flatten.specs.Flattening.{has_many_points, is_small, is_small_point};
+ghost use Rattle.component_flatten.specs.Flattening.{has_small_points, are_small};
 
 use fixed_math::Fixed;
 use font_ir::{Contour, DrawnPoint};

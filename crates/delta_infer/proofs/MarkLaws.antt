@@ -1,7 +1,7 @@
 -- The laws of the marks.
-use Rattle.std.proofs.Common.{◌≡◌, ℕ, zero, suc, ◌+◌, ◌-◌, ◌<◌, ◌≤◌, Bool, true, false, ◌&&◌, List,
-    [], ◌∷◌, ◌++◌, length, get_or, take, drop, refl, sym, ap, subst, ◌∙◌, arith, zero-add,
-    append_assoc, append-nil, ℤ, pos, ◌*ℤ◌}
+use Rattle.std.proofs.Common.{◌≡◌, ℕ, zero, suc, ◌+◌, ◌-◌, ◌<◌, ◌≤◌, Bool, true, false, ◌&&◌, List}
+use Rattle.std.proofs.Common.{[], ◌∷◌, ◌++◌, length, get_or, take, drop, refl, sym, ap, subst, ◌∙◌}
+use Rattle.std.proofs.Common.{arith, zero-add, append_assoc, append-nil, ℤ, pos, ◌*ℤ◌}
 use Rattle.std.specs.Prelude.{if◌then◌else◌}
 use Rattle.std.specs.Ordering.{int_eq}
 use Rattle.std.specs.List.{sum_by}
@@ -12,10 +12,10 @@ use Rattle.std.proofs.Math.Seq.{take-append_seam, drop-append_seam}
 use borrow.Author.Count.{below_more}
 use Rattle.delta_infer.specs.declared.moved.MovedPoint.{MovedPoint}
 use Rattle.delta_infer.specs.Moved.{moved_points, move_in_x, move_in_y}
-use Rattle.delta_infer.specs.Inferred.{MarkedPoint, inferred, is_exact, all_exact, all_exact_after,
-    named}
-use Rattle.delta_infer.specs.Omitted.{with_marks, can_be_left_out, marks_after, contour_marks,
-    omitted}
+use Rattle.delta_infer.specs.Inferred.{MarkedPoint, inferred, is_exact, all_exact, all_exact_after}
+use Rattle.delta_infer.specs.Inferred.{named}
+use Rattle.delta_infer.specs.Omitted.{with_marks, can_be_left_out, marks_after, contour_marks}
+use Rattle.delta_infer.specs.Omitted.{omitted}
 use Rattle.delta_infer.specs.Laws.{NothingChanges, AreContourMarks, AreMarks}
 
 left : (a b : Bool) → (a && b) ≡ true → a ≡ true
@@ -52,7 +52,7 @@ exact_after : (points : List MovedPoint) (marks : List Bool) (rest : List MovedP
 exact_after points marks [] so = so
 exact_after points marks (p ∷ rest) so =
     exact_after points (marks ++ can_be_left_out points marks ∷ []) rest
-        (exact_next points marks (can_be_left_out points marks) refl so)
+    (exact_next points marks (can_be_left_out points marks) refl so)
 
 -- a point that is left out is exact
 exact_point : (before earlier later : List MarkedPoint) (point : MovedPoint)
@@ -61,28 +61,29 @@ exact_point : (before earlier later : List MarkedPoint) (point : MovedPoint)
 exact_point before [] later point e =
     ap (λ ms. is_exact (later ++ ms) point) (append-nil before)
     ∙ left (is_exact (later ++ before) point)
-        (all_exact_after (before ++ record { point = point; left_out = true } ∷ []) later) e
+    (all_exact_after (before ++ record { point = point; left_out = true } ∷ []) later) e
 exact_point before (m ∷ earlier) later point e =
     let rest = earlier ++ record { point = point; left_out = true } ∷ later in
     let here : Bool = if m.left_out then is_exact (rest ++ before) m.point else true in
     ap (λ ms. is_exact (later ++ ms) point) (sym (append_assoc before (m ∷ []) earlier))
     ∙ exact_point (before ++ m ∷ []) earlier later point
-        (right here (all_exact_after (before ++ m ∷ []) rest) e)
+    (right here (all_exact_after (before ++ m ∷ []) rest) e)
 
 exact_values : (others : List MarkedPoint) (point : MovedPoint) → is_exact others point ≡ true
     → (inferred move_in_x others point.x ≡ pos 65536 *ℤ point.dx)
     × (inferred move_in_y others point.y ≡ pos 65536 *ℤ point.dy)
 exact_values others point e =
     let x : Bool = int_eq (inferred move_in_x others point.x) (pos 65536 *ℤ point.dx) in
-    let y : Bool = int_eq (inferred move_in_y others point.y) (pos 65536 *ℤ point.dy) in
-    ((Decides-int_eq (inferred move_in_x others point.x) (pos 65536 *ℤ point.dx)).0 (left x y e),
-        (Decides-int_eq (inferred move_in_y others point.y) (pos 65536 *ℤ point.dy)).0
-        (right x y e))
+    let y : Bool = int_eq (inferred move_in_y others point.y) (pos 65536 *ℤ point.dy) in (
+      (Decides-int_eq (inferred move_in_x others point.x) (pos 65536 *ℤ point.dx)).0 (left x y e),
+      (Decides-int_eq (inferred move_in_y others point.y) (pos 65536 *ℤ point.dy)).0
+          (right x y e),
+    )
 
 nothing_changes : (contour : List MarkedPoint) → all_exact contour ≡ true → NothingChanges contour
 nothing_changes contour e earlier later point is =
     exact_values (later ++ earlier) point (exact_point [] earlier later point
-        (ap all_exact (sym is) ∙ e))
+    (ap all_exact (sym is) ∙ e))
 
 -- ---- each mark is what the marks before it make it
 
@@ -109,7 +110,7 @@ follows_next points marks so k h =
     let P : ℕ → Type 0 = λ j. get_or new j false ≡ can_be_left_out points (take j new) in
     below_more P (length marks)
     (λ j less. within marks (mark ∷ []) j less ∙ so j less
-        ∙ ap (can_be_left_out points) (sym (take-append-le j marks (mark ∷ []) (omega arith))))
+    ∙ ap (can_be_left_out points) (sym (take-append-le j marks (mark ∷ []) (omega arith))))
     (at_end marks mark ∙ ap (can_be_left_out points) (sym (take-append_seam marks (mark ∷ []))))
     k (omega arith)
 
@@ -153,13 +154,13 @@ omitted_laws (contour ∷ contours) deltas e =
     let marks : List Bool = contour_marks points in
     let more : List Bool = omitted contours (drop n deltas) in
     let sizes : length deltas ≡ n + sum_by length contours = e ∙ sum_by-cons length contour contours
-        in
+    in
     let count : length marks ≡ n = (contour_laws points).as_many
-        ∙ length_moved contour (take n deltas) (length-take-le n deltas (omega arith)) in
+    ∙ length_moved contour (take n deltas) (length-take-le n deltas (omega arith)) in
     let front : take n (marks ++ more) ≡ marks = ap (λ k. take k (marks ++ more)) (sym count)
-        ∙ take-append_seam marks more in
+    ∙ take-append_seam marks more in
     let back : drop n (marks ++ more) ≡ more = ap (λ k. drop k (marks ++ more)) (sym count)
-        ∙ drop-append_seam marks more in (
+    ∙ drop-append_seam marks more in (
       (let P : List Bool → Type 0 = AreContourMarks points
           in subst P (sym front) (contour_laws points)),
       (let Q : List Bool → Type 0 = AreMarks contours (drop n deltas)

@@ -1,8 +1,8 @@
 -- When a quotient in 16.16, rounded down, is a whole number: the rest that is left is less than a
 -- 65536th of the divisor.
-use Rattle.std.proofs.Common.{◌≡◌, ℕ, zero, suc, ◌+◌, ◌*◌, ◌<◌, ◌≤◌, Bool, true, false, arith, refl,
-    ap, sym, subst, ◌∙◌, ℤ, pos, negsuc, neg_ℤ, ◌+ℤ◌, ◌-ℤ◌, ◌*ℤ◌, ◌≤ℤ◌, ◌<ℤ◌, FitsSigned, to_z,
-    of_z}
+use Rattle.std.proofs.Common.{◌≡◌, ℕ, zero, suc, ◌+◌, ◌*◌, ◌<◌, ◌≤◌, Bool, true, false, arith, refl}
+use Rattle.std.proofs.Common.{ap, sym, subst, ◌∙◌, ℤ, pos, negsuc, neg_ℤ, ◌+ℤ◌, ◌-ℤ◌, ◌*ℤ◌, ◌≤ℤ◌}
+use Rattle.std.proofs.Common.{◌<ℤ◌, FitsSigned, to_z, of_z}
 use Rattle.std.proofs.Math.Nat.{mul-le-mul_left, mul_assoc}
 use Rattle.std.proofs.lemmas.Int.{ints, by_lt_z}
 use Rattle.std.proofs.lemmas.Bool.Decides.{Decides-int_eq, Decides-like, same_from_decides}
@@ -69,7 +69,7 @@ scaled : (z : ℤ) (d : ℕ) → ((pos 65536 *ℤ z) *ℤ pos d) ≡ (pos 65536 
 scaled (pos a) d = ap pos (mul_assoc 65536 a d)
 scaled (negsuc a) d =
     negative_left (65536 * suc a) d ∙ ap (λ k. neg_ℤ (pos k)) (mul_assoc 65536 (suc a) d)
-        ∙ sym (negative_right 65536 (suc a * d))
+    ∙ sym (negative_right 65536 (suc a * d))
 
 scale_low : (n t : ℤ) → pos 0 ≤ℤ (n -ℤ t) → (pos 65536 *ℤ t) ≤ℤ (pos 65536 *ℤ n)
 scale_low n t h = omega (arith, ints)
@@ -91,9 +91,9 @@ is_quotient : (n z : ℤ) (d : ℕ) → 0 < d → pos 0 ≤ℤ (n -ℤ (z *ℤ p
 is_quotient n z d some low high =
     floor_unique (pos 65536 *ℤ n) (pos 65536 *ℤ z) d some
     (let P : ℤ → Type 0 = λ t. t ≤ℤ (pos 65536 *ℤ n)
-        in subst P (sym (scaled z d)) (scale_low n (z *ℤ pos d) low))
+    in subst P (sym (scaled z d)) (scale_low n (z *ℤ pos d) low))
     (let P : ℤ → Type 0 = λ t. (pos 65536 *ℤ n) <ℤ (t +ℤ pos d)
-        in subst P (sym (scaled z d)) (scale_high n (z *ℤ pos d) d high))
+    in subst P (sym (scaled z d)) (scale_high n (z *ℤ pos d) d high))
 
 -- the bounds that a quotient has
 low_of : (n z : ℤ) (d : ℕ) → 0 < d → floor_quotient (pos 65536 *ℤ n) (pos d) ≡ (pos 65536 *ℤ z)
@@ -102,7 +102,7 @@ low_of n z d some e =
     let P : ℤ → Type 0 = λ q. (q *ℤ pos d) ≤ℤ (pos 65536 *ℤ n) in
     let Q : ℤ → Type 0 = λ t. t ≤ℤ (pos 65536 *ℤ n) in
     back_low n (z *ℤ pos d) (subst Q (scaled z d)
-        (subst P e (floor_at_most (pos 65536 *ℤ n) d some)))
+    (subst P e (floor_at_most (pos 65536 *ℤ n) d some)))
 
 high_of : (n z : ℤ) (d : ℕ) → 0 < d → floor_quotient (pos 65536 *ℤ n) (pos d) ≡ (pos 65536 *ℤ z)
     → ((n -ℤ (z *ℤ pos d)) *ℤ pos 65536) <ℤ pos d
@@ -110,7 +110,7 @@ high_of n z d some e =
     let P : ℤ → Type 0 = λ q. (pos 65536 *ℤ n) <ℤ (q *ℤ pos d +ℤ pos d) in
     let Q : ℤ → Type 0 = λ t. (pos 65536 *ℤ n) <ℤ (t +ℤ pos d) in
     back_high n (z *ℤ pos d) d (subst Q (scaled z d)
-        (subst P e (floor_above (pos 65536 *ℤ n) d some)))
+    (subst P e (floor_above (pos 65536 *ℤ n) d some)))
 
 abbrev pub test : ℤ → ℤ → ℤ → Bool
 test n w z = int_eq (floor_quotient (pos 65536 *ℤ n) w) (pos 65536 *ℤ z)
@@ -124,7 +124,7 @@ not_less a b h k = omega (arith, ints)
 pub too_low : (n w z : ℤ) → pos 0 <ℤ w → (n -ℤ (z *ℤ w)) <ℤ pos 0 → test n w z ≡ false
 too_low n (pos d) z some low =
     unequal (floor_quotient (pos 65536 *ℤ n) (pos d)) (pos 65536 *ℤ z)
-        (λ e. not_both (n -ℤ (z *ℤ pos d)) low (low_of n z d (omega (arith, ints)) e))
+    (λ e. not_both (n -ℤ (z *ℤ pos d)) low (low_of n z d (omega (arith, ints)) e))
 too_low n (negsuc d) z some low = absurd (omega (arith, ints))
 
 far : (r : ℤ) (d : ℕ) → pos 65536 ≤ℤ r → pos d ≤ℤ pos 4294967295 → pos d ≤ℤ (r *ℤ pos 65536)
@@ -134,8 +134,8 @@ pub too_high : (n w z : ℤ) → pos 0 <ℤ w → w ≤ℤ pos 4294967295 → po
     → test n w z ≡ false
 too_high n (pos d) z some narrow high =
     unequal (floor_quotient (pos 65536 *ℤ n) (pos d)) (pos 65536 *ℤ z)
-        (λ e. not_less ((n -ℤ (z *ℤ pos d)) *ℤ pos 65536) (pos d)
-        (far (n -ℤ (z *ℤ pos d)) d high narrow) (high_of n z d (omega (arith, ints)) e))
+    (λ e. not_less ((n -ℤ (z *ℤ pos d)) *ℤ pos 65536) (pos d)
+    (far (n -ℤ (z *ℤ pos d)) d high narrow) (high_of n z d (omega (arith, ints)) e))
 too_high n (negsuc d) z some narrow high = absurd (omega (arith, ints))
 
 is_less : (a b : ℤ) → a <ℤ b → lt_z a b ≡ true
@@ -150,11 +150,11 @@ by_rest n (pos d) z some low =
     let rest = n -ℤ (z *ℤ pos d) in
     by_lt_z (rest *ℤ pos 65536) (pos d)
     (λ less. is_less (rest *ℤ pos 65536) (pos d) less
-        ∙ sym (equal-true (floor_quotient (pos 65536 *ℤ n) (pos d)) (pos 65536 *ℤ z)
-        (is_quotient n z d (omega (arith, ints)) low less)))
+    ∙ sym (equal-true (floor_quotient (pos 65536 *ℤ n) (pos d)) (pos 65536 *ℤ z)
+    (is_quotient n z d (omega (arith, ints)) low less)))
     (λ more. is_no_less (rest *ℤ pos 65536) (pos d) more
-        ∙ sym (unequal (floor_quotient (pos 65536 *ℤ n) (pos d)) (pos 65536 *ℤ z)
-        (λ e. not_less (rest *ℤ pos 65536) (pos d) more (high_of n z d (omega (arith, ints)) e))))
+    ∙ sym (unequal (floor_quotient (pos 65536 *ℤ n) (pos d)) (pos 65536 *ℤ z)
+    (λ e. not_less (rest *ℤ pos 65536) (pos d) more (high_of n z d (omega (arith, ints)) e))))
 by_rest n (negsuc d) z some low = absurd (omega (arith, ints))
 
 unscale : (a b : ℤ) → (pos 65536 *ℤ a) ≡ (pos 65536 *ℤ b) → a ≡ b
@@ -165,7 +165,7 @@ pub same_multiple : (a b : ℤ) → int_eq (pos 65536 *ℤ a) (pos 65536 *ℤ b)
 same_multiple a b =
     same_from_decides (int_eq (pos 65536 *ℤ a) (pos 65536 *ℤ b)) (int_eq a b)
     (Decides-like (int_eq (pos 65536 *ℤ a) (pos 65536 *ℤ b)) (unscale a b)
-        (ap (λ z. pos 65536 *ℤ z)) (Decides-int_eq (pos 65536 *ℤ a) (pos 65536 *ℤ b)))
+    (ap (λ z. pos 65536 *ℤ z)) (Decides-int_eq (pos 65536 *ℤ a) (pos 65536 *ℤ b)))
     (Decides-int_eq a b)
 
 -- a small number times 65536 fits

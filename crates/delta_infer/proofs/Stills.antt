@@ -1,7 +1,7 @@
 -- Where no point moves, each point is left out.
-use Rattle.std.proofs.Common.{◌≡◌, ℕ, ◌+◌, ◌-◌, ◌/◌, Bool, true, false, ◌&&◌, List, [], ◌∷◌, ◌++◌,
-    length, take, replicate, refl, sym, ap, ◌∙◌, arith, append_assoc, append-nil, ℤ, pos, negsuc,
-    ◌+ℤ◌, ◌-ℤ◌, ◌*ℤ◌, neg_ℤ, int_le, int_lt}
+use Rattle.std.proofs.Common.{◌≡◌, ℕ, ◌+◌, ◌-◌, ◌/◌, Bool, true, false, ◌&&◌, List, [], ◌∷◌, ◌++◌}
+use Rattle.std.proofs.Common.{length, take, replicate, refl, sym, ap, ◌∙◌, arith, append_assoc}
+use Rattle.std.proofs.Common.{append-nil, ℤ, pos, negsuc, ◌+ℤ◌, ◌-ℤ◌, ◌*ℤ◌, neg_ℤ, int_le, int_lt}
 use Rattle.std.specs.Prelude.{if◌then◌else◌}
 use Rattle.std.specs.List.{list_all}
 use Rattle.std.specs.Ordering.{int_eq}
@@ -16,8 +16,8 @@ use Rattle.delta_infer.specs.Moved.{move_in_x, move_in_y}
 use Rattle.delta_infer.specs.Inferred.{MarkedPoint, inferred_between, inferred_rising, mean, named}
 use Rattle.delta_infer.specs.Omitted.{with_marks, can_be_left_out, marks_after, contour_marks}
 use Rattle.delta_infer.specs.Parts.{is_between, is_still}
-use Rattle.delta_infer.proofs.Walks.{Walk, none_yet, some_named, step, walk, finish, all_between,
-    all_exact-walk}
+use Rattle.delta_infer.proofs.Walks.{Walk, none_yet, some_named, step, walk, finish, all_between}
+use Rattle.delta_infer.proofs.Walks.{all_exact-walk}
 
 left : (a b : Bool) → (a && b) ≡ true → a ≡ true
 left true b e = refl
@@ -47,23 +47,23 @@ unmoved a = record { at = a; delta = pos 0 }
 mean_still : (a b c : ℤ) → mean (unmoved a) (unmoved b) c ≡ pos 0
 mean_still a b c =
     ap (λ z. floor_quotient (pos 65536 *ℤ (z +ℤ (pos 0 *ℤ (c -ℤ a)))) (b -ℤ a))
-        (no_product (b -ℤ c))
+    (no_product (b -ℤ c))
     ∙ ap (λ z. floor_quotient (pos 65536 *ℤ (pos 0 +ℤ z)) (b -ℤ a)) (no_product (c -ℤ a))
     ∙ no_quotient (b -ℤ a)
 
 rising_still : (a b c : ℤ) → inferred_rising (unmoved a) (unmoved b) c ≡ pos 0
 rising_still a b c =
     if_same (int_le c a) (pos 0) (if int_le b c then pos 0 else mean (unmoved a) (unmoved b) c)
-        (pos 0) refl
+    (pos 0) refl
     (if_same (int_le b c) (pos 0) (mean (unmoved a) (unmoved b) c) (pos 0) refl (mean_still a b c))
 
 between_still : (a b c : ℤ) → inferred_between (unmoved a) (unmoved b) c ≡ pos 0
 between_still a b c =
     if_same (int_lt a b) (inferred_rising (unmoved a) (unmoved b) c)
-        (if int_lt b a then inferred_rising (unmoved b) (unmoved a) c else pos 0) (pos 0)
-        (rising_still a b c)
+    (if int_lt b a then inferred_rising (unmoved b) (unmoved a) c else pos 0) (pos 0)
+    (rising_still a b c)
     (if_same (int_lt b a) (inferred_rising (unmoved b) (unmoved a) c) (pos 0) (pos 0)
-        (rising_still b a c) refl)
+    (rising_still b a c) refl)
 
 none_of : (z : ℤ) → int_eq (pos 0) (pos 65536 *ℤ z) ≡ true → z ≡ pos 0
 none_of z e = let same : pos 0 ≡ (pos 65536 *ℤ z) = (Decides-int_eq (pos 0) (pos 65536 *ℤ z)).0 e
@@ -92,7 +92,7 @@ is_between_still : (b a p : MovedPoint) → is_still b ≡ true → is_still a �
     → is_between b a p ≡ true
 is_between_still b a p e f g =
     both (int_eq (inferred_between (move_in_x b) (move_in_x a) p.x) (pos 65536 *ℤ p.dx))
-        (int_eq (inferred_between (move_in_y b) (move_in_y a) p.y) (pos 65536 *ℤ p.dy))
+    (int_eq (inferred_between (move_in_y b) (move_in_y a) p.y) (pos 65536 *ℤ p.dy))
     (inferred_still b.x a.x p.x b.dx a.dx p.dx (still_x b e) (still_x a f) (still_x p g))
     (inferred_still b.y a.y p.y b.dy a.dy p.dy (still_y b e) (still_y a f) (still_y p g))
 
@@ -127,8 +127,14 @@ step_still (none_yet run) p true so e = one_more run p so e
 step_still (none_yet run) p false so e = record
     { front_still = so; first_still = e; all_ok = refl; before_still = e; run_still = refl }
 step_still (some_named front first ok before run) p true so e =
-    record { front_still = so.front_still; first_still = so.first_still; all_ok
-        = so.all_ok; before_still = so.before_still; run_still = one_more run p so.run_still e }
+    record {
+      front_still = so.front_still;
+      first_still = so.first_still;
+      all_ok
+          = so.all_ok;
+      before_still = so.before_still;
+      run_still = one_more run p so.run_still e;
+    }
 step_still (some_named front first ok before run) p false so e =
     record {
       front_still = so.front_still;
@@ -145,11 +151,11 @@ walk_still w [] marks so e = so
 walk_still w (p ∷ points) [] so e =
     let own = left (is_still p) (list_all is_still points) e in
     walk_still (step w (named p)) points [] (step_still w p false so own)
-        (right (is_still p) (list_all is_still points) e)
+    (right (is_still p) (list_all is_still points) e)
 walk_still w (p ∷ points) (m ∷ marks) so e =
     let own = left (is_still p) (list_all is_still points) e in
     walk_still (step w (record { point = p; left_out = m })) points marks (step_still w p m so own)
-        (right (is_still p) (list_all is_still points) e)
+    (right (is_still p) (list_all is_still points) e)
 
 finish_still : (w : Walk) → IsStillWalk w → finish w ≡ true
 finish_still (none_yet run) so = so
@@ -157,14 +163,14 @@ finish_still (some_named front first ok before run) so =
     both ok (all_between before first (run ++ front)) so.all_ok
     (all_between_still before first (run ++ front) so.before_still so.first_still
     (list_all-append is_still run front ∙ both (list_all is_still run) (list_all is_still front)
-        so.run_still so.front_still))
+    so.run_still so.front_still))
 
 can_still : (points : List MovedPoint) (marks : List Bool) → list_all is_still points ≡ true
     → can_be_left_out points marks ≡ true
 can_still points marks e =
     all_exact-walk (with_marks points (marks ++ true ∷ []))
     ∙ finish_still (walk (none_yet []) (with_marks points (marks ++ true ∷ [])))
-        (walk_still (none_yet []) points (marks ++ true ∷ []) refl e)
+    (walk_still (none_yet []) points (marks ++ true ∷ []) refl e)
 
 after_still : (points : List MovedPoint) (marks : List Bool) (rest : List MovedPoint)
     → list_all is_still points ≡ true → marks_after points marks rest
@@ -185,4 +191,4 @@ pub filled : (old : List Bool) (n m : ℕ) → n ≡ length old + m
 filled old n m e =
     let more : n - length old ≡ m = omega arith in
     ap (λ xs. xs ++ replicate (n - length old) true) (take_all n old (omega arith))
-        ∙ ap (λ k. old ++ replicate k true) more
+    ∙ ap (λ k. old ++ replicate k true) more

@@ -1,8 +1,8 @@
 -- A walk along a contour that keeps, of the points so far, only what the later ones need: those
 -- before the first named point, that point, whether the runs between named points are exact, the
 -- last named point, and the run after it.
-use Rattle.std.proofs.Common.{◌≡◌, Bool, true, false, ◌&&◌, List, [], ◌∷◌, ◌++◌, refl, sym, ap, ◌∙◌,
-    Option, Some, None, append_assoc, append-nil, ℤ, pos, ◌*ℤ◌}
+use Rattle.std.proofs.Common.{◌≡◌, Bool, true, false, ◌&&◌, List, [], ◌∷◌, ◌++◌, refl, sym, ap, ◌∙◌}
+use Rattle.std.proofs.Common.{Option, Some, None, append_assoc, append-nil, ℤ, pos, ◌*ℤ◌}
 use Rattle.std.specs.List.{list_all}
 use Rattle.std.specs.Prelude.{if◌then◌else◌}
 use Rattle.std.specs.Ordering.{int_eq}
@@ -10,8 +10,9 @@ use Rattle.std.proofs.lemmas.List.Folds.{list_all-append}
 use Rattle.delta_infer.specs.declared.moved.MovedPoint.{MovedPoint}
 use Rattle.delta_infer.specs.declared.moved.Move.{Move}
 use Rattle.delta_infer.specs.Moved.{move_in_x, move_in_y}
-use Rattle.delta_infer.specs.Inferred.{MarkedPoint, named, or_else, first_named, last_named,
-    inferred_from, inferred, is_exact, all_exact_after, all_exact}
+use Rattle.delta_infer.specs.Inferred.{MarkedPoint, named, or_else, first_named, last_named}
+use Rattle.delta_infer.specs.Inferred.{inferred_from, inferred, is_exact, all_exact_after}
+use Rattle.delta_infer.specs.Inferred.{all_exact}
 use Rattle.delta_infer.specs.Parts.{is_between, is_still}
 
 -- ---- tests and options
@@ -83,7 +84,7 @@ pub first_named-append : (xs ys : List MarkedPoint)
 first_named-append [] ys = refl
 first_named-append (m ∷ xs) ys =
     elim m.left_out as (λ v. (if v then first_named (xs ++ ys) else Some m.point)
-        ≡ or_else (if v then first_named xs else Some m.point) (first_named ys)) [
+    ≡ or_else (if v then first_named xs else Some m.point) (first_named ys)) [
       | true ↦ first_named-append xs ys
       | false ↦ refl
     ]
@@ -94,14 +95,14 @@ last_named-append [] ys = sym (or_else-none (last_named ys))
 last_named-append (m ∷ xs) ys =
     let own : Option MovedPoint = if m.left_out then None else Some m.point in
     ap (λ o. or_else o own) (last_named-append xs ys)
-        ∙ or_else-assoc (last_named ys) (last_named xs) own
+    ∙ or_else-assoc (last_named ys) (last_named xs) own
 
 -- where none is the first, none is the last, and the other way round
 last_none : (xs : List MarkedPoint) → first_named xs ≡ None → last_named xs ≡ None
 last_none [] e = refl
 last_none (m ∷ xs) e =
     elim m.left_out as (λ v. (if v then first_named xs else Some m.point) ≡ None
-        → or_else (last_named xs) (if v then None else Some m.point) ≡ None) [
+    → or_else (last_named xs) (if v then None else Some m.point) ≡ None) [
       | true ↦ λ f. or_else-none (last_named xs) ∙ last_none xs f
       | false ↦ λ f. cc
     ] e
@@ -111,8 +112,7 @@ last_some : (xs : List MarkedPoint) (f : MovedPoint) → first_named xs ≡ Some
 last_some [] f e = cc
 last_some (m ∷ xs) f e =
     elim m.left_out as (λ v. (if v then first_named xs else Some m.point) ≡ Some f
-        → (l : MovedPoint) × (or_else (last_named xs) (if v then None else Some m.point) ≡ Some l))
-        [
+    → (l : MovedPoint) × (or_else (last_named xs) (if v then None else Some m.point) ≡ Some l)) [
       | true ↦ λ g. let rest = last_some xs f g in (rest.0, or_else-none (last_named xs) ∙ rest.1)
       | false ↦ λ g. (or_point (last_named xs) m.point, or_else-last (last_named xs) m.point)
     ] e
@@ -126,7 +126,7 @@ abbrev pub fits_from : MovedPoint → MovedPoint → List MarkedPoint → Bool
 fits_from before first [] = true
 fits_from before first (m ∷ rest) =
     if m.left_out then is_between before (or_point (first_named rest) first) m.point
-        && fits_from before first rest else fits_from m.point first rest
+    && fits_from before first rest else fits_from m.point first rest
 
 -- the test of a point by its two options
 abbrev exact_by : Option MovedPoint → Option MovedPoint → MovedPoint → Bool
@@ -150,10 +150,10 @@ exact_still : (others : List MarkedPoint) (point : MovedPoint) → first_named o
 exact_still others point e =
     ap (λ o. exact_by (last_named others) o point) e
     ∙ ap (λ z. int_eq z (pos 65536 *ℤ point.dx)
-        && int_eq (inferred_from move_in_y (last_named others) None point.y)
-        (pos 65536 *ℤ point.dy)) (inferred-none move_in_x (last_named others) point.x)
+    && int_eq (inferred_from move_in_y (last_named others) None point.y)
+    (pos 65536 *ℤ point.dy)) (inferred-none move_in_x (last_named others) point.x)
     ∙ ap (λ z. int_eq (pos 0) (pos 65536 *ℤ point.dx) && int_eq z (pos 65536 *ℤ point.dy))
-        (inferred-none move_in_y (last_named others) point.y)
+    (inferred-none move_in_y (last_named others) point.y)
 
 all_exact-fits : (earlier rest : List MarkedPoint) (first last : MovedPoint)
     → first_named (earlier ++ rest) ≡ Some first → last_named (earlier ++ rest) ≡ Some last
@@ -161,45 +161,45 @@ all_exact-fits : (earlier rest : List MarkedPoint) (first last : MovedPoint)
 all_exact-fits earlier [] first last e f = refl
 all_exact-fits earlier (m ∷ later) first last e f =
     let more : (earlier ++ m ∷ []) ++ later
-        ≡ earlier ++ m ∷ later = append_assoc earlier (m ∷ []) later in
+    ≡ earlier ++ m ∷ later = append_assoc earlier (m ∷ []) later in
     let rest : all_exact_after (earlier ++ m ∷ []) later
-        ≡ fits_from (or_point (last_named (earlier ++ m ∷ [])) last) first later =
+    ≡ fits_from (or_point (last_named (earlier ++ m ∷ [])) last) first later =
     all_exact-fits (earlier ++ m ∷ []) later first last (ap first_named more ∙ e)
-        (ap last_named more ∙ f) in
+    (ap last_named more ∙ f) in
     let first_parts : or_else (first_named earlier) (first_named (m ∷ later))
-        ≡ Some first = sym (first_named-append earlier (m ∷ later)) ∙ e in
+    ≡ Some first = sym (first_named-append earlier (m ∷ later)) ∙ e in
     let last_parts : or_else (last_named (m ∷ later)) (last_named earlier)
-        ≡ Some last = sym (last_named-append earlier (m ∷ later)) ∙ f in
+    ≡ Some last = sym (last_named-append earlier (m ∷ later)) ∙ f in
     let before_more : last_named (earlier ++ m ∷ [])
-        ≡ or_else (or_else None (if m.left_out then None else Some m.point)) (last_named earlier)
-        = last_named-append earlier (m ∷ []) in
+    ≡ or_else (or_else None (if m.left_out then None else Some m.point)) (last_named earlier)
+    = last_named-append earlier (m ∷ []) in
     elim m.left_out as (λ v. or_else (first_named earlier)
-        (if v then first_named later else Some m.point) ≡ Some first
-        → or_else (or_else (last_named later) (if v then None else Some m.point))
-        (last_named earlier) ≡ Some last → last_named (earlier ++ m ∷ [])
-        ≡ or_else (or_else None (if v then None else Some m.point)) (last_named earlier)
-        → ((if v then is_exact (later ++ earlier) m.point else true)
-        && all_exact_after (earlier ++ m ∷ []) later)
-        ≡ (if v then is_between (or_point (last_named earlier) last)
-        (or_point (first_named later) first) m.point
-        && fits_from (or_point (last_named earlier) last) first later else fits_from m.point first
-        later)) [
+    (if v then first_named later else Some m.point) ≡ Some first
+    → or_else (or_else (last_named later) (if v then None else Some m.point))
+    (last_named earlier) ≡ Some last → last_named (earlier ++ m ∷ [])
+    ≡ or_else (or_else None (if v then None else Some m.point)) (last_named earlier)
+    → ((if v then is_exact (later ++ earlier) m.point else true)
+    && all_exact_after (earlier ++ m ∷ []) later)
+    ≡ (if v then is_between (or_point (last_named earlier) last)
+    (or_point (first_named later) first) m.point
+    && fits_from (or_point (last_named earlier) last) first later else fits_from m.point first
+    later)) [
       | true ↦ λ g h b.
           let h2 : or_else (last_named later) (last_named earlier)
-              ≡ Some last = ap (λ o. or_else o (last_named earlier))
-              (sym (or_else-none (last_named later))) ∙ h in
+          ≡ Some last = ap (λ o. or_else o (last_named earlier))
+          (sym (or_else-none (last_named later))) ∙ h in
           let after : first_named (later ++ earlier)
-              ≡ Some (or_point (first_named later) first) = first_named-append later earlier
-              ∙ turned (first_named earlier) (first_named later) first g in
+          ≡ Some (or_point (first_named later) first) = first_named-append later earlier
+          ∙ turned (first_named earlier) (first_named later) first g in
           let before : last_named (later ++ earlier)
-              ≡ Some (or_point (last_named earlier) last) = last_named-append later earlier
-              ∙ turned (last_named later) (last_named earlier) last h2 in
+          ≡ Some (or_point (last_named earlier) last) = last_named-append later earlier
+          ∙ turned (last_named later) (last_named earlier) last h2 in
           ap (λ x. x && all_exact_after (earlier ++ m ∷ []) later)
-              (exact_between (later ++ earlier) (or_point (last_named earlier) last)
-              (or_point (first_named later) first) m.point before after)
+          (exact_between (later ++ earlier) (or_point (last_named earlier) last)
+          (or_point (first_named later) first) m.point before after)
           ∙ ap (λ x. is_between (or_point (last_named earlier) last)
-              (or_point (first_named later) first) m.point && x)
-              (rest ∙ ap (λ o. fits_from (or_point o last) first later) b)
+          (or_point (first_named later) first) m.point && x)
+          (rest ∙ ap (λ o. fits_from (or_point o last) first later) b)
       | false ↦ λ g h b. rest ∙ ap (λ o. fits_from (or_point o last) first later) b
     ] first_parts last_parts before_more
 
@@ -212,26 +212,26 @@ all_exact-still : (earlier rest : List MarkedPoint) → first_named (earlier ++ 
 all_exact-still earlier [] e = refl
 all_exact-still earlier (m ∷ later) e =
     let more : (earlier ++ m ∷ []) ++ later
-        ≡ earlier ++ m ∷ later = append_assoc earlier (m ∷ []) later in
+    ≡ earlier ++ m ∷ later = append_assoc earlier (m ∷ []) later in
     let rest : all_exact_after (earlier ++ m ∷ []) later
-        ≡ list_all is_still (points_of later)
-        = all_exact-still (earlier ++ m ∷ []) later (ap first_named more ∙ e) in
+    ≡ list_all is_still (points_of later)
+    = all_exact-still (earlier ++ m ∷ []) later (ap first_named more ∙ e) in
     let parts : or_else (first_named earlier) (first_named (m ∷ later))
-        ≡ None = sym (first_named-append earlier (m ∷ later)) ∙ e in
+    ≡ None = sym (first_named-append earlier (m ∷ later)) ∙ e in
     let none_before : first_named earlier ≡ None
-        = none_left (first_named earlier) (first_named (m ∷ later)) parts in
+    = none_left (first_named earlier) (first_named (m ∷ later)) parts in
     elim m.left_out as (λ v. or_else (first_named earlier)
-        (if v then first_named later else Some m.point) ≡ None
-        → ((if v then is_exact (later ++ earlier) m.point else true)
-        && all_exact_after (earlier ++ m ∷ []) later)
-        ≡ (is_still m.point && list_all is_still (points_of later))) [
+    (if v then first_named later else Some m.point) ≡ None
+    → ((if v then is_exact (later ++ earlier) m.point else true)
+    && all_exact_after (earlier ++ m ∷ []) later)
+    ≡ (is_still m.point && list_all is_still (points_of later))) [
       | true ↦ λ g.
           let none_after : first_named later ≡ None
-              = none_right (first_named earlier) (first_named later) g in
+          = none_right (first_named earlier) (first_named later) g in
           let none : first_named (later ++ earlier) ≡ None = first_named-append later earlier
-              ∙ none_both (first_named later) (first_named earlier) none_after none_before in
+          ∙ none_both (first_named later) (first_named earlier) none_after none_before in
           ap (λ x. x && all_exact_after (earlier ++ m ∷ []) later)
-              (exact_still (later ++ earlier) m.point none)
+          (exact_still (later ++ earlier) m.point none)
           ∙ ap (λ x. is_still m.point && x) rest
       | false ↦ λ g. let no : Some m.point ≡ None
           = none_right (first_named earlier) (Some m.point) g in cc
@@ -248,7 +248,7 @@ step (none_yet run) m = if m.left_out then none_yet (run ++ m.point ∷ []) else
     m.point true m.point []
 step (some_named front first ok before run) m =
     if m.left_out then some_named front first ok before (run ++ m.point ∷ []) else some_named front
-        first (ok && all_between before m.point run) m.point []
+    first (ok && all_between before m.point run) m.point []
 
 abbrev pub walk : Walk → List MarkedPoint → Walk
 walk w [] = w
@@ -272,33 +272,33 @@ finish-some front first ok before run []
     = ap (λ x. ok && x) (list_all-append (is_between before first) run front)
 finish-some front first ok before run (m ∷ rest) =
     elim m.left_out as (λ v. finish (walk (if v then some_named front first ok before
-        (run ++ m.point ∷ []) else some_named front first (ok && all_between before m.point run)
-        m.point []) rest) ≡ (ok && (all_between before
-        (or_point (if v then first_named rest else Some m.point) first) run
-        && ((if v then is_between before (or_point (first_named rest) first) m.point
-        && fits_from before first rest else fits_from m.point first rest)
-        && all_between (or_point (or_else (last_named rest) (if v then None else Some m.point))
-        before) first front)))) [
+    (run ++ m.point ∷ []) else some_named front first (ok && all_between before m.point run)
+    m.point []) rest) ≡ (ok && (all_between before
+    (or_point (if v then first_named rest else Some m.point) first) run
+    && ((if v then is_between before (or_point (first_named rest) first) m.point
+    && fits_from before first rest else fits_from m.point first rest)
+    && all_between (or_point (or_else (last_named rest) (if v then None else Some m.point))
+    before) first front)))) [
       | true ↦
           let next = or_point (first_named rest) first in
           let last = all_between (or_point (last_named rest) before) first front in
           finish-some front first ok before (run ++ m.point ∷ []) rest
           ∙ ap (λ x. ok && (x && (fits_from before first rest && last)))
-              (list_all-append (is_between before next) run (m.point ∷ []))
+          (list_all-append (is_between before next) run (m.point ∷ []))
           ∙ ap (λ x. ok && x) (and_shift (all_between before next run)
-              (is_between before next m.point) (fits_from before first rest) last)
+          (is_between before next m.point) (fits_from before first rest) last)
           ∙ ap (λ o. ok && (all_between before next run
-              && ((is_between before next m.point && fits_from before first rest)
-              && all_between (or_point o before) first front)))
-              (sym (or_else-none (last_named rest)))
+          && ((is_between before next m.point && fits_from before first rest)
+          && all_between (or_point o before) first front)))
+          (sym (or_else-none (last_named rest)))
       | false ↦
           finish-some front first (ok && all_between before m.point run) m.point [] rest
           ∙ and_assoc ok (all_between before m.point run)
-              (fits_from m.point first rest && all_between (or_point (last_named rest) m.point)
-              first front)
+          (fits_from m.point first rest && all_between (or_point (last_named rest) m.point)
+          first front)
           ∙ ap (λ p. ok && (all_between before m.point run
-              && (fits_from m.point first rest && all_between p first front)))
-              (sym (or_point-or_else (last_named rest) m.point before))
+          && (fits_from m.point first rest && all_between p first front)))
+          (sym (or_point-or_else (last_named rest) m.point before))
     ]
 
 finish-none : (run : List MovedPoint) (rest : List MarkedPoint) → first_named rest ≡ None
@@ -306,8 +306,8 @@ finish-none : (run : List MovedPoint) (rest : List MarkedPoint) → first_named 
 finish-none run [] e = ap (list_all is_still) (sym (append-nil run))
 finish-none run (m ∷ rest) e =
     elim m.left_out as (λ v. (if v then first_named rest else Some m.point) ≡ None
-        → finish (walk (if v then none_yet (run ++ m.point ∷ []) else some_named run m.point true
-        m.point []) rest) ≡ list_all is_still (run ++ m.point ∷ points_of rest)) [
+    → finish (walk (if v then none_yet (run ++ m.point ∷ []) else some_named run m.point true
+    m.point []) rest) ≡ list_all is_still (run ++ m.point ∷ points_of rest)) [
       | true ↦ λ g. finish-none (run ++ m.point ∷ []) rest g
           ∙ ap (list_all is_still) (append_assoc run (m.point ∷ []) (points_of rest))
       | false ↦ λ g. cc
@@ -319,31 +319,31 @@ finish-first : (run : List MovedPoint) (rest : List MarkedPoint) (first last : M
 finish-first run [] first last e f = cc
 finish-first run (m ∷ rest) first last e f =
     elim m.left_out as (λ v. (if v then first_named rest else Some m.point) ≡ Some first
-        → or_else (last_named rest) (if v then None else Some m.point) ≡ Some last
-        → finish (walk (if v then none_yet (run ++ m.point ∷ []) else some_named run m.point true
-        m.point []) rest) ≡ (all_between last first run
-        && (if v then is_between last (or_point (first_named rest) first) m.point
-        && fits_from last first rest else fits_from m.point first rest))) [
+    → or_else (last_named rest) (if v then None else Some m.point) ≡ Some last
+    → finish (walk (if v then none_yet (run ++ m.point ∷ []) else some_named run m.point true
+    m.point []) rest) ≡ (all_between last first run
+    && (if v then is_between last (or_point (first_named rest) first) m.point
+    && fits_from last first rest else fits_from m.point first rest))) [
       | true ↦ λ g h.
           finish-first (run ++ m.point ∷ []) rest first last g
-              (sym (or_else-none (last_named rest)) ∙ h)
+          (sym (or_else-none (last_named rest)) ∙ h)
           ∙ ap (λ x. x && fits_from last first rest)
-              (list_all-append (is_between last first) run (m.point ∷ [])
-              ∙ ap (λ x. all_between last first run && x)
-              (and-true (is_between last first m.point)))
+          (list_all-append (is_between last first) run (m.point ∷ [])
+          ∙ ap (λ x. all_between last first run && x)
+          (and-true (is_between last first m.point)))
           ∙ and_assoc (all_between last first run) (is_between last first m.point)
-              (fits_from last first rest)
+          (fits_from last first rest)
           ∙ ap (λ p. all_between last first run
-              && (is_between last p m.point && fits_from last first rest))
-              (sym (or_point-some (first_named rest) first first g))
+          && (is_between last p m.point && fits_from last first rest))
+          (sym (or_point-some (first_named rest) first first g))
       | false ↦ λ g h.
           let is_first : m.point ≡ first = cc in
           let is_last : or_point (last_named rest) m.point
-              ≡ last = let both : Some (or_point (last_named rest) m.point)
-              ≡ Some last = sym (or_else-last (last_named rest) m.point) ∙ h in cc in
+          ≡ last = let both : Some (or_point (last_named rest) m.point)
+          ≡ Some last = sym (or_else-last (last_named rest) m.point) ∙ h in cc in
           finish-some run m.point true m.point [] rest
           ∙ and_comm (fits_from m.point m.point rest)
-              (all_between (or_point (last_named rest) m.point) m.point run)
+          (all_between (or_point (last_named rest) m.point) m.point run)
           ∙ ap (λ p. all_between p m.point run && fits_from m.point m.point rest) is_last
           ∙ ap (λ p. all_between last p run && fits_from m.point p rest) is_first
     ] e f
@@ -353,7 +353,7 @@ pub all_exact-walk : (contour : List MarkedPoint)
     → all_exact contour ≡ finish (walk (none_yet []) contour)
 all_exact-walk contour =
     elim (first_named contour) as (λ o. first_named contour ≡ o
-        → all_exact contour ≡ finish (walk (none_yet []) contour)) [
+    → all_exact contour ≡ finish (walk (none_yet []) contour)) [
       | None ↦ λ e. all_exact-still [] contour e ∙ sym (finish-none [] contour e)
       | Some first ↦ λ e. let last = last_some contour first e
           in all_exact-fits [] contour first last.0 e last.1

@@ -2,8 +2,8 @@
 -- "Inferred deltas for un-referenced point numbers"). It comes from the nearest points with deltas
 -- before and after it, going around the contour, and on each axis by itself. In 16.16, where a
 -- fraction is rounded down: that is fontc's own.
-use Rattle.std.specs.Prelude.{ℤ, pos, ◌+ℤ◌, ◌-ℤ◌, ◌*ℤ◌, int_le, int_lt, Bool, true, false, ◌&&◌,
-    if◌then◌else◌, List, [], ◌∷◌, ◌++◌, Option, Some, None}
+use Rattle.std.specs.Prelude.{ℤ, pos, ◌+ℤ◌, ◌-ℤ◌, ◌*ℤ◌, int_le, int_lt, Bool, true, false, ◌&&◌}
+use Rattle.std.specs.Prelude.{if◌then◌else◌, List, [], ◌∷◌, ◌++◌, Option, Some, None}
 use Rattle.std.specs.Ordering.{int_eq}
 use Rattle.fixed_math.specs.FixedPoint.{floor_quotient}
 use Rattle.delta_infer.specs.declared.moved.MovedPoint.{MovedPoint}
@@ -17,13 +17,13 @@ use Rattle.delta_infer.specs.Moved.{move_in_x, move_in_y}
 abbrev pub mean : Move → Move → ℤ → ℤ
 mean low high c =
     floor_quotient (pos 65536 *ℤ ((low.delta *ℤ (high.at -ℤ c)) +ℤ (high.delta *ℤ (c -ℤ low.at))))
-        (high.at -ℤ low.at)
+    (high.at -ℤ low.at)
 
 -- and elsewhere the delta of the nearer of the two
 abbrev pub inferred_rising : Move → Move → ℤ → ℤ
 inferred_rising low high c =
     if int_le c low.at then pos 65536 *ℤ low.delta else
-        (if int_le high.at c then pos 65536 *ℤ high.delta else mean low high c)
+    (if int_le high.at c then pos 65536 *ℤ high.delta else mean low high c)
 
 -- of two equal coordinates: their delta where it is one, and else none
 abbrev pub inferred_level : Move → Move → ℤ
@@ -34,7 +34,7 @@ abbrev pub inferred_between : Move → Move → ℤ → ℤ
 inferred_between before after c =
     if int_lt before.at after.at then inferred_rising before after c else (
     if int_lt after.at before.at then inferred_rising after before c else inferred_level before
-        after)
+    after)
 
 -- ---- around a contour
 
@@ -83,7 +83,7 @@ abbrev pub all_exact_after : List MarkedPoint → List MarkedPoint → Bool
 all_exact_after earlier [] = true
 all_exact_after earlier (marked ∷ later) =
     (if marked.left_out then is_exact (later ++ earlier) marked.point else true)
-        && all_exact_after (earlier ++ marked ∷ []) later
+    && all_exact_after (earlier ++ marked ∷ []) later
 
 abbrev pub all_exact : List MarkedPoint → Bool
 all_exact contour = all_exact_after [] contour

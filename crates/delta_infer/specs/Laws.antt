@@ -1,6 +1,6 @@
 -- What holds of the points that are left out.
-use Rattle.std.specs.Prelude.{◌≡◌, ℕ, ℤ, pos, ◌*ℤ◌, Bool, true, false, List, [], ◌∷◌, ◌++◌, length,
-    take, drop, slice_index_or, EachIndex}
+use Rattle.std.specs.Prelude.{◌≡◌, ℕ, ℤ, pos, ◌*ℤ◌, Bool, true, false, List, [], ◌∷◌, ◌++◌, length}
+use Rattle.std.specs.Prelude.{take, drop, slice_index_or, EachIndex}
 use Rattle.delta_infer.specs.declared.moved.MovedPoint.{MovedPoint}
 use Rattle.delta_infer.specs.Moved.{moved_points, move_in_x, move_in_y}
 use Rattle.delta_infer.specs.Inferred.{MarkedPoint, inferred}
@@ -10,9 +10,9 @@ use Rattle.delta_infer.specs.Omitted.{with_marks, can_be_left_out}
 abbrev pub NothingChanges : List MarkedPoint → Type 0
 NothingChanges contour =
     (earlier later : List MarkedPoint) (point : MovedPoint)
-        → contour ≡ earlier ++ record { point = point; left_out = true } ∷ later
-        → (inferred move_in_x (later ++ earlier) point.x ≡ pos 65536 *ℤ point.dx)
-        × (inferred move_in_y (later ++ earlier) point.y ≡ pos 65536 *ℤ point.dy)
+    → contour ≡ earlier ++ record { point = point; left_out = true } ∷ later
+    → (inferred move_in_x (later ++ earlier) point.x ≡ pos 65536 *ℤ point.dx)
+    × (inferred move_in_y (later ++ earlier) point.y ≡ pos 65536 *ℤ point.dy)
 
 -- the marks of a contour: each point is left out exactly where it can be, beside those that were
 -- left out before it
@@ -27,5 +27,5 @@ abbrev pub AreMarks : List (List (ℤ × ℤ)) → List (ℤ × ℤ) → List Bo
 AreMarks [] deltas marks = marks ≡ []
 AreMarks (contour ∷ contours) deltas marks =
     AreContourMarks (moved_points contour (take (length contour) deltas))
-        (take (length contour) marks)
+    (take (length contour) marks)
     × AreMarks contours (drop (length contour) deltas) (drop (length contour) marks)

@@ -31,4 +31,4 @@ abbrev pub omitted : List (List (ℤ × ℤ)) → List (ℤ × ℤ) → List Boo
 omitted [] deltas = []
 omitted (contour ∷ contours) deltas =
     contour_marks (moved_points contour (take (length contour) deltas))
-        ++ omitted contours (drop (length contour) deltas)
+    ++ omitted contours (drop (length contour) deltas)

@@ -1,6 +1,6 @@
 -- What the parts of the search compute.
-use Rattle.std.specs.Prelude.{ℕ, pos, ◌+◌, ◌-◌, ◌*ℤ◌, Bool, true, false, ◌&&◌, ◌==◌, nat_lt,
-    if◌then◌else◌, List, length, take, drop, slice_index_or}
+use Rattle.std.specs.Prelude.{ℕ, pos, ◌+◌, ◌-◌, ◌*ℤ◌, Bool, true, false, ◌&&◌, ◌==◌, nat_lt}
+use Rattle.std.specs.Prelude.{if◌then◌else◌, List, length, take, drop, slice_index_or}
 use Rattle.std.specs.List.{list_all}
 use Rattle.std.specs.Ordering.{int_eq}
 use Rattle.delta_infer.specs.declared.moved.MovedPoint.{MovedPoint}
@@ -13,7 +13,7 @@ abbrev pub is_between : MovedPoint → MovedPoint → MovedPoint → Bool
 is_between before after point =
     int_eq (inferred_between (move_in_x before) (move_in_x after) point.x) (pos 65536 *ℤ point.dx)
     && int_eq (inferred_between (move_in_y before) (move_in_y after) point.y)
-        (pos 65536 *ℤ point.dy)
+    (pos 65536 *ℤ point.dy)
 
 abbrev pub is_still : MovedPoint → Bool
 is_still point = int_eq (pos 0) (pos 65536 *ℤ point.dx) && int_eq (pos 0) (pos 65536 *ℤ point.dy)
@@ -38,13 +38,13 @@ point_before points start = if start == 0 then point_at points (length points - 
 abbrev pub run_fits : List MovedPoint → ℕ → ℕ → ℕ → Bool
 run_fits points first start at =
     if nat_lt at (length points - 1) then list_all
-        (is_between (point_before points start) (point_at points (at + 1))) (run_of points start at)
-        else (
+    (is_between (point_before points start) (point_at points (at + 1))) (run_of points start at)
+    else (
     if start == 0 then list_all is_still (run_of points start at) else (
     list_all (is_between (point_at points (start - 1)) (point_at points first))
-        (run_of points start at)
+    (run_of points start at)
     && list_all (is_between (point_at points (start - 1)) (point_at points first))
-        (take first points)))
+    (take first points)))
 
 -- the run goes on with a point that is left out. One that is named ends it, and is the first where
 -- none was before.

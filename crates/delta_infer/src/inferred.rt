@@ -2,8 +2,8 @@ ghost use Rattle.std.specs.Prelude.{◌≡◌, ◌≤◌, pos, ◌+ℤ◌, ◌-�
 ghost use Rattle.fixed_math.specs.FixedPoint.{floor_quotient};
 ghost use Rattle.std.specs.List.{list_all};
 ghost use Rattle.std.specs.Ordering.{int_eq};
-ghost use Rattle.delta_infer.specs.Inferred.{inferred_between, inferred_level, inferred_rising,
-    mean};
+ghost use Rattle.delta_infer.specs.Inferred.{inferred_between, inferred_level, inferred_rising};
+ghost use Rattle.delta_infer.specs.Inferred.{mean};
 ghost use Rattle.delta_infer.specs.Parts.{is_between, is_still};
 
 use crate::moved::{Move, MovedPoint};

@@ -1,5 +1,5 @@
-ghost use Rattle.std.specs.Prelude.{◌≡◌, ◌+◌, ◌<◌, ◌≤◌, ◌++◌, length, map, replicate, true, IfOk,
-    OnOk};
+ghost use Rattle.std.specs.Prelude.{◌≡◌, ◌+◌, ◌<◌, ◌≤◌, ◌++◌, length, map, replicate, true, IfOk};
+ghost use Rattle.std.specs.Prelude.{OnOk};
 ghost use Rattle.std.specs.List.{sum_by};
 ghost use Rattle.delta_infer.specs.Moved.{moved_points};
 ghost use Rattle.delta_infer.specs.Omitted.{contour_marks, omitted};
@@ -70,8 +70,8 @@ fn push_marks(
 /// Adds the marks of points that are all left out.
 #[tactic(auto, using(crate::proofs::Stills::filled))]
 fn push_all_left_out(marks: &mut Vec<bool>, points: &[MovedPoint]) -> Result<(), NoMemory>
-    ensures { OnOk result (marks.new.items ≡ marks.old.items ++ replicate (length points.now) true)
-        }
+    ensures { OnOk result (marks.new.items
+        ≡ marks.old.items ++ replicate (length points.now) true) }
 {
     let len = marks.len() + points.len();
     marks.resize(len, true)?;

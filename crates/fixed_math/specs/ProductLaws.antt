@@ -36,7 +36,7 @@ pub product_no_greater : (a b : ℤ) → pos 0 ≤ℤ a → pos 0 ≤ℤ b → b
 product_no_greater (pos a) (pos b) h k l =
     let small : b ≤ 65536 = omega (arith, ints) in
     let e : (pos a *ℤ pos b) ≤ℤ (pos a *ℤ pos 65536) = omega (arith, ints, mul-le-mul_left a small)
-        in
+    in
     let exact = half_up_exact (pos a) in
     let bound = half_up_monotone (pos a *ℤ pos b) (pos a *ℤ pos 65536) e in
     omega (arith, ints)

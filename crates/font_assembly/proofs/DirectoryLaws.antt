@@ -1,21 +1,24 @@
 -- A file's length, its checksum, and where its directory leads.
-use Rattle.std.proofs.Common.{◌≡◌, ℕ, ◌+◌, ◌-◌, ◌*◌, ◌%◌, ◌^◌, ◌<◌, IsTrue, List, [], ◌∷◌, ◌++◌,
-    length, take, drop, refl, sym, ap, ◌∙◌, arith, length-append, append_assoc}
+use Rattle.std.proofs.Common.{◌≡◌, ℕ, ◌+◌, ◌-◌, ◌*◌, ◌%◌, ◌^◌, ◌<◌, IsTrue, List, [], ◌∷◌, ◌++◌}
+use Rattle.std.proofs.Common.{length, take, drop, refl, sym, ap, ◌∙◌, arith, length-append}
+use Rattle.std.proofs.Common.{append_assoc}
 use Rattle.std.proofs.lemmas.List.Elements.{All-tail, All-cons}
 use Rattle.std.proofs.lemmas.Nat.{from_be_bytes-to_be_bytes_4}
 use Rattle.std.specs.List.{All, list_all}
 use Rattle.table_bytes.specs.DataTypes.{uint32}
 use Rattle.font_assembly.specs.Checksum.{total, checksum}
-use Rattle.font_assembly.specs.File.{Table, fits_head, unadjusted, room_of, room_of_all,
-    head_offset, directory_head, directory_entry, directory_entries, bodies, first_offset,
-    unadjusted_file, with_word, adjustment, file, file_len}
-use Rattle.font_assembly.specs.Directory.{AreTables, LeadsTo, bytes_at, uint32_at, tag_at,
-    checksum_at, offset_at, length_at}
+use Rattle.font_assembly.specs.File.{Table, fits_head, unadjusted, room_of, room_of_all}
+use Rattle.font_assembly.specs.File.{head_offset, directory_head, directory_entry}
+use Rattle.font_assembly.specs.File.{directory_entries, bodies, first_offset, unadjusted_file}
+use Rattle.font_assembly.specs.File.{with_word, adjustment, file, file_len}
+use Rattle.font_assembly.specs.Directory.{AreTables, LeadsTo, bytes_at, uint32_at, tag_at}
+use Rattle.font_assembly.specs.Directory.{checksum_at, offset_at, length_at}
 use Rattle.font_assembly.proofs.TotalLemmas.{total-append}
 use Rattle.font_assembly.proofs.FileLemmas.{length_unadjusted, total-cleared, and_first, and_second}
-use Rattle.font_assembly.proofs.DirectoryLemmas.{found, number_found, three_parts, first_part,
-    last_part, length_entries, entries-append, length_room, zeros_after, placed, placed_led,
-    adjusted}
+use Rattle.font_assembly.proofs.DirectoryLemmas.{found, number_found, three_parts, first_part}
+use Rattle.font_assembly.proofs.DirectoryLemmas.{last_part, length_entries, entries-append}
+use Rattle.font_assembly.proofs.DirectoryLemmas.{length_room, zeros_after, placed, placed_led}
+use Rattle.font_assembly.proofs.DirectoryLemmas.{adjusted}
 
 -- ---- lengths
 
@@ -46,9 +49,14 @@ directory ts = directory_head (length ts) ++ directory_entries ts (first_offset 
 
 length_directory : (ts : List Table) → All (λ table. length table.tag ≡ 4) ts
     → length (directory ts) ≡ first_offset ts
-length_directory ts tags = omega (arith, length-append (directory_head (length ts))
-    (directory_entries ts (first_offset ts)), length_head (length ts), length_entries ts
-    (first_offset ts) tags)
+length_directory ts tags = omega (
+  arith,
+  length-append (directory_head (length ts))
+      (directory_entries ts (first_offset ts)),
+  length_head (length ts),
+  length_entries ts
+      (first_offset ts) tags,
+)
 
 -- ---- the file in parts
 
@@ -67,14 +75,14 @@ word_set : (bytes front four back : List ℕ) (offset n : ℕ) → bytes ≡ fro
 word_set bytes front four back offset n e place long =
     let before : take offset bytes ≡ front =
     ap (take offset) (e ∙ append_assoc front four back)
-        ∙ first_part front (four ++ back) offset place
+    ∙ first_part front (four ++ back) offset place
     in
     let after : drop (offset + 4) bytes ≡ back =
     ap (drop (offset + 4)) e ∙ last_part (front ++ four) back (offset + 4)
-        (omega (arith, length-append front four, place, long))
+    (omega (arith, length-append front four, place, long))
     in
     ap (λ xs. xs ++ uint32 n ++ drop (offset + 4) bytes) before
-        ∙ ap (λ xs. front ++ uint32 n ++ xs) after
+    ∙ ap (λ xs. front ++ uint32 n ++ xs) after
 
 parts : (ts : List Table) → AreTables ts → Parts ts
 unfolding file unadjusted_file
@@ -89,7 +97,7 @@ parts ts are =
     in
     let with_number : file ts ≡ (directory ts ++ a.front) ++ uint32 n ++ a.back =
     word_set (unadjusted_file ts) (directory ts ++ a.front) zeros a.back
-        (head_offset ts (first_offset ts) + 8) n with_zeros (omega (arith, both, len, a.place)) refl
+    (head_offset ts (first_offset ts) + 8) n with_zeros (omega (arith, both, len, a.place)) refl
     in
     record {
       front = directory ts ++ a.front;
@@ -112,8 +120,17 @@ length_file ts are =
     let front_number = length-append p.front (uint32 n) in
     let front_zeros = length-append p.front zeros in
     let whole = length-append (directory ts) (bodies ts) in
-    omega (arith, with_number, with_zeros, front_number, front_zeros, whole, length_directory ts
-        are.tags, length_bodies ts are.head.1)
+    omega (
+      arith,
+      with_number,
+      with_zeros,
+      front_number,
+      front_zeros,
+      whole,
+      length_directory ts
+          are.tags,
+      length_bodies ts are.head.1,
+    )
 
 -- ---- the checksum
 
@@ -125,10 +142,10 @@ total_with : (front back : List ℕ) (n : ℕ) → length front % 4 ≡ 0 → n 
     → total (front ++ uint32 n ++ back) ≡ total front + n + total back
 total_with front back n fours small =
     let longer : length (front ++ uint32 n) % 4
-        ≡ 0 = omega (arith, length-append front (uint32 n), fours) in
+    ≡ 0 = omega (arith, length-append front (uint32 n), fours) in
     total-append (front ++ uint32 n) back longer
-        ∙ ap (λ s. s + total back) (total-append front (uint32 n) fours
-        ∙ ap (λ s. total front + s) (total_number n small))
+    ∙ ap (λ s. s + total back) (total-append front (uint32 n) fours
+    ∙ ap (λ s. total front + s) (total_number n small))
 
 adds_up : (front back whole n sum : ℕ) → whole ≡ front + back
     → n ≡ (0xB1B0AFBA + (2 ^ 32 - whole % 2 ^ 32)) % 2 ^ 32
@@ -168,7 +185,7 @@ tags_before [] t after tags = λ k d h. absurd (omega arith)
 tags_before (b ∷ before) t after tags =
     All-cons (λ (table : Table). length table.tag ≡ 4) b before (tags 0 b (omega arith))
     (tags_before before t after (All-tail (λ (table : Table). length table.tag ≡ 4) b
-        (before ++ t ∷ after) tags))
+    (before ++ t ∷ after) tags))
 
 tag_of : (before : List Table) (t : Table) (after : List Table)
     → All (λ table. length table.tag ≡ 4) (before ++ t ∷ after)
@@ -179,7 +196,7 @@ tag_of (b ∷ before) t after tags = tag_of before t after
 
 pub leads : (before : List Table) (t : Table) (after : List Table) → AreTables (before ++ t ∷ after)
     → file_len (before ++ t ∷ after) < 2 ^ 32
-        → LeadsTo (file (before ++ t ∷ after)) (length before) t
+    → LeadsTo (file (before ++ t ∷ after)) (length before) t
 unfolding directory_entry
 leads before t after are fits =
     let ts = before ++ t ∷ after in
@@ -204,45 +221,48 @@ leads before t after are fits =
     let hdtc = length-append (h ++ d ++ t.tag) (uint32 sum) in
     let hdtco = length-append (h ++ d ++ t.tag ++ uint32 sum) (uint32 offset) in
     let whole : file ts ≡ (h ++ (d ++ (t.tag ++ uint32 sum ++ uint32 offset ++ uint32 count) ++ e))
-        ++ tables =
+    ++ tables =
     p.tables ∙ ap (λ entries. (h ++ entries) ++ tables) (entries-append before t after start)
     in
     let tag_is : tag_at (file ts) k ≡ t.tag =
     ap (λ f. bytes_at f (12 + 16 * k) 4) (whole
-        ∙ tag_part h d t.tag (uint32 sum) (uint32 offset) (uint32 count) e tables)
+    ∙ tag_part h d t.tag (uint32 sum) (uint32 offset) (uint32 count) e tables)
     ∙ found (h ++ d) t.tag (uint32 sum ++ uint32 offset ++ uint32 count ++ e ++ tables)
-        (12 + 16 * k) 4 (omega (arith, twelve, sixteens, hd)) (sym four) in
+    (12 + 16 * k) 4 (omega (arith, twelve, sixteens, hd)) (sym four) in
     let sum_is : checksum_at (file ts) k ≡ sum =
     ap (λ f. uint32_at f (16 + 16 * k)) (whole
-        ∙ checksum_part h d t.tag (uint32 sum) (uint32 offset) (uint32 count) e tables)
+    ∙ checksum_part h d t.tag (uint32 sum) (uint32 offset) (uint32 count) e tables)
     ∙ number_found (h ++ d ++ t.tag) (uint32 offset ++ uint32 count ++ e ++ tables) (16 + 16 * k)
-        sum (omega (arith, twelve, sixteens, hd, hdt, four)) (omega arith) in
+    sum (omega (arith, twelve, sixteens, hd, hdt, four)) (omega arith) in
     let offset_is : offset_at (file ts) k ≡ offset =
     ap (λ f. uint32_at f (20 + 16 * k)) (whole
-        ∙ offset_part h d t.tag (uint32 sum) (uint32 offset) (uint32 count) e tables)
+    ∙ offset_part h d t.tag (uint32 sum) (uint32 offset) (uint32 count) e tables)
     ∙ number_found (h ++ d ++ t.tag ++ uint32 sum) (uint32 count ++ e ++ tables) (20 + 16 * k)
-        offset (omega (arith, twelve, sixteens, hd, hdt, hdtc, four)) (omega (arith, rooms, fits))
-        in
+    offset (omega (arith, twelve, sixteens, hd, hdt, hdtc, four)) (omega (arith, rooms, fits))
+    in
     let count_is : length_at (file ts) k ≡ count =
     ap (λ f. uint32_at f (24 + 16 * k)) (whole
-        ∙ length_part h d t.tag (uint32 sum) (uint32 offset) (uint32 count) e tables)
+    ∙ length_part h d t.tag (uint32 sum) (uint32 offset) (uint32 count) e tables)
     ∙ number_found (h ++ d ++ t.tag ++ uint32 sum ++ uint32 offset) (e ++ tables) (24 + 16 * k)
-        count (omega (arith, twelve, sixteens, hd, hdt, hdtc, hdtco, four))
-        (omega (arith, rooms, fits)) in
+    count (omega (arith, twelve, sixteens, hd, hdt, hdtc, hdtco, four))
+    (omega (arith, rooms, fits)) in
     let led = placed_led n before t after are.head.1 in
     let len = length_directory ts are.tags in
     let both = length-append (directory ts) led.front in
     let body_is : bytes_at (file ts) offset count ≡ led.body =
     ap (λ f. bytes_at f offset count) (p.tables ∙ ap (λ w. directory ts ++ w) led.parts
-        ∙ three_parts (directory ts) led.front led.body led.back)
+    ∙ three_parts (directory ts) led.front led.body led.back)
     ∙ found (directory ts ++ led.front) led.body led.back offset count
-        (omega (arith, both, len, led.before)) (sym led.long) in
+    (omega (arith, both, len, led.before)) (sym led.long) in
     record {
       tag = tag_is;
       sum = sum_is;
       aligned = ap (λ o. o % 4) offset_is ∙ omega (arith, fours);
       len = count_is;
-      bytes = (λ i. unadjusted (record { tag = tag_is i; bytes
-          = bytes_at (file ts) (offset_is i) (count_is i) }))
+      bytes = (λ i. unadjusted (record {
+        tag = tag_is i;
+        bytes
+            = bytes_at (file ts) (offset_is i) (count_is i);
+      }))
           ∙ ap (λ bytes. unadjusted (record { tag = t.tag; bytes = bytes })) body_is ∙ led.same;
     }

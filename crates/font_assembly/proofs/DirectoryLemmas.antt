@@ -1,7 +1,7 @@
 -- The parts of a file, and where they stand in it.
-use Rattle.std.proofs.Common.{◌≡◌, ℕ, ◌+◌, ◌*◌, ◌%◌, ◌^◌, ◌<◌, ◌≤◌, Bool, true, false, ⊎_elim,
-    IsTrue, List, [], ◌∷◌, ◌++◌, length, replicate, take, drop, refl, ap, ◌∙◌, arith, length-append,
-    length-drop, append_assoc}
+use Rattle.std.proofs.Common.{◌≡◌, ℕ, ◌+◌, ◌*◌, ◌%◌, ◌^◌, ◌<◌, ◌≤◌, Bool, true, false, ⊎_elim}
+use Rattle.std.proofs.Common.{IsTrue, List, [], ◌∷◌, ◌++◌, length, replicate, take, drop, refl, ap}
+use Rattle.std.proofs.Common.{◌∙◌, arith, length-append, length-drop, append_assoc}
 use Rattle.std.proofs.lemmas.List.{length-take, length-replicate}
 use Rattle.std.proofs.Math.Seq.{take-append_seam, drop-append_seam}
 use Rattle.std.proofs.lemmas.List.Elements.{All-tail}
@@ -11,8 +11,8 @@ use Rattle.std.specs.Prelude.{if◌then◌else◌}
 use Rattle.std.specs.Int.{w32, from_be_bytes}
 use Rattle.std.specs.List.{All, list_any, list_all}
 use Rattle.table_bytes.specs.DataTypes.{uint32, padding}
-use Rattle.font_assembly.specs.File.{Table, is_head, fits_head, unadjusted, room_of, room_of_all,
-    head_offset, directory_entry, directory_entries, bodies}
+use Rattle.font_assembly.specs.File.{Table, is_head, fits_head, unadjusted, room_of, room_of_all}
+use Rattle.font_assembly.specs.File.{head_offset, directory_entry, directory_entries, bodies}
 use Rattle.font_assembly.specs.Directory.{bytes_at, uint32_at}
 use Rattle.font_assembly.proofs.FileLemmas.{head_has_54, length_unadjusted, and_first, and_second}
 
@@ -23,8 +23,13 @@ pub found : (before part after : List ℕ) (place count : ℕ) → place ≡ len
     → count ≡ length part
     → bytes_at (before ++ part ++ after) place count ≡ part
 found before part after place count p c =
-    rw (append_assoc before part after, p, c, drop-append_seam before (part ++ after),
-        take-append_seam part after) refl
+    rw (
+      append_assoc before part after,
+      p,
+      c,
+      drop-append_seam before (part ++ after),
+      take-append_seam part after,
+    ) refl
 
 pub three_parts : (a b c d : List ℕ) → a ++ (b ++ c ++ d) ≡ (a ++ b) ++ c ++ d
 three_parts a b c d = simp append_assoc
@@ -36,7 +41,7 @@ pub number_found : (before after : List ℕ) (place n : ℕ) → place ≡ lengt
     → uint32_at (before ++ uint32 n ++ after) place ≡ n
 number_found before after place n p small =
     ap (from_be_bytes w32) (found before (uint32 n) after place 4 p refl)
-        ∙ from_be_bytes-to_be_bytes_4 n small
+    ∙ from_be_bytes-to_be_bytes_4 n small
 
 -- ---- the directory
 
@@ -47,26 +52,26 @@ length_entries [] offset tags = refl
 length_entries (t ∷ ts) offset tags =
     let four : length t.tag ≡ 4 = tags 0 t (omega arith) in
     let rest = length_entries ts (offset + room_of t)
-        (All-tail (λ (table : Table). length table.tag ≡ 4) t ts tags) in
+    (All-tail (λ (table : Table). length table.tag ≡ 4) t ts tags) in
     simp length-append (omega (arith, four, rest))
 
 pub entries-append : (before : List Table) (t : Table) (after : List Table) (offset : ℕ)
     → directory_entries (before ++ t ∷ after) offset
-        ≡ directory_entries before offset ++ directory_entry t (offset + room_of_all before)
-        ++ directory_entries after (offset + room_of_all before + room_of t)
+    ≡ directory_entries before offset ++ directory_entry t (offset + room_of_all before)
+    ++ directory_entries after (offset + room_of_all before + room_of t)
 entries-append [] t after offset =
     let same : offset ≡ offset + 0 = omega arith in
     ap (λ o. directory_entry t o ++ directory_entries after (o + room_of t)) same
 entries-append (b ∷ before) t after offset =
     let same : offset + room_of b + room_of_all before
-        ≡ offset + (room_of b + room_of_all before) = omega arith in
+    ≡ offset + (room_of b + room_of_all before) = omega arith in
     ap (λ rest. directory_entry b offset ++ rest)
-        (entries-append before t after (offset + room_of b))
+    (entries-append before t after (offset + room_of b))
     ∙ three_parts (directory_entry b offset) (directory_entries before (offset + room_of b))
-        (directory_entry t (offset + room_of b + room_of_all before))
-        (directory_entries after (offset + room_of b + room_of_all before + room_of t))
+    (directory_entry t (offset + room_of b + room_of_all before))
+    (directory_entries after (offset + room_of b + room_of_all before + room_of t))
     ∙ ap (λ o. (directory_entry b offset ++ directory_entries before (offset + room_of b))
-        ++ directory_entry t o ++ directory_entries after (o + room_of t)) same
+    ++ directory_entry t o ++ directory_entries after (o + room_of t)) same
 
 -- ---- the tables
 
@@ -99,15 +104,15 @@ cleared : (bytes four : List ℕ) → 12 ≤ length bytes → length four ≡ 4
 cleared bytes four long e =
     let eight : 8 ≡ length (take 8 bytes) = omega (arith, length-take 8 bytes) in
     let twelve : 12 ≡ length (take 8 bytes ++ four)
-        = omega (arith, length-take 8 bytes, length-append (take 8 bytes) four) in
+    = omega (arith, length-take 8 bytes, length-append (take 8 bytes) four) in
     let front : take 8 (with_four bytes four) ≡ take 8 bytes =
     ap (take 8) (append_assoc (take 8 bytes) four (drop 12 bytes))
-        ∙ first_part (take 8 bytes) (four ++ drop 12 bytes) 8 eight
+    ∙ first_part (take 8 bytes) (four ++ drop 12 bytes) 8 eight
     in
     let back : drop 12 (with_four bytes four)
-        ≡ drop 12 bytes = last_part (take 8 bytes ++ four) (drop 12 bytes) 12 twelve in
+    ≡ drop 12 bytes = last_part (take 8 bytes ++ four) (drop 12 bytes) 12 twelve in
     ap (λ xs. xs ++ (0 ∷ 0 ∷ 0 ∷ 0 ∷ []) ++ drop 12 (with_four bytes four)) front
-        ∙ ap (λ xs. take 8 bytes ++ (0 ∷ 0 ∷ 0 ∷ 0 ∷ []) ++ xs) back
+    ∙ ap (λ xs. take 8 bytes ++ (0 ∷ 0 ∷ 0 ∷ 0 ∷ []) ++ xs) back
 
 -- whatever the four bytes of checksumAdjustment are, they don't count
 unadjusted_with : (t : Table) (four : List ℕ) → is_head t ≡ true → IsTrue (fits_head t)
@@ -122,7 +127,7 @@ unadjusted_twice : (t : Table) → IsTrue (fits_head t)
 unadjusted_twice t long =
     ⊎_elim
     (λ (it : is_head t ≡ true). let fifty_four : length t.bytes ≡ 54 = head_has_54 t it long
-        in rw it (cleared t.bytes (0 ∷ 0 ∷ 0 ∷ 0 ∷ []) (omega arith) refl))
+    in rw it (cleared t.bytes (0 ∷ 0 ∷ 0 ∷ 0 ∷ []) (omega arith) refl))
     (λ (other : is_head t ≡ false). rw other refl)
     (cases_Bool (is_head t))
 
@@ -170,10 +175,10 @@ bodies_led [] t after fit = record {
 bodies_led (b ∷ before) t after fit =
     let fits = and_first (fits_head b) (list_all fits_head (before ++ t ∷ after)) fit in
     behind (unadjusted b ++ zeros_after b) (bodies (before ++ t ∷ after)) t (room_of b)
-        (room_of_all before)
+    (room_of_all before)
     (length_room b (unadjusted b) (length_unadjusted b fits) fits)
     (bodies_led before t after (and_second (fits_head b) (list_all fits_head (before ++ t ∷ after))
-        fit))
+    fit))
 
 long_head : (t : Table) (n : ℕ) → is_head t ≡ true → IsTrue (fits_head t)
     → length (with_four t.bytes (uint32 n)) ≡ length t.bytes
@@ -205,7 +210,7 @@ moved xs ys t room e led = record {
 
 pub placed_led : (n : ℕ) (before : List Table) (t : Table) (after : List Table)
     → IsTrue (list_all fits_head (before ++ t ∷ after))
-        → Led (placed n (before ++ t ∷ after)) t (room_of_all before)
+    → Led (placed n (before ++ t ∷ after)) t (room_of_all before)
 placed_led n [] t after fit =
     let fits = and_first (fits_head t) (list_all fits_head after) fit in
     ⊎_elim
@@ -236,20 +241,20 @@ placed_led n (b ∷ before) t after fit =
     ⊎_elim
     (λ (it : is_head b ≡ true).
     moved (placed n (b ∷ before ++ t ∷ after))
-        ((with_four b.bytes (uint32 n) ++ zeros_after b) ++ bodies (before ++ t ∷ after)) t
-        (room_of b + room_of_all before) (placed_head n b (before ++ t ∷ after) it)
+    ((with_four b.bytes (uint32 n) ++ zeros_after b) ++ bodies (before ++ t ∷ after)) t
+    (room_of b + room_of_all before) (placed_head n b (before ++ t ∷ after) it)
     (behind (with_four b.bytes (uint32 n) ++ zeros_after b) (bodies (before ++ t ∷ after)) t
-        (room_of b) (room_of_all before)
+    (room_of b) (room_of_all before)
     (length_room b (with_four b.bytes (uint32 n)) (long_head b n it fits) fits)
-        (bodies_led before t after others)))
+    (bodies_led before t after others)))
     (λ (other : is_head b ≡ false).
     moved (placed n (b ∷ before ++ t ∷ after))
-        ((unadjusted b ++ zeros_after b) ++ placed n (before ++ t ∷ after)) t
-        (room_of b + room_of_all before) (placed_other n b (before ++ t ∷ after) other)
+    ((unadjusted b ++ zeros_after b) ++ placed n (before ++ t ∷ after)) t
+    (room_of b + room_of_all before) (placed_other n b (before ++ t ∷ after) other)
     (behind (unadjusted b ++ zeros_after b) (placed n (before ++ t ∷ after)) t (room_of b)
-        (room_of_all before)
+    (room_of_all before)
     (length_room b (unadjusted b) (length_unadjusted b fits) fits)
-        (placed_led n before t after others)))
+    (placed_led n before t after others)))
     (cases_Bool (is_head b))
 
 -- ---- checksumAdjustment
@@ -274,8 +279,8 @@ adjusted n offset (t ∷ ts) there fit =
     let fifty_four : length t.bytes ≡ 54 = head_has_54 t it fits in
     let eight : length (take 8 t.bytes) ≡ 8 = omega (arith, length-take 8 t.bytes) in
     let here : head_offset (t ∷ ts) offset
-        ≡ offset = ap (λ (b : Bool). if b then offset else head_offset ts (offset + room_of t)) it
-        in
+    ≡ offset = ap (λ (b : Bool). if b then offset else head_offset ts (offset + room_of t)) it
+    in
     let bytes : unadjusted t ≡ with_four t.bytes (0 ∷ 0 ∷ 0 ∷ 0 ∷ []) =
     ap (λ (b : Bool). if b then with_four t.bytes (0 ∷ 0 ∷ 0 ∷ 0 ∷ []) else t.bytes) it
     in
@@ -293,7 +298,7 @@ adjusted n offset (t ∷ ts) there fit =
     (λ (other : is_head t ≡ false).
     let more : IsTrue (list_any is_head ts) = rw other at there in
     let rest = adjusted n (offset + room_of t) ts more
-        (and_second (fits_head t) (list_all fits_head ts) fit) in
+    (and_second (fits_head t) (list_all fits_head ts) fit) in
     let later : head_offset (t ∷ ts) offset ≡ head_offset ts (offset + room_of t) =
     ap (λ (b : Bool). if b then offset else head_offset ts (offset + room_of t)) other
     in

@@ -1,7 +1,8 @@
 -- What the parts of a file's definition say of tables, one at a time.
-use Rattle.std.proofs.Common.{◌≡◌, ℕ, zero, suc, ◌+◌, ◌-◌, ◌*◌, ◌%◌, ◌^◌, ◌<◌, ◌≤◌, Bool, true,
-    false, cond, not, ◌||◌, ◌&&◌, lit<, ⊎_elim, IsTrue, nat_eq, List, [], ◌∷◌, ◌++◌, length, take,
-    drop, refl, ◌∙◌, arith, length-append, length-drop}
+use Rattle.std.proofs.Common.{◌≡◌, ℕ, zero, suc, ◌+◌, ◌-◌, ◌*◌, ◌%◌, ◌^◌, ◌<◌, ◌≤◌, Bool, true}
+use Rattle.std.proofs.Common.{false, cond, not, ◌||◌, ◌&&◌, lit<, ⊎_elim, IsTrue, nat_eq, List, []}
+use Rattle.std.proofs.Common.{◌∷◌, ◌++◌, length, take, drop, refl, ◌∙◌, arith, length-append}
+use Rattle.std.proofs.Common.{length-drop}
 use Rattle.std.proofs.lemmas.List.{length-take, take_all}
 use Rattle.std.specs.List.{list_any, list_all}
 use Rattle.std.proofs.lemmas.Bool.Decides.{nat_tests}
@@ -9,8 +10,8 @@ use Rattle.std.proofs.lemmas.Bool.{cases_lt}
 use Rattle.std.proofs.Math.Nat.{pow-le-pow_right, pow-suc}
 use Rattle.table_bytes.specs.DataTypes.{padding}
 use Rattle.font_assembly.specs.Checksum.{total, checksum}
-use Rattle.font_assembly.specs.File.{Table, greatest_power, is_head, fits_head, unadjusted, room_of,
-    room_of_all, head_offset}
+use Rattle.font_assembly.specs.File.{Table, greatest_power, is_head, fits_head, unadjusted, room_of}
+use Rattle.font_assembly.specs.File.{room_of_all, head_offset}
 use Rattle.font_assembly.proofs.TotalLemmas.{total-append}
 
 -- ---- the directory's head
@@ -31,7 +32,7 @@ greatest_power-is zero n r low high small = omega arith
 greatest_power-is (suc k) n r low high small =
     ⊎_elim
     (λ (less : r < suc k). power_is_less k n (omega (arith, doubles r k (omega arith)))
-        ∙ greatest_power-is k n r low high (omega arith))
+    ∙ greatest_power-is k n r low high (omega arith))
     (λ (most : suc k ≤ r).
     let same : suc k ≡ r = omega arith in
     power_fits k n (rw same low) ∙ same)
@@ -42,7 +43,7 @@ selector-fits n r low few =
     ⊎_elim
     (λ (less : r < 16). omega arith)
     (λ (most : 16 ≤ r). let large : 2 ^ 16 ≤ 2 ^ r = pow-le-pow_right (lit< tt) most
-        in absurd (omega arith))
+    in absurd (omega arith))
     (cases_lt r 16)
 
 -- ---- 'head'
@@ -73,9 +74,13 @@ pub total-cleared : (front back : List ℕ) → length front % 4 ≡ 0
     → total (front ++ (0 ∷ 0 ∷ 0 ∷ 0 ∷ []) ++ back) ≡ total front + total back
 total-cleared front back e =
     let four : length (front ++ (0 ∷ 0 ∷ 0 ∷ 0 ∷ [])) % 4
-        ≡ 0 = omega (arith, length-append front (0 ∷ 0 ∷ 0 ∷ 0 ∷ [])) in
-    rw (total-append (front ++ (0 ∷ 0 ∷ 0 ∷ 0 ∷ [])) back four, total-append front
-        (0 ∷ 0 ∷ 0 ∷ 0 ∷ []) e, total-zeros) (omega arith)
+    ≡ 0 = omega (arith, length-append front (0 ∷ 0 ∷ 0 ∷ 0 ∷ [])) in
+    rw (
+      total-append (front ++ (0 ∷ 0 ∷ 0 ∷ 0 ∷ [])) back four,
+      total-append front
+          (0 ∷ 0 ∷ 0 ∷ 0 ∷ []) e,
+      total-zeros,
+    ) (omega arith)
 
 pub checksum-cleared : (bytes : List ℕ) → 12 ≤ length bytes
     → (checksum (take 8 bytes) + checksum (drop 12 bytes)) % 2 ^ 32
@@ -105,10 +110,10 @@ pub head_offset_fits : (ts : List Table) (offset : ℕ) → IsTrue (list_any is_
 head_offset_fits [] offset there long = cc
 head_offset_fits (t ∷ ts) offset there long =
     head_step (is_head t) (list_any is_head ts) (length t.bytes) offset (room_of_all ts)
-        (head_offset ts (offset + room_of t))
+    (head_offset ts (offset + room_of t))
     (and_first (fits_head t) (list_all fits_head ts) long) there
     (λ more. head_offset_fits ts (offset + room_of t) more
-        (and_second (fits_head t) (list_all fits_head ts) long))
+    (and_second (fits_head t) (list_all fits_head ts) long))
 
 -- ---- the table 'head'
 
@@ -119,6 +124,6 @@ pub checksum-head : (t : Table) (bytes : List ℕ) (front back : ℕ) → bytes 
 checksum-head t bytes front back same is_it long front_is back_is =
     let fifty_four : length bytes ≡ 54 = rw same (head_has_54 t is_it long) in
     let all : take (length bytes - 12) (drop 12 bytes)
-        ≡ drop 12 bytes = take_all (length bytes - 12) (drop 12 bytes)
-        (omega (arith, length-drop 12 bytes)) in
+    ≡ drop 12 bytes = take_all (length bytes - 12) (drop 12 bytes)
+    (omega (arith, length-drop 12 bytes)) in
     rw (front_is, back_is, all, is_it, ← same) (checksum-cleared bytes (omega arith))

@@ -1,6 +1,7 @@
 -- The sum of the 32-bit numbers of bytes, part by part.
-use Rattle.std.proofs.Common.{◌≡◌, ℕ, suc, ◌+◌, ◌-◌, ◌%◌, ◌^◌, ◌<◌, ◌≤◌, List, [], ◌∷◌, ◌++◌,
-    length, replicate, take, drop, refl, ap, arith, length-append, append_assoc}
+use Rattle.std.proofs.Common.{◌≡◌, ℕ, suc, ◌+◌, ◌-◌, ◌%◌, ◌^◌, ◌<◌, ◌≤◌, List, [], ◌∷◌, ◌++◌}
+use Rattle.std.proofs.Common.{length, replicate, take, drop, refl, ap, arith, length-append}
+use Rattle.std.proofs.Common.{append_assoc}
 use Rattle.std.proofs.Math.Seq.{take-length}
 use Rattle.std.specs.Int.{w32, from_be_bytes}
 use Rattle.std.proofs.lemmas.List.{append-nil}
@@ -24,7 +25,7 @@ pub total-four : (a b c d : ℕ) (rest : List ℕ)
 unfolding total
 total-four a b c d rest =
     rw (padding-four (length rest)) (sum_by-cons (λ x. x) (from_be_bytes w32 (a ∷ b ∷ c ∷ d ∷ []))
-        (words (padded rest)))
+    (words (padded rest)))
 
 pub words-append : (xs ys : List ℕ) → length xs % 4 ≡ 0 → words (xs ++ ys) ≡ words xs ++ words ys
 words-append [] ys e = refl
@@ -64,7 +65,7 @@ total-step s x m (a ∷ b ∷ c ∷ d ∷ rest) h e i =
     let same : length (a ∷ b ∷ c ∷ d ∷ rest) - 4 ≡ length rest = omega arith in
     let number : x ≡ from_be_bytes w32 (a ∷ b ∷ c ∷ d ∷ []) = omega arith in
     rw (same, take-length rest) (wraps s x (total rest) m
-        (rw (number, ← total-four a b c d rest) i))
+    (rw (number, ← total-four a b c d rest) i))
 
 -- the number of fewer than four bytes and zeros
 pub total-last : (bytes : List ℕ) → length bytes < 4

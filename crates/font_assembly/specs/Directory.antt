@@ -34,8 +34,11 @@ length_at file k = uint32_at file (24 + 16 * k)
 
 -- the table to which the k-th record leads: so many bytes as its length says, from its offset on
 abbrev pub table_at : List ℕ → ℕ → Table
-table_at file k = record { tag = tag_at file k; bytes
-    = bytes_at file (offset_at file k) (length_at file k) }
+table_at file k = record {
+  tag = tag_at file k;
+  bytes
+      = bytes_at file (offset_at file k) (length_at file k);
+}
 
 -- The k-th record leads to a table, at a multiple of four, and has its checksum. Of 'head' all but
 -- the checksumAdjustment is the same there.

@@ -1,8 +1,9 @@
 -- A font file: its directory, and its tables one after another (OpenType 1.9, "Organization of an
 -- OpenType Font" and "head"). It is stated over the whole file: the file with 0 as its
 -- checksumAdjustment, whose checksum gives the checksumAdjustment that stands in its place.
-use Rattle.std.specs.Prelude.{◌≡◌, ℕ, zero, suc, ◌+◌, ◌-◌, ◌*◌, ◌%◌, ◌^◌, Bool, nat_eq, nat_le, not,
-    ◌||◌, if◌then◌else◌, IsTrue, List, [], ◌∷◌, ◌++◌, length, take, drop, codes}
+use Rattle.std.specs.Prelude.{◌≡◌, ℕ, zero, suc, ◌+◌, ◌-◌, ◌*◌, ◌%◌, ◌^◌, Bool, nat_eq, nat_le, not}
+use Rattle.std.specs.Prelude.{◌||◌, if◌then◌else◌, IsTrue, List, [], ◌∷◌, ◌++◌, length, take, drop}
+use Rattle.std.specs.Prelude.{codes}
 use Rattle.std.specs.List.{flat_map, list_any, list_all}
 use Rattle.std.specs.Cmp.Lexicographic.{pointwise, slice_cmp}
 use Rattle.std.specs.Ordering.{nat_cmp}
@@ -96,7 +97,7 @@ with_word bytes offset n = take offset bytes ++ uint32 n ++ drop (offset + 4) by
 unfoldable pub file : List Table → List ℕ
 file ts =
     with_word (unadjusted_file ts) (head_offset ts (first_offset ts) + 8)
-        (adjustment (unadjusted_file ts))
+    (adjustment (unadjusted_file ts))
 
 abbrev pub file_len : List Table → ℕ
 file_len ts = first_offset ts + room_of_all ts

@@ -1,10 +1,10 @@
 -- The place of a name in a list that a set keeps.
-use Rattle.std.proofs.Common.{◌≡◌, ℕ, suc, ◌+◌, Bool, true, false, cond, not, ◌||◌, ◌&&◌, List, [],
-    ◌∷◌, ◌++◌, ◌≤◌, length, map, is_some, Option, Some, None, ltb, refl, ap, sym, ◌∙◌, subst,
-    arith}
+use Rattle.std.proofs.Common.{◌≡◌, ℕ, suc, ◌+◌, Bool, true, false, cond, not, ◌||◌, ◌&&◌, List, []}
+use Rattle.std.proofs.Common.{◌∷◌, ◌++◌, ◌≤◌, length, map, is_some, Option, Some, None, ltb, refl}
+use Rattle.std.proofs.Common.{ap, sym, ◌∙◌, subst, arith}
 use Rattle.std.specs.Prelude.{if◌then◌else◌}
-use Rattle.std.specs.List.{All, position, position_or_len, prefix_len, list_any, IsDistinct,
-    AllByRecursion}
+use Rattle.std.specs.List.{All, position, position_or_len, prefix_len, list_any, IsDistinct}
+use Rattle.std.specs.List.{AllByRecursion}
 use Rattle.std.specs.Cmp.Lexicographic.{pointwise}
 use Rattle.std.proofs.lemmas.Bool.Decides.{nat_tests}
 use Rattle.std.proofs.lemmas.List.{length-map, map-append}
@@ -62,8 +62,10 @@ pub IsDistinct-map : {A B : Type 0} (e : B → B → Bool) (f : A → B) (xs : L
     → IsDistinct (λ a b. e (f a) (f b)) xs → IsDistinct e (map f xs)
 unfolding IsDistinct
 IsDistinct-map e f [] h = tt
-IsDistinct-map e f (x ∷ xs) h = (AllByRecursion-map (λ y. e (f x) y ≡ false) f xs h.0,
-    IsDistinct-map e f xs h.1)
+IsDistinct-map e f (x ∷ xs) h = (
+  AllByRecursion-map (λ y. e (f x) y ≡ false) f xs h.0,
+  IsDistinct-map e f xs h.1,
+)
 
 -- to compare by f is to compare what f makes
 pub pointwise-map : {A B : Type 0} (e : B → B → Bool) (f : A → B) (xs ys : List A)

@@ -1,11 +1,11 @@
 -- A made `.notdef` is a flat glyph.
-use Rattle.std.proofs.Common.{◌≡◌, ◌≢◌, ℕ, zero, suc, ◌<◌, ◌≤◌, ◌/◌, ℤ, pos, ◌≤ℤ◌, Bool, false,
-    int_lt, if◌then◌else◌, List, [], ◌∷◌, length, map, get_or, replicate, refl, sym, ap, ◌∙◌, subst,
-    arith}
+use Rattle.std.proofs.Common.{◌≡◌, ◌≢◌, ℕ, zero, suc, ◌<◌, ◌≤◌, ◌/◌, ℤ, pos, ◌≤ℤ◌, Bool, false}
+use Rattle.std.proofs.Common.{int_lt, if◌then◌else◌, List, [], ◌∷◌, length, map, get_or, replicate}
+use Rattle.std.proofs.Common.{refl, sym, ap, ◌∙◌, subst, arith}
 use Rattle.std.proofs.lemmas.Int.{ints}
 use Rattle.std.proofs.lemmas.List.{length-map, get_or-map}
-use Rattle.std.proofs.lemmas.List.Elements.{All-map, All-head, All-tail, All-from_recursion,
-    Contains-get_or}
+use Rattle.std.proofs.lemmas.List.Elements.{All-map, All-head, All-tail, All-from_recursion}
+use Rattle.std.proofs.lemmas.List.Elements.{Contains-get_or}
 use Rattle.std.specs.List.{All, Contains}
 use Rattle.fixed_math.specs.declared.F2Dot14.{F2Dot14}
 use Rattle.fixed_math.specs.declared.Fixed.{Fixed}
@@ -45,10 +45,10 @@ default_at_zero masters origin axis d within =
     let v = coordinate_on Design axis (get_or masters origin d) in
     let number : Fixed → ℤ = λ x. x.0 in
     let is : default_on Design origin axis masters
-        ≡ v.0 = ap number (get_or-map (coordinate_on Design axis) masters origin d
-        (record { 0 = pos 0 }) within) in
+    ≡ v.0 = ap number (get_or-map (coordinate_on Design axis) masters origin d
+    (record { 0 = pos 0 }) within) in
     normalised-default v.0 (least (coordinates_on Design axis masters))
-        (default_on Design origin axis masters) (greatest (coordinates_on Design axis masters)) is
+    (default_on Design origin axis masters) (greatest (coordinates_on Design axis masters)) is
 
 -- what is read within a list doesn't depend on what stands for the rest
 at_any_default : (xs : List F2Dot14) (k : ℕ) (c : F2Dot14) → k < length xs
@@ -63,7 +63,7 @@ zeros_are [] h = refl
 zeros_are (x ∷ xs) h =
     let made : ℤ → F2Dot14 = λ z. record { 0 = z } in
     ap (λ y. y ∷ xs) (ap made (All-head IsZero x xs h))
-        ∙ ap (λ ys. zero_number ∷ ys) (zeros_are xs (All-tail IsZero x xs h))
+    ∙ ap (λ ys. zero_number ∷ ys) (zeros_are xs (All-tail IsZero x xs h))
 
 -- one of the masters' places is the origin
 origin_there : (h : Header) → IsHeader h
@@ -76,23 +76,23 @@ origin_there h is = by h.masters refl
         in omega (arith, within, none))
     by (d ∷ others) e =
         let within : h.origin < length (map location_of h.masters)
-            = omega (arith, is.origin, length-map h.masters location_of) in
+        = omega (arith, is.origin, length-map h.masters location_of) in
         let member = Contains-get_or (map location_of h.masters) h.origin [] within in
         let master : Master = get_or h.masters h.origin d in
         let at : get_or (map location_of h.masters) h.origin []
-            ≡ master.location = get_or-map location_of h.masters h.origin d [] is.origin in
+        ≡ master.location = get_or-map location_of h.masters h.origin d [] is.origin in
         let long : length master.location ≡ length h.axes
-            = (is.masters h.origin d is.origin).location in
+        = (is.masters h.origin d is.origin).location in
         let zeros : All IsZero master.location = λ k c inside.
         let there : k < length h.axes = omega (arith, inside, long) in
         let lies : location_at k master ≡ normal_on Design h.origin k h.masters master
-            = is.locations k there h.origin d is.origin in
+        = is.locations k there h.origin d is.origin in
         let at_zero : (location_at k master).0 ≡ pos 0 = ap (λ (x : F2Dot14). x.0) lies
-            ∙ default_at_zero h.masters h.origin k d is.origin in
+        ∙ default_at_zero h.masters h.origin k d is.origin in
         at_any_default master.location k c inside at_zero in
         let same : get_or (map location_of h.masters) h.origin []
-            ≡ replicate (length h.axes) zero_number = at ∙ zeros_are master.location zeros
-            ∙ ap (λ n. replicate n zero_number) long in
+        ≡ replicate (length h.axes) zero_number = at ∙ zeros_are master.location zeros
+        ∙ ap (λ n. replicate n zero_number) long in
         subst (Contains (map location_of h.masters)) same member
 
 pub made_notdef_flat : (h : Header) → IsHeader h → IsFlatGlyph (made_notdef_of h)

@@ -1,8 +1,8 @@
 -- The pairs of an axis in the table avar (OpenType 1.9, "avar"): from a normalised user coordinate
 -- to the normalised design coordinate. They are a set of which the table holds the rising list,
 -- where there is one. Which pairs they are is fontc's own.
-use Rattle.std.specs.Prelude.{◌≡◌, ℕ, List, [], ◌∷◌, ◌++◌, map, ℤ, pos, negsuc, ◌<ℤ◌, Contains,
-    AllPairs, ◌↔◌}
+use Rattle.std.specs.Prelude.{◌≡◌, ℕ, List, [], ◌∷◌, ◌++◌, map, ℤ, pos, negsuc, ◌<ℤ◌, Contains}
+use Rattle.std.specs.Prelude.{AllPairs, ◌↔◌}
 use Rattle.fixed_math.specs.declared.F2Dot14.{F2Dot14}
 use Rattle.font_ir.specs.declared.header.Master.{Master}
 use Rattle.font_ir.specs.declared.header.CoordinateScale.TheVariants.{Design, User}

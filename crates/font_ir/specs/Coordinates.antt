@@ -39,5 +39,7 @@ coordinates_on scale axis masters = map (λ master. (coordinate_on scale axis ma
 abbrev pub normal_on : CoordinateScale → ℕ → ℕ → List Master → Master → F2Dot14
 normal_on scale origin axis masters master =
     let all = coordinates_on scale axis masters in
-    record { 0 = normalised (coordinate_on scale axis master).0 (least all)
-        (default_on scale origin axis masters) (greatest all) }
+    record {
+      0 = normalised (coordinate_on scale axis master).0 (least all)
+          (default_on scale origin axis masters) (greatest all);
+    }

@@ -1,6 +1,6 @@
 -- What is computed as the least and the greatest of numbers is their least and their greatest.
-use Rattle.std.proofs.Common.{◌≡◌, zero, suc, ℤ, ◌≤ℤ◌, ◌⊎◌, inl, inr, Bool, true, false, cond,
-    int_lt, List, [], ◌∷◌, refl, sym, ◌∙◌, arith}
+use Rattle.std.proofs.Common.{◌≡◌, zero, suc, ℤ, ◌≤ℤ◌, ◌⊎◌, inl, inr, Bool, true, false, cond}
+use Rattle.std.proofs.Common.{int_lt, List, [], ◌∷◌, refl, sym, ◌∙◌, arith}
 use Rattle.std.proofs.lemmas.Int.{ints, clamps}
 use Rattle.std.proofs.lemmas.List.Elements.{All-from_recursion}
 use Rattle.std.specs.List.{fold, AllByRecursion, Contains}
@@ -32,8 +32,11 @@ min_bound x bound (y ∷ ys) h = min_bound (int_min x y) bound ys (omega (arith,
 
 min_all : (x : ℤ) (xs : List ℤ) → AllByRecursion (λ other. fold int_min x xs ≤ℤ other) xs
 min_all x [] = tt
-min_all x (y ∷ ys) = (min_bound (int_min x y) y ys (omega (arith, ints, clamps)), min_all
-    (int_min x y) ys)
+min_all x (y ∷ ys) = (
+  min_bound (int_min x y) y ys (omega (arith, ints, clamps)),
+  min_all
+      (int_min x y) ys,
+)
 
 -- the first of two numbers or the second
 max_either : (x y : ℤ) → (int_max x y ≡ x) ⊎ (int_max x y ≡ y)
@@ -60,8 +63,11 @@ max_bound x bound (y ∷ ys) h = max_bound (int_max x y) bound ys (omega (arith,
 
 max_all : (x : ℤ) (xs : List ℤ) → AllByRecursion (λ other. other ≤ℤ fold int_max x xs) xs
 max_all x [] = tt
-max_all x (y ∷ ys) = (max_bound (int_max x y) y ys (omega (arith, ints, clamps)), max_all
-    (int_max x y) ys)
+max_all x (y ∷ ys) = (
+  max_bound (int_max x y) y ys (omega (arith, ints, clamps)),
+  max_all
+      (int_max x y) ys,
+)
 
 pub least_is : (x : ℤ) (xs : List ℤ) → IsLeast (x ∷ xs) (least (x ∷ xs))
 least_is x xs = record {

@@ -1,8 +1,8 @@
 -- What a header fulfils: the ranges of its numbers, lengths and counts, as many coordinates as
 -- axes, masters that lie where their coordinates say, no two of them at one place, and a map from
 -- user to design coordinates on each axis. The ranges are fontc's own.
-use Rattle.std.specs.Prelude.{◌≡◌, ◌≢◌, ℕ, ◌<◌, ◌≤◌, pos, neg_ℤ, ◌≤ℤ◌, List, length, map,
-    slice_index_or}
+use Rattle.std.specs.Prelude.{◌≡◌, ◌≢◌, ℕ, ◌<◌, ◌≤◌, pos, neg_ℤ, ◌≤ℤ◌, List, length, map}
+use Rattle.std.specs.Prelude.{slice_index_or}
 use Rattle.std.specs.List.{All, AllPairs}
 use Rattle.fixed_math.specs.declared.Fixed.{Fixed}
 use Rattle.fixed_math.specs.declared.F2Dot14.{F2Dot14}
@@ -55,7 +55,7 @@ location_at axis master = slice_index_or master.location axis (record { 0 = pos 
 abbrev pub LieWhereTheySay : Header → ℕ → Type 0
 LieWhereTheySay header axis =
     All (λ master. location_at axis master
-        ≡ normal_on Design header.origin axis header.masters master) header.masters
+    ≡ normal_on Design header.origin axis header.masters master) header.masters
 
 -- an axis has a map from user to design coordinates
 abbrev pub HasMap : Header → ℕ → Type 0

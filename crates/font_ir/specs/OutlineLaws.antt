@@ -1,6 +1,6 @@
 -- An outline's points and bounds, point by point.
-use Rattle.std.proofs.Common.{◌≡◌, ℕ, ◌+◌, ◌<◌, ◌≤◌, ℤ, pos, List, [], ◌∷◌, length, map, get_or,
-    drop, Option, None, Some, refl, sym, ap, ◌∙◌, arith, length-append}
+use Rattle.std.proofs.Common.{◌≡◌, ℕ, ◌+◌, ◌<◌, ◌≤◌, ℤ, pos, List, [], ◌∷◌, length, map, get_or}
+use Rattle.std.proofs.Common.{drop, Option, None, Some, refl, sym, ap, ◌∙◌, arith, length-append}
 use Rattle.std.specs.Prelude.{IfSome}
 use Rattle.std.proofs.lemmas.List.{length-map, at_drop_more}
 use Rattle.std.proofs.lemmas.List.Sums.{sum_by-cons}
@@ -12,8 +12,8 @@ use Rattle.font_ir.specs.declared.glyph.Contour.{Contour}
 use Rattle.font_ir.specs.declared.outline.StoredPoint.{StoredPoint}
 use Rattle.font_ir.specs.FlatGlyphs.{point_count}
 use Rattle.font_ir.specs.Extremes.{least, greatest}
-use Rattle.font_ir.specs.Outlines.{stored_point, stored_contours, stored_points, AreBounds,
-    bounds_of, widened_by, widened_by_all}
+use Rattle.font_ir.specs.Outlines.{stored_point, stored_contours, stored_points, AreBounds}
+use Rattle.font_ir.specs.Outlines.{bounds_of, widened_by, widened_by_all}
 use Rattle.font_ir.specs.ExtremesLaws.{least_is, greatest_is}
 
 -- ---- points
@@ -30,10 +30,15 @@ stored_counts (contour ∷ contours) = ap (λ n. n ∷ map length (stored_contou
 pub stored_count : (contours : List Contour)
     → length (stored_points contours) ≡ point_count contours
 stored_count [] = refl
-stored_count (contour ∷ contours) = omega
-    (arith, stored_count contours, length-append (map stored_point contour.points)
-    (stored_points contours), length-map contour.points stored_point, sum_by-cons
-    (λ c. length c.points) contour contours)
+stored_count (contour ∷ contours) = omega (
+  arith,
+  stored_count contours,
+  length-append (map stored_point contour.points)
+      (stored_points contours),
+  length-map contour.points stored_point,
+  sum_by-cons
+      (λ c. length c.points) contour contours,
+)
 
 -- no more contours than points
 few_by_recursion : (contours : List Contour)
@@ -87,8 +92,8 @@ widened_all (p ∷ ps) = widened_sides p.x p.y p.x p.y ps
 pub widened_is : (bounds : Option (List ℤ)) (sides : List ℤ) (point : StoredPoint) (a b c d : ℤ)
     → bounds ≡ Some sides
     → a ≡ int_min (get_or sides 0 (pos 0)) point.x → b ≡ int_min (get_or sides 1 (pos 0)) point.y
-        → c ≡ int_max (get_or sides 2 (pos 0)) point.x
-        → d ≡ int_max (get_or sides 3 (pos 0)) point.y
+    → c ≡ int_max (get_or sides 2 (pos 0)) point.x
+    → d ≡ int_max (get_or sides 3 (pos 0)) point.y
     → Some (a ∷ b ∷ c ∷ d ∷ []) ≡ widened_by bounds point
 widened_is bounds sides point a b c d e ea eb ec ed =
     (λ i. Some (ea i ∷ eb i ∷ ec i ∷ ed i ∷ [])) ∙ sym (ap (λ known. widened_by known point) e)
@@ -98,9 +103,9 @@ pub widened_more : (points : List DrawnPoint) (i : ℕ) (d : DrawnPoint)
     (bounds next all : Option (List ℤ)) (point : StoredPoint) → i < length points
     → point ≡ stored_point (get_or points i d) → next ≡ widened_by bounds point
     → widened_by_all bounds (map stored_point (drop i points)) ≡ all
-        → widened_by_all next (map stored_point (drop (i + 1) points)) ≡ all
+    → widened_by_all next (map stored_point (drop (i + 1) points)) ≡ all
 widened_more points i d bounds next all point within is e told =
     ap (λ b. widened_by_all b (map stored_point (drop (i + 1) points)))
-        (e ∙ ap (widened_by bounds) is)
+    (e ∙ ap (widened_by bounds) is)
     ∙ sym (at_drop_more (λ ps. widened_by_all bounds (map stored_point ps)) points i d within)
     ∙ told

@@ -60,9 +60,9 @@ abbrev pub widened_by : Option (List ℤ) → StoredPoint → Option (List ℤ)
 widened_by None point = Some (point.x ∷ point.y ∷ point.x ∷ point.y ∷ [])
 widened_by (Some sides) point = Some
     (int_min (slice_index_or sides 0 (pos 0)) point.x
-        ∷ int_min (slice_index_or sides 1 (pos 0)) point.y
+    ∷ int_min (slice_index_or sides 1 (pos 0)) point.y
     ∷ int_max (slice_index_or sides 2 (pos 0)) point.x
-        ∷ int_max (slice_index_or sides 3 (pos 0)) point.y ∷ [])
+    ∷ int_max (slice_index_or sides 3 (pos 0)) point.y ∷ [])
 
 abbrev pub widened_by_all : Option (List ℤ) → List StoredPoint → Option (List ℤ)
 widened_by_all bounds points = fold widened_by bounds points

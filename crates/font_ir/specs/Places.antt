@@ -1,7 +1,7 @@
 -- Places of a design space: lists of normalised coordinates, one per axis (OpenType 1.9,
 -- "Coordinate scales and normalization").
-use Rattle.std.specs.Prelude.{◌≡◌, ◌≢◌, ℕ, ◌<◌, ◌≤◌, ◌^◌, List, [], length, replicate,
-    slice_index_or, pos, Contains, EachIndex}
+use Rattle.std.specs.Prelude.{◌≡◌, ◌≢◌, ℕ, ◌<◌, ◌≤◌, ◌^◌, List, [], length, replicate}
+use Rattle.std.specs.Prelude.{slice_index_or, pos, Contains, EachIndex}
 use Rattle.fixed_math.specs.declared.F2Dot14.{F2Dot14}
 use Rattle.refusal_codes.specs.declared.limits.TheConstants.{PLACES}
 

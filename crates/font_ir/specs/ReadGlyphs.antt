@@ -1,6 +1,6 @@
 -- The glyphs that are read from a source: what their layers fulfil. The limits are fontc's own.
-use Rattle.std.specs.Prelude.{◌≡◌, ℕ, ◌<◌, ◌≤◌, pos, neg_ℤ, ◌≤ℤ◌, Bool, true, false, List, length,
-    map}
+use Rattle.std.specs.Prelude.{◌≡◌, ℕ, ◌<◌, ◌≤◌, pos, neg_ℤ, ◌≤ℤ◌, Bool, true, false, List, length}
+use Rattle.std.specs.Prelude.{map}
 use Rattle.std.specs.List.{All, AllPairs, count_by}
 use Rattle.fixed_math.specs.declared.Fixed.{Fixed}
 use Rattle.font_ir.specs.declared.glyph.Shape.{Shape}

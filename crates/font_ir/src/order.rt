@@ -1,5 +1,5 @@
-ghost use Rattle.std.specs.Prelude.{◌≡◌, ◌≤◌, ◌<◌, ◌++◌, [], ◌∷◌, ℕ, length, map, not, is_some,
-    slice_get, slice_index_or, IfOk, IfSome, OnErr, nat_eq, cond};
+ghost use Rattle.std.specs.Prelude.{◌≡◌, ◌≤◌, ◌<◌, ◌++◌, [], ◌∷◌, ℕ, length, map, not, is_some};
+ghost use Rattle.std.specs.Prelude.{slice_get, slice_index_or, IfOk, IfSome, OnErr, nat_eq, cond};
 ghost use Rattle.std.specs.List.{list_any};
 ghost use Rattle.std.specs.Cmp.Lexicographic.{pointwise};
 ghost use Rattle.std.specs.Cmp.{partial_equiv_from_equiv};
@@ -28,12 +28,18 @@ impl Model for GlyphOrder {
 
     ghost Value = { Glyphs };
 
-    ghost view = { λ order. record { numbers = order.numbers.items; names
-        = map (λ name. name.items) order.names.keys } };
+    ghost view = { λ order. record {
+      numbers = order.numbers.items;
+      names
+          = map (λ name. name.items) order.names.keys;
+    } };
 
     ghost invariant = { λ order. IsGlyphOrder
-        (record { numbers = order.numbers.items; names
-        = map (λ name. name.items) order.names.keys }) };
+        (record {
+          numbers = order.numbers.items;
+          names
+              = map (λ name. name.items) order.names.keys;
+        }) };
 }
 
 impl GlyphOrder {
@@ -93,8 +99,11 @@ impl GlyphOrder {
         ensures added { IfOk result (λ added. added
             ≡ not (is_some (gid_of self.old.names name.now))) }
         ensures ok { IfOk result (λ added. self.new
-            ≡ (cond added (record { numbers = self.old.numbers ++ number
-            ∷ []; names = self.old.names ++ name.now ∷ [] }) self.old)) }
+            ≡ (cond added (record {
+              numbers = self.old.numbers ++ number
+                  ∷ [];
+              names = self.old.names ++ name.now ∷ [];
+            }) self.old)) }
         ensures err { OnErr result (self.new ≡ self.old) }
     {
         self.numbers.reserve(1)?;

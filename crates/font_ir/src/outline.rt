@@ -2,8 +2,8 @@ ghost use Rattle.std.specs.Prelude.{◌≡◌, map, IfSome};
 ghost use Rattle.std.specs.List.{All};
 ghost use Rattle.fixed_math.specs.FixedPoint.{half_up};
 ghost use Rattle.font_ir.specs.FlatGlyphs.{IsSmall, IsSmallFixed, IsSmallPoint};
-ghost use Rattle.font_ir.specs.Outlines.{stored_point, stored_points, bounds_of, widened_by,
-    widened_by_all, AreBounds};
+ghost use Rattle.font_ir.specs.Outlines.{stored_point, stored_points, bounds_of, widened_by};
+ghost use Rattle.font_ir.specs.Outlines.{widened_by_all, AreBounds};
 
 use crate::glyph::{Contour, DrawnPoint};
 use fixed_math::{Fixed, round_half_up};

@@ -1,6 +1,6 @@
 -- A source is accepted exactly where each of its parts is.
-use Rattle.std.proofs.Common.{◌≡◌, ℕ, ◌≤◌, Bool, true, false, List, length, Option, Some, None,
-    Result, Ok, Err, nat_lt, ap, refl, sym, ◌∙◌, arith}
+use Rattle.std.proofs.Common.{◌≡◌, ℕ, ◌≤◌, Bool, true, false, List, length, Option, Some, None}
+use Rattle.std.proofs.Common.{Result, Ok, Err, nat_lt, ap, refl, sym, ◌∙◌, arith}
 use Rattle.std.specs.Prelude.{min, codes, if◌then◌else◌}
 use Rattle.std.proofs.lemmas.Bool.Decides.{nat_tests}
 use Rattle.refusal_codes.specs.declared.refusal.Refusal.{Refusal}
@@ -15,9 +15,9 @@ use Rattle.table_bytes.specs.LimitLaws.{is_within}
 use Rattle.glyf_writer.specs.Tables as outlines
 use Rattle.font_assembly.specs.File.{Table, file, file_len}
 use Rattle.font_plan.specs.Accepted.{IsFontOf}
-use Rattle.font_plan.specs.Font.{source_too_large, too_many_glyphs, table_too_large, font_too_large,
-    glyphs_in, parts_of, tables_of, unless_too_large, filed, written, glyphs_font, tree_font,
-    font_of}
+use Rattle.font_plan.specs.Font.{source_too_large, too_many_glyphs, table_too_large, font_too_large}
+use Rattle.font_plan.specs.Font.{glyphs_in, parts_of, tables_of, unless_too_large, filed, written}
+use Rattle.font_plan.specs.Font.{glyphs_font, tree_font, font_of}
 
 -- what was passed on, and what came of it
 record Passed {A B : Type 0} (given : Result A Refusal) (next : A → Result B Refusal) (made : B)
@@ -72,21 +72,21 @@ pub accepted_font : (tree_of_computed : (source : List ℕ) (t : Tree) → read_
 unfolding font_of tree_font written
 accepted_font tree_of_computed source font e =
     let whole = within 67108864 (length source) source_too_large (read_of source >>= tree_font) font
-        e in
+    e in
     let tree = passed (read_of source) tree_font font whole.1 in
     let header = passed (header_of tree.value)
-        (λ header. (index_of tree.value >>= λ index.
-        (glyphs_in tree.value header index >>= glyphs_font header))) font tree.rest in
+    (λ header. (index_of tree.value >>= λ index.
+    (glyphs_in tree.value header index >>= glyphs_font header))) font tree.rest in
     let index = passed (index_of tree.value)
-        (λ index. (glyphs_in tree.value header.value index >>= glyphs_font header.value)) font
-        header.rest in
+    (λ index. (glyphs_in tree.value header.value index >>= glyphs_font header.value)) font
+    header.rest in
     let glyphs = passed (glyphs_in tree.value header.value index.value) (glyphs_font header.value)
-        font index.rest in
+    font index.rest in
     let few = within 65535 (length glyphs.value) (too_many_glyphs (length glyphs.value))
-        (written header.value glyphs.value) font glyphs.rest in
+    (written header.value glyphs.value) font glyphs.rest in
     let tables = unless (table_too_large (codes "glyf"))
-        (outlines.too_large (parts_of header.value glyphs.value))
-        (filed (tables_of header.value glyphs.value)) font few.1 in
+    (outlines.too_large (parts_of header.value glyphs.value))
+    (filed (tables_of header.value glyphs.value)) font few.1 in
     let fits = fitting (tables_of header.value glyphs.value) font tables.1 in
     record {
       tree = tree.value;
@@ -115,21 +115,21 @@ fits n few = is_within n (min n 18446744073709551615) refl (omega arith)
 
 pub font_accepted : (tree_computed : (source : List ℕ) (t : Tree) → HasTree source t
     → read_of source ≡ Ok t) (source font : List ℕ) → IsFontOf source font
-        → font_of source ≡ Ok font
+    → font_of source ≡ Ok font
 unfolding font_of tree_font written
 font_accepted tree_computed source font f =
     below 67108864 (length source) source_too_large (read_of source >>= tree_font) f.few_bytes
     ∙ ap (λ tree. tree >>= tree_font) (tree_computed source f.tree f.read)
     ∙ ap (λ header. header >>= λ header. (index_of f.tree >>= λ index.
-        (glyphs_in f.tree header index >>= glyphs_font header))) f.header_read
+    (glyphs_in f.tree header index >>= glyphs_font header))) f.header_read
     ∙ ap (λ index. index >>= λ index. (glyphs_in f.tree f.header index >>= glyphs_font f.header))
-        f.index_read
+    f.index_read
     ∙ ap (λ glyphs. glyphs >>= glyphs_font f.header) f.drawn
     ∙ below 65535 (length f.glyphs) (too_many_glyphs (length f.glyphs)) (written f.header f.glyphs)
-        f.few_glyphs
+    f.few_glyphs
     ∙ ap (λ too_large. unless_too_large (table_too_large (codes "glyf")) too_large
-        (filed (tables_of f.header f.glyphs))) f.tables_fit
+    (filed (tables_of f.header f.glyphs))) f.tables_fit
     ∙ ap (λ too_large. unless_too_large font_too_large too_large
-        (Ok (file (tables_of f.header f.glyphs))))
-        (fits (file_len (tables_of f.header f.glyphs)) f.file_fits)
+    (Ok (file (tables_of f.header f.glyphs))))
+    (fits (file_len (tables_of f.header f.glyphs)) f.file_fits)
     ∙ ap Ok (sym f.is_file)

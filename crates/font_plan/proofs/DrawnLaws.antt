@@ -1,6 +1,6 @@
 -- How many glyphs a font has, and what the made `.notdef` fulfils.
-use Rattle.std.proofs.Common.{◌≡◌, ℕ, suc, List, [], ◌∷◌, ◌++◌, map, length, Result, Ok, Err, ap,
-    refl, sym, ◌∙◌, subst}
+use Rattle.std.proofs.Common.{◌≡◌, ℕ, suc, List, [], ◌∷◌, ◌++◌, map, length, Result, Ok, Err, ap}
+use Rattle.std.proofs.Common.{refl, sym, ◌∙◌, subst}
 use Rattle.std.specs.List.{All}
 use Rattle.std.proofs.lemmas.List.{length-map, map-append}
 use Rattle.std.specs.declared.alloc.Global.{Global}
@@ -16,8 +16,8 @@ use Rattle.font_ir.specs.declared.glyph.FlatGlyph.{FlatGlyph}
 use Rattle.font_ir.specs.FlatGlyphs.{IsFlatGlyph}
 use Rattle.font_ir.specs.Notdef.{made_notdef_of}
 use Rattle.font_plan.specs.Drawn.{IsDrawn}
-use Rattle.font_plan.specs.Font.{Entry, others_from, drawn_of, all_drawn, followed_by, notdef_from,
-    notdef_of, glyphs_in, order_in}
+use Rattle.font_plan.specs.Font.{Entry, others_from, drawn_of, all_drawn, followed_by, notdef_from}
+use Rattle.font_plan.specs.Font.{notdef_of, glyphs_in, order_in}
 
 -- ---- as many glyphs as names
 

@@ -5,10 +5,13 @@ use Rattle.std.specs.Prelude.{codes, true, Result, is_ok}
 use Rattle.std.specs.List.{flat_map}
 use Rattle.refusal_codes.specs.declared.refusal.Refusal.{Refusal}
 use Rattle.refusal_codes.specs.declared.rule.Rule.{Rule}
-use Rattle.refusal_codes.specs.declared.rule.Rule.TheVariants.{NotUtf8, UnexpectedByte, BadEscape,
-    DuplicateKey, TooDeep, UnexpectedEnd, TrailingText, MissingKey, NotWhole, OutOfRange,
-    DuplicateGlyph, WrongVersion, NoMaster, AxisCount, MissingLayer, CubicNode, OpenContour,
-    CoordinateTooLarge, DuplicateUnicode}
+use Rattle.refusal_codes.specs.declared.rule.Rule.TheVariants.{NotUtf8, UnexpectedByte, BadEscape}
+use Rattle.refusal_codes.specs.declared.rule.Rule.TheVariants.{DuplicateKey, TooDeep, UnexpectedEnd}
+use Rattle.refusal_codes.specs.declared.rule.Rule.TheVariants.{TrailingText, MissingKey, NotWhole}
+use Rattle.refusal_codes.specs.declared.rule.Rule.TheVariants.{OutOfRange, DuplicateGlyph}
+use Rattle.refusal_codes.specs.declared.rule.Rule.TheVariants.{WrongVersion, NoMaster, AxisCount}
+use Rattle.refusal_codes.specs.declared.rule.Rule.TheVariants.{MissingLayer, CubicNode, OpenContour}
+use Rattle.refusal_codes.specs.declared.rule.Rule.TheVariants.{CoordinateTooLarge, DuplicateUnicode}
 use Rattle.font_plan.specs.Font.{font_of}
 use Rattle.font_plan.proofs.OnLiterals.{font_on_literals}
 
@@ -19,8 +22,8 @@ lines texts = flat_map (λ text. text ++ 10 ∷ []) texts
 abbrev source_of : List ℕ → List (List ℕ) → List (List ℕ) → List (List ℕ) → List ℕ
 source_of version masters glyphs more =
     lines ((codes "{" ∷ (codes ".formatVersion = " ++ version ++ codes ";")
-        ∷ codes "familyName = Tri;" ∷ codes "fontMaster = (" ∷ masters) ++ codes ");"
-        ∷ (codes "glyphs = (" ∷ glyphs) ++ codes ");" ∷ more ++ codes "}" ∷ [])
+    ∷ codes "familyName = Tri;" ∷ codes "fontMaster = (" ∷ masters) ++ codes ");"
+    ∷ (codes "glyphs = (" ∷ glyphs) ++ codes ");" ∷ more ++ codes "}" ∷ [])
 
 -- a master: its id, and the lines behind it
 abbrev master : List ℕ → List (List ℕ) → List (List ℕ)
@@ -35,10 +38,10 @@ source glyphs more = source_of (codes "3") (master (codes "m1") []) glyphs more
 abbrev glyph : List ℕ → List ℕ → List ℕ → List ℕ → List (List ℕ) → List ℕ → List (List ℕ)
 glyph name closed second third more rest =
     codes "{" ∷ (codes "glyphname = " ++ name ++ codes ";") ∷ codes "layers = (" ∷ codes "{"
-        ∷ codes "layerId = m1;" ∷ codes "shapes = (" ∷ codes "{"
-        ∷ (codes "closed = " ++ closed ++ codes ";") ∷ codes "nodes = (" ∷ codes "(0,0,l),"
-        ∷ (second ++ codes ",") ∷ third ∷ codes ");" ∷ codes "}" ∷ codes ");" ∷ more ++ codes "}"
-        ∷ codes ");" ∷ rest ∷ codes "}" ∷ []
+    ∷ codes "layerId = m1;" ∷ codes "shapes = (" ∷ codes "{"
+    ∷ (codes "closed = " ++ closed ++ codes ";") ∷ codes "nodes = (" ∷ codes "(0,0,l),"
+    ∷ (second ++ codes ",") ∷ third ∷ codes ");" ∷ codes "}" ∷ codes ");" ∷ more ++ codes "}"
+    ∷ codes ");" ∷ rest ∷ codes "}" ∷ []
 
 -- the triangle, 500 units wide
 abbrev triangle : List ℕ → List ℕ → List (List ℕ)
@@ -74,27 +77,27 @@ triangle_source = thousand letter
 abbrev pub triangle_font : List ℕ
 triangle_font =
     0 ∷ 1 ∷ 0 ∷ 0 ∷ 0 ∷ 6 ∷ 0 ∷ 64 ∷ 0 ∷ 2 ∷ 0 ∷ 32 ∷ 103 ∷ 108 ∷ 121 ∷ 102 ∷ 92 ∷ 186 ∷ 203 ∷ 247
-        ∷ 0 ∷ 0 ∷ 0 ∷
+    ∷ 0 ∷ 0 ∷ 0 ∷
     108 ∷ 0 ∷ 0 ∷ 0 ∷ 28 ∷ 104 ∷ 101 ∷ 97 ∷ 100 ∷ 97 ∷ 10 ∷ 67 ∷ 160 ∷ 0 ∷ 0 ∷ 0 ∷ 136 ∷ 0 ∷ 0 ∷ 0
-        ∷ 54 ∷ 104 ∷ 104 ∷
+    ∷ 54 ∷ 104 ∷ 104 ∷
     101 ∷ 97 ∷ 5 ∷ 22 ∷ 1 ∷ 47 ∷ 0 ∷ 0 ∷ 0 ∷ 192 ∷ 0 ∷ 0 ∷ 0 ∷ 36 ∷ 104 ∷ 109 ∷ 116 ∷ 120 ∷ 3 ∷ 232
-        ∷ 0 ∷ 0 ∷ 0 ∷ 0 ∷
+    ∷ 0 ∷ 0 ∷ 0 ∷ 0 ∷
     0 ∷ 228 ∷ 0 ∷ 0 ∷ 0 ∷ 8 ∷ 108 ∷ 111 ∷ 99 ∷ 97 ∷ 0 ∷ 0 ∷ 0 ∷ 28 ∷ 0 ∷ 0 ∷ 0 ∷ 236 ∷ 0 ∷ 0 ∷ 0
-        ∷ 12 ∷ 109 ∷ 97 ∷
+    ∷ 12 ∷ 109 ∷ 97 ∷
     120 ∷ 112 ∷ 0 ∷ 4 ∷ 0 ∷ 5 ∷ 0 ∷ 0 ∷ 0 ∷ 248 ∷ 0 ∷ 0 ∷ 0 ∷ 32 ∷ 0 ∷ 1 ∷ 0 ∷ 0 ∷ 0 ∷ 0 ∷ 1 ∷ 244
-        ∷ 2 ∷ 188 ∷ 0 ∷
+    ∷ 2 ∷ 188 ∷ 0 ∷
     2 ∷ 0 ∷ 0 ∷ 19 ∷ 3 ∷ 33 ∷ 250 ∷ 250 ∷ 1 ∷ 244 ∷ 2 ∷ 188 ∷ 253 ∷ 68 ∷ 0 ∷ 0 ∷ 0 ∷ 0 ∷ 1 ∷ 0 ∷ 0
-        ∷ 0 ∷ 1 ∷ 0 ∷ 0 ∷
+    ∷ 0 ∷ 1 ∷ 0 ∷ 0 ∷
     169 ∷ 160 ∷ 247 ∷ 242 ∷ 95 ∷ 15 ∷ 60 ∷ 245 ∷ 0 ∷ 3 ∷ 3 ∷ 232 ∷ 0 ∷ 0 ∷ 0 ∷ 0 ∷ 0 ∷ 0 ∷ 0 ∷ 0 ∷ 0
-        ∷ 0 ∷ 0 ∷ 0 ∷
+    ∷ 0 ∷ 0 ∷ 0 ∷
     0 ∷ 0 ∷ 0 ∷ 0 ∷ 0 ∷ 0 ∷ 0 ∷ 0 ∷ 1 ∷ 244 ∷ 2 ∷ 188 ∷ 0 ∷ 0 ∷ 0 ∷ 6 ∷ 0 ∷ 2 ∷ 0 ∷ 1 ∷ 0 ∷ 0 ∷ 0
-        ∷ 0 ∷ 0 ∷ 1 ∷ 0 ∷
+    ∷ 0 ∷ 0 ∷ 1 ∷ 0 ∷
     0 ∷ 3 ∷ 32 ∷ 255 ∷ 56 ∷ 0 ∷ 0 ∷ 1 ∷ 244 ∷ 0 ∷ 0 ∷ 0 ∷ 0 ∷ 1 ∷ 244 ∷ 0 ∷ 1 ∷ 0 ∷ 0 ∷ 0 ∷ 0 ∷ 0
-        ∷ 0 ∷ 0 ∷ 0 ∷ 0 ∷
+    ∷ 0 ∷ 0 ∷ 0 ∷ 0 ∷
     0 ∷ 0 ∷ 0 ∷ 0 ∷ 0 ∷ 0 ∷ 2 ∷ 1 ∷ 244 ∷ 0 ∷ 0 ∷ 1 ∷ 244 ∷ 0 ∷ 0 ∷ 0 ∷ 0 ∷ 0 ∷ 0 ∷ 0 ∷ 0 ∷ 0 ∷ 0
-        ∷ 0 ∷ 0 ∷ 0 ∷ 28 ∷
+    ∷ 0 ∷ 0 ∷ 0 ∷ 28 ∷
     0 ∷ 1 ∷ 0 ∷ 0 ∷ 0 ∷ 2 ∷ 0 ∷ 3 ∷ 0 ∷ 1 ∷ 0 ∷ 0 ∷ 0 ∷ 0 ∷ 0 ∷ 2 ∷ 0 ∷ 0 ∷ 0 ∷ 0 ∷ 0 ∷ 0 ∷ 0 ∷ 0
-        ∷ 0 ∷ 0 ∷ 0 ∷ 0 ∷
+    ∷ 0 ∷ 0 ∷ 0 ∷ 0 ∷
     0 ∷ 0 ∷ 0 ∷ 0 ∷ []
 
 -- the source, the same without its last line feed, and with a coordinate that has a fraction of
@@ -105,15 +108,15 @@ pub accepted : map font_of (
     triangle_source
     ∷ take 258 triangle_source
     ∷ thousand (letter_with (codes "1") (codes "(500.0,0,l)") (codes "(250,700,l)")
-        (codes "width = 500;" ∷ []))
+    (codes "width = 500;" ∷ []))
     ∷ source (letter_with (codes "1") (codes "(500,0,l)") (codes "(250,700,l,{name = x;})")
-        (codes "width = 500;" ∷ codes "}," ∷ codes "{" ∷ codes "associatedMasterId = m1;"
-        ∷ codes "layerId = backup;" ∷ [])) (codes "unitsPerEm = 1000;" ∷ codes "userData = {"
-        ∷ codes "a = 1;" ∷ codes "};" ∷ codes "note = x;" ∷ codes "settings = {" ∷ codes "};" ∷ [])
+    (codes "width = 500;" ∷ codes "}," ∷ codes "{" ∷ codes "associatedMasterId = m1;"
+    ∷ codes "layerId = backup;" ∷ [])) (codes "unitsPerEm = 1000;" ∷ codes "userData = {"
+    ∷ codes "a = 1;" ∷ codes "};" ∷ codes "note = x;" ∷ codes "settings = {" ∷ codes "};" ∷ [])
     ∷ thousand (behind_letter (own_notdef (codes "export = 1;")))
     ∷ thousand (behind_letter (own_notdef (codes "export = 0;")))
     ∷ thousand (behind_letter (glyph (codes "B") (codes "1") (codes "(500,0,l)")
-        (codes "(250,700,c)") (codes "width = 900;" ∷ []) (codes "export = 0;")))
+    (codes "(250,700,c)") (codes "width = 900;" ∷ []) (codes "export = 0;")))
     ∷ []) ≡ replicate 7 (Ok triangle_font)
 unfolding font_on_literals
 accepted = refl
@@ -191,7 +194,7 @@ pub masters_refused : map font_of (
     letter_under (codes "2") (master (codes "m1") [])
     ∷ letter_under (codes "3") []
     ∷ letter_under (codes "3") (master (codes "m1")
-        (codes "axesValues = (" ∷ codes "1" ∷ codes ");" ∷ []))
+    (codes "axesValues = (" ∷ codes "1" ∷ codes ");" ∷ []))
     ∷ letter_under (codes "3") (master (codes "m2") [])
     ∷ []) ≡
     refusal 0 1 [] WrongVersion 19
@@ -205,14 +208,14 @@ masters_refused = refl
 -- a cubic node, an open contour, no width, a fraction and a coordinate that is too large
 pub glyphs_refused : map font_of (
     thousand (letter_with (codes "1") (codes "(500,0,l)") (codes "(250,700,c)")
-        (codes "width = 500;" ∷ []))
+    (codes "width = 500;" ∷ []))
     ∷ thousand (letter_with (codes "0") (codes "(500,0,l)") (codes "(250,700,l)")
-        (codes "width = 500;" ∷ []))
+    (codes "width = 500;" ∷ []))
     ∷ thousand (letter_with (codes "1") (codes "(500,0,l)") (codes "(250,700,l)") [])
     ∷ thousand (letter_with (codes "1") (codes "(500.5,0,l)") (codes "(250,700,l)")
-        (codes "width = 500;" ∷ []))
+    (codes "width = 500;" ∷ []))
     ∷ thousand (letter_with (codes "1") (codes "(16384,0,l)") (codes "(250,700,l)")
-        (codes "width = 500;" ∷ []))
+    (codes "width = 500;" ∷ []))
     ∷ []) ≡
     of_letter CubicNode 181
     ∷ of_letter OpenContour 137

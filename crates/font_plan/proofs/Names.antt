@@ -1,7 +1,7 @@
 -- The names of the font's glyphs all differ, and have at most 255 bytes.
-use Rattle.std.proofs.Common.{◌≡◌, ℕ, ◌+◌, Bool, true, false, ◌&&◌, ◌||◌, not, List, [], ◌∷◌, ◌++◌,
-    map, is_some, Some, None, ap, refl, ◌∙◌, subst, ◌≤◌, nat_eq, ltb, cond,
-    length, arith}
+use Rattle.std.proofs.Common.{◌≡◌, ℕ, ◌+◌, Bool, true, false, ◌&&◌, ◌||◌, not, List, [], ◌∷◌, ◌++◌}
+use Rattle.std.proofs.Common.{map, is_some, Some, None, ap, refl, ◌∙◌, subst, ◌≤◌, nat_eq, ltb}
+use Rattle.std.proofs.Common.{cond, length, arith}
 use Rattle.std.specs.Prelude.{codes, slice_get, if◌then◌else◌}
 use Rattle.std.specs.List.{IsDistinct, AllByRecursion, list_any, position, prefix_len}
 use Rattle.std.proofs.lemmas.Bool.Decides.{nat_tests}
@@ -109,8 +109,11 @@ none_notdef n (entry ∷ index) = chosen (is_other entry) refl (none_notdef (n +
         → NoneNotdef (map (λ (glyph : ℕ × Entry). glyph.1.0) (others_from (n + 1) index))
         → NoneNotdef (map (λ (glyph : ℕ × Entry). glyph.1.0)
         (if b then (n, entry) ∷ others_from (n + 1) index else others_from (n + 1) index))
-    chosen true e rest = (nat_list_eq_equiv.symm (codes ".notdef") entry.0
-        ∙ second entry.1.exported (is_notdef entry) e, rest)
+    chosen true e rest = (
+      nat_list_eq_equiv.symm (codes ".notdef") entry.0
+          ∙ second entry.1.exported (is_notdef entry) e,
+      rest,
+    )
     chosen false e rest = rest
 
 pub names_differ : (index : List Entry) → IsDistinct (pointwise nat_eq) (keys_of index)
@@ -125,4 +128,4 @@ pub short_there : (index : List Entry) (n : ℕ) (entry : Entry) → AreNamed in
     → slice_get index n ≡ Some entry → length entry.0 ≤ NAME_BYTES
 short_there index n entry named e =
     (subst (λ (x : Entry). IsNameLong x.0) (get_or_from_slice_get index n entry entry e)
-        (named n entry (slice_get_within index n entry e))).1
+    (named n entry (slice_get_within index n entry e))).1

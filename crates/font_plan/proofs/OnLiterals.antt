@@ -4,17 +4,18 @@ use lib.Utf8.{encode}
 use Rattle.std.specs.Str.{is_utf8, chars}
 use Rattle.std.specs.Str.Lossy.{utf8_valid_len}
 use Rattle.plist_reader.specs.Characters.{is_space, is_word, octal_value, hex_value, byte_of}
-use Rattle.plist_reader.specs.Escapes.{character_of, escape_begun, escape_unit, escape_digit,
-    escape_next}
-use Rattle.plist_reader.specs.Reading.{start, value_ended, key_ended, text_ended, unexpected_rule,
-    text_begun, bracket_opened, value_begun, list_closed, dictionary_closed, between, in_word,
-    in_quoted, in_bytes, in_half, step, whole, finish, read_of}
+use Rattle.plist_reader.specs.Escapes.{character_of, escape_begun, escape_unit, escape_digit}
+use Rattle.plist_reader.specs.Escapes.{escape_next}
+use Rattle.plist_reader.specs.Reading.{start, value_ended, key_ended, text_ended, unexpected_rule}
+use Rattle.plist_reader.specs.Reading.{text_begun, bracket_opened, value_begun, list_closed}
+use Rattle.plist_reader.specs.Reading.{dictionary_closed, between, in_word, in_quoted, in_bytes}
+use Rattle.plist_reader.specs.Reading.{in_half, step, whole, finish, read_of}
 use Rattle.glyphs_source.specs.OnLiterals.{header_on_literals, index_on_literals}
 use Rattle.glyphs_layers.specs.OnLiterals.{layers_on_literals}
 use Rattle.component_flatten.specs.Flattening.{flat_record, flat_of}
 use Rattle.font_assembly.specs.Checksum.{total}
-use Rattle.font_assembly.specs.File.{entry_selector, directory_head, directory_entry,
-    unadjusted_file, file}
+use Rattle.font_assembly.specs.File.{entry_selector, directory_head, directory_entry}
+use Rattle.font_assembly.specs.File.{unadjusted_file, file}
 use Rattle.metrics_tables.specs.Tables.{head_table, hhea_table, maxp_table}
 use Rattle.font_plan.specs.Font.{drawn_of, glyphs_in, written, tree_font, font_of}
 

@@ -1,7 +1,8 @@
 -- One step over the entries of an index: what is left from an entry on is that entry and what is
 -- left behind it.
-use Rattle.std.proofs.Common.{◌≡◌, ℕ, ◌+◌, Bool, true, false, List, [], ◌∷◌, ◌++◌, drop, Option,
-    Some, None, Result, Ok, Err, ap, refl, sym, ◌∙◌, append_assoc, map, length, ◌<◌, ◌≤◌, arith}
+use Rattle.std.proofs.Common.{◌≡◌, ℕ, ◌+◌, Bool, true, false, List, [], ◌∷◌, ◌++◌, drop, Option}
+use Rattle.std.proofs.Common.{Some, None, Result, Ok, Err, ap, refl, sym, ◌∙◌, append_assoc, map}
+use Rattle.std.proofs.Common.{length, ◌<◌, ◌≤◌, arith}
 use Rattle.std.specs.Prelude.{slice_get, if◌then◌else◌}
 use Rattle.std.specs.Option.{option_map}
 use Rattle.std.proofs.lemmas.List.{drop_more, length-append}
@@ -13,8 +14,8 @@ use Rattle.font_ir.specs.declared.glyph.FlatGlyph.{FlatGlyph}
 use Rattle.refusal_codes.specs.declared.errors.ReadError.{ReadError}
 use Rattle.refusal_codes.specs.declared.errors.ReadError.TheVariants as read_errors
 use Rattle.refusal_codes.specs.Gives.{◌>>=◌, RefusesRead}
-use Rattle.font_plan.specs.Font.{Entry, is_notdef, is_other, others_from, drawn_of, all_drawn,
-    followed_by, notdef_from}
+use Rattle.font_plan.specs.Font.{Entry, is_notdef, is_other, others_from, drawn_of, all_drawn}
+use Rattle.font_plan.specs.Font.{followed_by, notdef_from}
 
 rest_at : {X : Type 0} (xs : List X) (n : ℕ) (x : X) → slice_get xs n ≡ Some x
     → drop n xs ≡ x ∷ drop (n + 1) xs
@@ -27,16 +28,16 @@ pub notdef_here : (index : List Entry) (n : ℕ) (entry : Entry) → slice_get i
     → is_notdef entry ≡ true → notdef_from n (drop n index) ≡ Some (n, entry)
 notdef_here index n entry at is =
     ap (notdef_from n) (rest_at index n entry at)
-        ∙ ap (λ (b : Bool). if b then Some (n, entry) else notdef_from (n + 1) (drop (n + 1) index))
-        is
+    ∙ ap (λ (b : Bool). if b then Some (n, entry) else notdef_from (n + 1) (drop (n + 1) index))
+    is
 
 pub notdef_later : (index : List Entry) (n : ℕ) (entry : Entry) → slice_get index n ≡ Some entry
     → is_notdef entry ≡ false → notdef_from n (drop n index)
     ≡ notdef_from (n + 1) (drop (n + 1) index)
 notdef_later index n entry at is =
     ap (notdef_from n) (rest_at index n entry at)
-        ∙ ap (λ (b : Bool). if b then Some (n, entry) else notdef_from (n + 1) (drop (n + 1) index))
-        is
+    ∙ ap (λ (b : Bool). if b then Some (n, entry) else notdef_from (n + 1) (drop (n + 1) index))
+    is
 
 pub no_notdef : (found : Option (ℕ × Entry))
     → None ≡ option_map (λ (glyph : ℕ × Entry). glyph.0) found → found ≡ None
@@ -51,7 +52,7 @@ pub others_here : (index : List Entry) (n : ℕ) (entry : Entry) → slice_get i
 others_here index n entry at is =
     let rest = others_from (n + 1) (drop (n + 1) index) in
     ap (others_from n) (rest_at index n entry at)
-        ∙ ap (λ (b : Bool). if b then (n, entry) ∷ rest else rest) is
+    ∙ ap (λ (b : Bool). if b then (n, entry) ∷ rest else rest) is
 
 pub others_later : (index : List Entry) (n : ℕ) (entry : Entry) → slice_get index n ≡ Some entry
     → is_other entry ≡ false → others_from n (drop n index)
@@ -59,7 +60,7 @@ pub others_later : (index : List Entry) (n : ℕ) (entry : Entry) → slice_get 
 others_later index n entry at is =
     let rest = others_from (n + 1) (drop (n + 1) index) in
     ap (others_from n) (rest_at index n entry at)
-        ∙ ap (λ (b : Bool). if b then (n, entry) ∷ rest else rest) is
+    ∙ ap (λ (b : Bool). if b then (n, entry) ∷ rest else rest) is
 
 -- ---- drawing one glyph, and those behind it
 
@@ -101,8 +102,8 @@ pub refused_here : (t : Tree) (h : Header) (index : List Entry) (n : ℕ) (entry
 refused_here t h index n entry before whole read_errors.NoMemory at is same refused = tt
 refused_here t h index n entry before whole (read_errors.Refused r) at is same refused =
     sym same ∙ ap (λ glyphs. followed_by before (all_drawn t h glyphs))
-        (others_here index n entry at is) ∙ drawn_refused t h (n, entry)
-        (others_from (n + 1) (drop (n + 1) index)) before r refused
+    (others_here index n entry at is) ∙ drawn_refused t h (n, entry)
+    (others_from (n + 1) (drop (n + 1) index)) before r refused
 
 -- what one glyph leaves is what is left of all
 pub drawn_here : (t : Tree) (h : Header) (index : List Entry) (n : ℕ) (entry : Entry)
@@ -112,7 +113,7 @@ pub drawn_here : (t : Tree) (h : Header) (index : List Entry) (n : ℕ) (entry :
     ≡ followed_by before (all_drawn t h (others_from n (drop n index)))
 drawn_here t h index n entry before after at is one =
     sym (ap (λ glyphs. followed_by before (all_drawn t h glyphs)) (others_here index n entry at is)
-        ∙ drawn_next t h (n, entry) (others_from (n + 1) (drop (n + 1) index)) before after one)
+    ∙ drawn_next t h (n, entry) (others_from (n + 1) (drop (n + 1) index)) before after one)
 
 -- ---- what is made of the others, behind what was made before
 

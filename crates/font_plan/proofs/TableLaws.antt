@@ -1,6 +1,6 @@
 -- The tables of a font make a file, since "head" has 54 bytes; and what each glyph's data are.
-use Rattle.std.proofs.Common.{◌≡◌, ℕ, ◌<◌, true, List, [], ◌∷◌, length, map, false, ◌&&◌, nat_eq,
-    ap, refl, sym, subst}
+use Rattle.std.proofs.Common.{◌≡◌, ℕ, ◌<◌, true, List, [], ◌∷◌, length, map, false, ◌&&◌, nat_eq}
+use Rattle.std.proofs.Common.{ap, refl, sym, subst}
 use Rattle.std.specs.List.{All}
 use Rattle.std.specs.Bool.{IsTrue}
 use Rattle.std.specs.declared.alloc.Global.{Global}
@@ -25,8 +25,11 @@ head_length h m = refl
 
 pub has_head : (h : Header) (m : Measures) (glyf loca : List ℕ)
     → HasHead (tables_with h m glyf loca)
-has_head h m glyf loca = (refl, subst (λ n. IsTrue (nat_eq n 54 && true)) (sym (head_length h m))
-    refl)
+has_head h m glyf loca = (
+  refl,
+  subst (λ n. IsTrue (nat_eq n 54 && true)) (sym (head_length h m))
+      refl,
+)
 
 -- what is said of the glyphs in order, said of the references
 pub drawn_behind : (h : Header) (glyphs : List (Arc FlatGlyph Global))

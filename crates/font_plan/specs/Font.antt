@@ -3,13 +3,14 @@
 --
 -- The parts are defined in the crates that read and write them. Here they are joined: each part is
 -- made of those before it, and the first that refuses the source refuses it all.
-use Rattle.std.specs.Prelude.{ℕ, ◌+◌, Bool, false, not, ◌&&◌, List, [], ◌∷◌, ◌++◌, length, map,
-    nat_lt, nat_eq, codes, Option, Some, None, Result, Ok, Err, if◌then◌else◌}
+use Rattle.std.specs.Prelude.{ℕ, ◌+◌, Bool, false, not, ◌&&◌, List, [], ◌∷◌, ◌++◌, length, map}
+use Rattle.std.specs.Prelude.{nat_lt, nat_eq, codes, Option, Some, None, Result, Ok, Err}
+use Rattle.std.specs.Prelude.{if◌then◌else◌}
 use Rattle.std.specs.Option.{option_map}
 use Rattle.std.specs.Cmp.Lexicographic.{pointwise}
 use Rattle.refusal_codes.specs.declared.refusal.Refusal.{Refusal}
-use Rattle.refusal_codes.specs.declared.rule.Rule.TheVariants.{TooLarge, TooManyGlyphs,
-    TableTooLarge}
+use Rattle.refusal_codes.specs.declared.rule.Rule.TheVariants.{TooLarge, TooManyGlyphs}
+use Rattle.refusal_codes.specs.declared.rule.Rule.TheVariants.{TableTooLarge}
 use Rattle.refusal_codes.specs.First.{refusal_of}
 use Rattle.refusal_codes.specs.Gives.{◌>>=◌}
 use Rattle.refusal_codes.specs.declared.job.TheConstants.{TREE, ORDER, TABLE, FONT}
@@ -69,7 +70,7 @@ abbrev pub others_from : ℕ → List Entry → List (ℕ × Entry)
 others_from number [] = []
 others_from number (entry ∷ entries) =
     if is_other entry then (number, entry)
-        ∷ others_from (number + 1) entries else others_from (number + 1) entries
+    ∷ others_from (number + 1) entries else others_from (number + 1) entries
 
 -- the first `.notdef` with its number, of entries numbered from this number on
 abbrev pub notdef_from : ℕ → List Entry → Option (ℕ × Entry)
@@ -101,7 +102,7 @@ notdef_of tree header (Some glyph) = drawn_of tree header glyph
 unfoldable pub glyphs_in : Tree → Header → List Entry → Result (List FlatGlyph) Refusal
 glyphs_in tree header index =
     notdef_of tree header (notdef_from 0 index) >>= λ notdef. followed_by (notdef ∷ [])
-        (all_drawn tree header (others_from 0 index))
+    (all_drawn tree header (others_from 0 index))
 
 -- that order
 abbrev pub order_in : List Entry → Glyphs
@@ -129,7 +130,7 @@ tables_with header measures glyf loca =
 abbrev pub tables_of : Header → List FlatGlyph → List Table
 tables_of header glyphs =
     tables_with header (measures_of header glyphs) (outlines.glyf_bytes (parts_of header glyphs))
-        (outlines.loca_bytes (parts_of header glyphs))
+    (outlines.loca_bytes (parts_of header glyphs))
 
 -- an answer, unless a length is too large, which is refused so
 abbrev pub unless_too_large : (ℕ → Refusal) → Option ℕ → Result (List ℕ) Refusal

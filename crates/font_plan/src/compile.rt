@@ -7,8 +7,8 @@ ghost use Rattle.glyphs_source.specs.HeaderReading.{IsReadHeader};
 ghost use Rattle.glyphs_source.specs.IndexReading.{AreNamed};
 ghost use Rattle.font_ir.specs.FlatGlyphs.{glyphs_of};
 ghost use Rattle.font_plan.specs.Drawn.{IsDrawn};
-ghost use Rattle.font_plan.specs.Font.{font_of, tree_font, too_many_glyphs, glyphs_font, written,
-    order_in};
+ghost use Rattle.font_plan.specs.Font.{font_of, tree_font, too_many_glyphs, glyphs_font, written};
+ghost use Rattle.font_plan.specs.Font.{order_in};
 
 use crate::glyphs::glyphs_in;
 use crate::order::order_in;

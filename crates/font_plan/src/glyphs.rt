@@ -1,15 +1,15 @@
 //! The glyphs of the font, read and drawn.
 
-ghost use Rattle.std.specs.Prelude.{◌≡◌, ◌<◌, ◌^◌, ◌++◌, ◌∷◌, [], length, map, Ok, IfOk, OnOk,
-    IfSome, slice_get, drop, false};
+ghost use Rattle.std.specs.Prelude.{◌≡◌, ◌<◌, ◌^◌, ◌++◌, ◌∷◌, [], length, map, Ok, IfOk, OnOk};
+ghost use Rattle.std.specs.Prelude.{IfSome, slice_get, drop, false};
 ghost use Rattle.std.specs.List.{All};
 ghost use Rattle.std.specs.Option.{option_map_or};
 ghost use Rattle.refusal_codes.specs.Gives.{Gives};
 ghost use Rattle.glyphs_source.specs.HeaderReading.{header_of, IsReadHeader};
 ghost use Rattle.font_ir.specs.FlatGlyphs.{glyphs_of};
 ghost use Rattle.font_plan.specs.Drawn.{IsDrawn};
-ghost use Rattle.font_plan.specs.Font.{drawn_of, all_drawn, followed_by, others_from, notdef_from,
-    notdef_of, glyphs_in};
+ghost use Rattle.font_plan.specs.Font.{drawn_of, all_drawn, followed_by, others_from, notdef_from};
+ghost use Rattle.font_plan.specs.Font.{notdef_of, glyphs_in};
 
 use crate::order::{entry_at, is_other, notdef_number};
 use component_flatten::flatten;
@@ -77,7 +77,7 @@ fn push_others(
     requires drawn { All (IsDrawn header.now) (glyphs_of glyphs.old.items) }
     ensures glyphs { Gives (λ _. glyphs_of glyphs.new.items) result
         (followed_by (glyphs_of glyphs.old.items)
-            (all_drawn tree.now header.now (others_from 0 index.now))) }
+        (all_drawn tree.now header.now (others_from 0 index.now))) }
     ensures drawn { OnOk result (All (IsDrawn header.now) (glyphs_of glyphs.new.items)) }
 {
     for number in 0..index.len() as u32 {
@@ -106,7 +106,7 @@ fn push_drawn(
     ensures glyphs { IfSome (slice_get index.now number)
         (λ entry. Gives (λ _. glyphs_of glyphs.new.items) result
         (followed_by (glyphs_of glyphs.old.items)
-            (all_drawn tree.now header.now ((number, entry) ∷ [])))) }
+        (all_drawn tree.now header.now ((number, entry) ∷ [])))) }
     ensures drawn { OnOk result (All (IsDrawn header.now) (glyphs_of glyphs.new.items)) }
 {
     let glyph = drawn(alloc, tree, header, index, number)?;

@@ -13,8 +13,8 @@ ghost use Rattle.metrics_tables.specs.Tables.{AreMeasures};
 ghost use Rattle.font_assembly.specs.File.{TagsRise, HasHead};
 ghost use Rattle.font_assembly.specs.Assembled as assembled;
 ghost use Rattle.font_plan.specs.Drawn.{IsDrawn};
-ghost use Rattle.font_plan.specs.Font.{written, filed, tables_with, parts_of, table_too_large,
-    font_too_large};
+ghost use Rattle.font_plan.specs.Font.{written, filed, tables_with, parts_of, table_too_large};
+ghost use Rattle.font_plan.specs.Font.{font_too_large};
 
 use font_assembly::assemble;
 use font_ir::{FlatGlyph, GlyphOrder, Header, Tag};

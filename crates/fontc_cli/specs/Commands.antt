@@ -3,8 +3,8 @@
 --     build IN OUT
 --
 -- A path is any word that doesn't begin with a hyphen.
-use Rattle.std.specs.Prelude.{ℕ, List, [], ◌∷◌, Bool, true, not, ◌==◌, ◌&&◌, Option, Some, None,
-    codes, nat_eq, if◌then◌else◌}
+use Rattle.std.specs.Prelude.{ℕ, List, [], ◌∷◌, Bool, true, not, ◌==◌, ◌&&◌, Option, Some, None}
+use Rattle.std.specs.Prelude.{codes, nat_eq, if◌then◌else◌}
 use Rattle.std.specs.Cmp.Lexicographic.{pointwise}
 
 -- `build IN OUT`: the path of the source, and that of the font

@@ -1,14 +1,14 @@
 -- How a run of a command ends, and what it leaves. fontc's own.
 use Rattle.std.specs.Prelude.{◌≡◌, ◌⊎◌, ℕ, List, take, Option, Some, None, Ok, Err, IfSome}
 use Rattle.outside_io.specs.Counts.{HasRisen, NoneRises}
-use Rattle.outside_io.specs.Files.{Holding, told_bytes, replaced_by, Leaves, LeavesOthers,
-    LeavesAll}
+use Rattle.outside_io.specs.Files.{Holding, told_bytes, replaced_by, Leaves, LeavesOthers}
+use Rattle.outside_io.specs.Files.{LeavesAll}
 use Rattle.refusal_codes.specs.declared.refusal.Refusal.{Refusal}
 use Rattle.font_plan.specs.Font.{font_of}
 use Rattle.fontc_cli.specs.Commands.{Build}
 use Rattle.fontc_cli.specs.declared.status.Status.{Status}
-use Rattle.fontc_cli.specs.declared.status.Status.TheVariants.{Done, Usage, Refused, ReadFault,
-    WriteFault, NoMemory}
+use Rattle.fontc_cli.specs.declared.status.Status.TheVariants.{Done, Usage, Refused, ReadFault}
+use Rattle.fontc_cli.specs.declared.status.Status.TheVariants.{WriteFault, NoMemory}
 
 -- these bytes are the font of what the source's path held, where the files tell it
 abbrev pub HoldsFontOf : Holding → List ℕ → Type 0
@@ -51,15 +51,19 @@ pub record Outside : Type 0 where
 abbrev pub outside : {D : Type 0} → (D → List ℕ → Holding) → (D → List ℕ → ℕ) → (D → List ℕ → ℕ) → D
     → Outside
 outside holds failed_reads failed_writes files
-    = record { holds = holds files; failed_reads = failed_reads files; failed_writes
-    = failed_writes files }
+    = record {
+      holds = holds files;
+      failed_reads = failed_reads files;
+      failed_writes
+          = failed_writes files;
+    }
 
 -- a fact on the outsides that files are before and after a run
 abbrev pub Between : {D : Type 0} → (Outside → Outside → Type 0) → (D → List ℕ → Holding)
     → (D → List ℕ → ℕ) → (D → List ℕ → ℕ) → D → D → Type 0
 Between fact holds failed_reads failed_writes old new =
     fact (outside holds failed_reads failed_writes old)
-        (outside holds failed_reads failed_writes new)
+    (outside holds failed_reads failed_writes new)
 
 -- no path has changed, each is as far told as before, and no read and no write has failed
 pub record IsUntouched (old new : Outside) : Type 0 where
@@ -73,11 +77,11 @@ abbrev pub BuildEnds : Build → Status → Outside → Outside → Type 0
 BuildEnds command Usage old new = ⊥
 BuildEnds command Done old new =
     IsBuilt command old.holds new.holds × NoneRises old.failed_reads new.failed_reads
-        × NoneRises old.failed_writes new.failed_writes
+    × NoneRises old.failed_writes new.failed_writes
 BuildEnds command (Refused r) old new = IsUntouched old new × IsRefused (old.holds command.source) r
 BuildEnds command ReadFault old new =
     LeavesAll old.holds new.holds × HasRisen (old.failed_reads command.source)
-        (new.failed_reads command.source)
+    (new.failed_reads command.source)
     × NoneRises old.failed_writes new.failed_writes
 BuildEnds command WriteFault old new =
     IsPartlyBuilt command old.holds new.holds × NoneRises old.failed_reads new.failed_reads

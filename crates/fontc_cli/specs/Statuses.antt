@@ -4,8 +4,8 @@ use Rattle.std.specs.Prelude.{◌≡◌, ℕ}
 use Rattle.std.specs.Process.{exit_status}
 use Rattle.std.specs.declared.process.ExitCode.{ExitCode}
 use Rattle.fontc_cli.specs.declared.status.Status.{Status}
-use Rattle.fontc_cli.specs.declared.status.Status.TheVariants.{Done, Usage, Refused, ReadFault,
-    WriteFault, NoMemory}
+use Rattle.fontc_cli.specs.declared.status.Status.TheVariants.{Done, Usage, Refused, ReadFault}
+use Rattle.fontc_cli.specs.declared.status.Status.TheVariants.{WriteFault, NoMemory}
 
 abbrev pub exit_code : Status → ℕ
 exit_code Done = 0

@@ -1,11 +1,10 @@
 -- Kept components, written one after another.
-use Rattle.std.proofs.Common.{◌≡◌, ℕ, zero, suc, ◌+◌, ◌<◌, ◌≤◌, Bool, true, false, List, [], ◌∷◌,
-    ◌++◌, length, get_or,
-    drop, refl, sym, subst, arith}
+use Rattle.std.proofs.Common.{◌≡◌, ℕ, zero, suc, ◌+◌, ◌<◌, ◌≤◌, Bool, true, false, List, [], ◌∷◌}
+use Rattle.std.proofs.Common.{◌++◌, length, get_or, drop, refl, sym, subst, arith}
 use Rattle.std.proofs.lemmas.List.{append-nil}
 use Rattle.font_ir.specs.declared.glyph.Kept.{Kept}
-use Rattle.glyf_writer.specs.CompositeData.{component_bytes, components_bytes, component_at,
-    components_at}
+use Rattle.glyf_writer.specs.CompositeData.{component_bytes, components_bytes, component_at}
+use Rattle.glyf_writer.specs.CompositeData.{components_at}
 
 -- what is written of the components from the i-th on
 abbrev pub written_from : ℕ → List Kept → List ℕ → ℕ → List ℕ
@@ -34,7 +33,7 @@ at_first place (kept ∷ next ∷ others) (gid ∷ following ∷ gids) zero k g 
     none = let one = none refl in absurd (omega arith)
 at_first place (kept ∷ others) (gid ∷ gids) (suc i) k g more same within some none =
     at_first place others gids i k g more (omega arith) (omega arith)
-        (λ e. let more = some e in omega arith) (λ e. let few = none e in omega arith)
+    (λ e. let more = some e in omega arith) (λ e. let few = none e in omega arith)
 
 pub written_more : (place : ℕ) (kept : List Kept) (gids : List ℕ) (i : ℕ) (k : Kept) (g : ℕ)
     (more : Bool) → length gids ≡ length kept → i < length kept
@@ -45,7 +44,7 @@ pub written_more : (place : ℕ) (kept : List Kept) (gids : List ℕ) (i : ℕ) 
 written_more place kept gids i k g more same within some none =
     let next : suc i ≡ i + 1 = omega arith in
     subst (λ n. written_from place kept gids i
-        ≡ component_bytes more (component_at place (get_or kept i k) (get_or gids i g))
-        ++ written_from place kept gids n) next
+    ≡ component_bytes more (component_at place (get_or kept i k) (get_or gids i g))
+    ++ written_from place kept gids n) next
     (at_first place kept gids i k g more same within
-        (λ e. let more = some e in omega arith) (λ e. let few = none e in omega arith))
+    (λ e. let more = some e in omega arith) (λ e. let few = none e in omega arith))

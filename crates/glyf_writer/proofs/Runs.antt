@@ -1,13 +1,14 @@
 -- Taking a run of equal flags off the front takes its bytes off the front.
-use Rattle.std.proofs.Common.{◌≡◌, ◌≢◌, ℕ, zero, suc, ◌+◌, ◌-◌, ◌/◌, ◌%◌, ◌<◌, ◌≤◌, Bool, true,
-    false, cond, List, [], ◌∷◌, ◌++◌, length, get_or, take, drop, replicate, eqb, nat_lt, refl, ap,
-    sym, ◌∙◌, arith, append_assoc, length-drop}
+use Rattle.std.proofs.Common.{◌≡◌, ◌≢◌, ℕ, zero, suc, ◌+◌, ◌-◌, ◌/◌, ◌%◌, ◌<◌, ◌≤◌, Bool, true}
+use Rattle.std.proofs.Common.{false, cond, List, [], ◌∷◌, ◌++◌, length, get_or, take, drop}
+use Rattle.std.proofs.Common.{replicate, eqb, nat_lt, refl, ap, sym, ◌∙◌, arith, append_assoc}
+use Rattle.std.proofs.Common.{length-drop}
 use Rattle.std.proofs.lemmas.List.{take-append-drop, get_or-drop, take_all}
 use Rattle.std.specs.List.{flat_map}
 use Rattle.std.proofs.lemmas.Bool.{eqb-true, eq-eqb}
 use Rattle.std.proofs.lemmas.Bool.Decides.{nat_tests}
-use Rattle.glyf_writer.specs.GlyphData.{onto_runs, longest_runs, cut_at_256, flag_bytes,
-    with_repeats}
+use Rattle.glyf_writer.specs.GlyphData.{onto_runs, longest_runs, cut_at_256, flag_bytes}
+use Rattle.glyf_writer.specs.GlyphData.{with_repeats}
 
 abbrev Runs : Type 0
 Runs = List (ℕ × ℕ)
@@ -58,7 +59,7 @@ short_piece x n some few =
     let r : n % 256 ≡ n = omega arith in
     let t : eqb n 0 ≡ false = grind (arith, nat_tests) in
     ap (λ k. flat_map flag_bytes (replicate k (x, 256)
-        ++ cond (eqb (n % 256) 0) [] ((x, n % 256) ∷ []))) q
+    ++ cond (eqb (n % 256) 0) [] ((x, n % 256) ∷ []))) q
     ∙ ap (λ k. flat_map flag_bytes (cond (eqb k 0) [] ((x, k) ∷ []))) r
     ∙ ap (λ b. flat_map flag_bytes (cond b [] ((x, n) ∷ []))) t
     ∙ append-none (flag_bytes (x, n))
@@ -69,9 +70,9 @@ long_piece x n =
     let q : (n + 256) / 256 ≡ suc (n / 256) = omega arith in
     let r : (n + 256) % 256 ≡ n % 256 = omega arith in
     ap (λ k. flat_map flag_bytes (replicate k (x, 256)
-        ++ cond (eqb ((n + 256) % 256) 0) [] ((x, (n + 256) % 256) ∷ []))) q
+    ++ cond (eqb ((n + 256) % 256) 0) [] ((x, (n + 256) % 256) ∷ []))) q
     ∙ ap (λ k. flag_bytes (x, 256) ++ flat_map flag_bytes
-        (replicate (n / 256) (x, 256) ++ cond (eqb k 0) [] ((x, k) ∷ []))) r
+    (replicate (n / 256) (x, 256) ++ cond (eqb k 0) [] ((x, k) ∷ []))) r
 
 -- what begins with another flag begins with another run
 abbrev BeginsElse : ℕ → Runs → Type 0
@@ -109,7 +110,7 @@ join-long x (run ∷ runs) = by (eqb x run.0) refl
         ap (λ bytes. bytes ++ runs_bytes runs) (long_piece x run.1)
         ∙ append_assoc (flag_bytes (x, 256)) (run_bytes (x, run.1)) (runs_bytes runs)
         ∙ ap (λ y. flag_bytes (x, 256) ++ (run_bytes (y, run.1) ++ runs_bytes runs))
-            (eqb-true x run.0 e)
+        (eqb-true x run.0 e)
     by false e = refl
 
 long_front : (x : ℕ) (rest : List ℕ) → with_repeats (replicate 256 x ++ rest)
@@ -121,7 +122,7 @@ short_front : (x n : ℕ) (rest : List ℕ) → suc n < 256 → (0 < length rest
 short_front x n rest few else =
     let one_more : n + 1 ≡ suc n = omega arith in
     ap runs_bytes (runs-replicate x n rest
-        ∙ join-else x (n + 1) (longest_runs rest) (begins_else x rest else))
+    ∙ join-else x (n + 1) (longest_runs rest) (begins_else x rest else))
     ∙ ap (λ m. run_bytes (x, m) ++ with_repeats rest) one_more
     ∙ ap (λ bytes. bytes ++ with_repeats rest) (short_piece x (suc n) (omega arith) few)
 
@@ -139,7 +140,7 @@ front x (suc n) rest some few else = by (nat_lt (suc n) 256) refl
     by false e =
         let full : suc n ≡ 256 = grind (arith, nat_tests) in
         ap (λ m. with_repeats (replicate m x ++ rest)) full ∙ long_front x rest
-            ∙ ap (λ m. flag_bytes (x, m) ++ with_repeats rest) (sym full)
+        ∙ ap (λ m. flag_bytes (x, m) ++ with_repeats rest) (sym full)
 
 -- the same of flags whose first n are equal
 pub front_of : (flags : List ℕ) (n : ℕ) → 0 < n → n ≤ 256
@@ -150,11 +151,11 @@ front_of flags n some few equal longest =
     let x : ℕ = get_or flags 0 0 in
     let rest : List ℕ = drop n flags in
     let here : get_or rest 0 0 ≡ get_or flags n 0 = get_or-drop n flags 0 0
-        ∙ ap (λ k. get_or flags k 0) (omega arith) in
+    ∙ ap (λ k. get_or flags k 0) (omega arith) in
     let else : n < 256 → 0 < length rest → get_or rest 0 0 ≢ x
-        = λ short more same. longest short (omega (arith, length-drop n flags)) (sym here ∙ same) in
+    = λ short more same. longest short (omega (arith, length-drop n flags)) (sym here ∙ same) in
     ap with_repeats (sym (take-append-drop n flags) ∙ ap (λ run. run ++ rest) equal)
-        ∙ front x n rest some few else
+    ∙ front x n rest some few else
 
 -- a slice to the end is what is left
 pub take_whole : (n : ℕ) (xs : List ℕ) → take (length xs - n) (drop n xs) ≡ drop n xs

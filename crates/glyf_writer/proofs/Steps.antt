@@ -1,7 +1,7 @@
 -- One step of the loops that write a list from its front.
-use Rattle.std.proofs.Common.{◌≡◌, ℕ, ◌+◌, ◌-◌, ◌<◌, ◌≤◌, ℤ, ◌-ℤ◌, ◌*◌, min, Some, None, nat_lt,
-    false, cond, List, [], ◌∷◌, ◌++◌, length, map, get_or, drop, refl, ap, sym, ◌∙◌, arith,
-    append_assoc, length-append}
+use Rattle.std.proofs.Common.{◌≡◌, ℕ, ◌+◌, ◌-◌, ◌<◌, ◌≤◌, ℤ, ◌-ℤ◌, ◌*◌, min, Some, None, nat_lt}
+use Rattle.std.proofs.Common.{false, cond, List, [], ◌∷◌, ◌++◌, length, map, get_or, drop, refl, ap}
+use Rattle.std.proofs.Common.{sym, ◌∙◌, arith, append_assoc, length-append}
 use Rattle.std.specs.List.{flat_map, concat, sum_by}
 use Rattle.std.specs.Int.{w16, cast_signed, cast_unsigned}
 use Rattle.std.proofs.lemmas.List.{at_drop_more, length-map}
@@ -39,17 +39,17 @@ pub end_step : {C : Type 0} (size : C → ℕ) (contours : List C) (i : ℕ) (it
 end_step {C} size contours i item old new all count n lt is sized some e told =
     let rest : List ℕ = map size (drop (i + 1) contours) in
     let F : List C → List ℕ = λ cs. flat_map uint16
-        (map (λ end. count + end) (end_points (map size cs))) in
+    (map (λ end. count + end) (end_points (map size cs))) in
     let last : count + n - 1 ≡ count + (n - 1) = omega arith in
     let first : size (get_or contours i item) ≡ n = ap size (sym is) ∙ sym sized in
     ap (λ written. written ++ flat_map uint16 (map (λ end. (count + n) + end) (end_points rest)))
-        (e ∙ ap (λ m. old ++ uint16 m) last)
+    (e ∙ ap (λ m. old ++ uint16 m) last)
     ∙ append_assoc old (uint16 (count + (n - 1)))
-        (flat_map uint16 (map (λ end. (count + n) + end) (end_points rest)))
+    (flat_map uint16 (map (λ end. (count + n) + end) (end_points rest)))
     ∙ ap (λ ms. old ++ (uint16 (count + (n - 1)) ++ flat_map uint16 ms))
-        (sym (shift_shift count n (end_points rest)))
+    (sym (shift_shift count n (end_points rest)))
     ∙ ap (λ m. old ++ flat_map uint16 (map (λ end. count + end) (end_points (m ∷ rest))))
-        (sym first)
+    (sym first)
     ∙ ap (λ more. old ++ more) (sym (at_drop_more F contours i item lt))
     ∙ told
 
@@ -63,17 +63,17 @@ pub offset_step : {P : Type 0} (bytes_of : P → List ℕ) (parts : List P) (i :
 offset_step {P} bytes_of parts i item old new all offset n lt is sized e told =
     let rest : List ℕ = offsets (map bytes_of (drop (i + 1) parts)) in
     let F : List P → List ℕ = λ ps. flat_map uint32
-        (map (λ o. offset + o) (offsets (map bytes_of ps))) in
+    (map (λ o. offset + o) (offsets (map bytes_of ps))) in
     let here : offset ≡ offset + 0 = omega arith in
     let first : length (bytes_of (get_or parts i item)) ≡ n = ap (λ p. length (bytes_of p)) (sym is)
-        ∙ sym sized in
+    ∙ sym sized in
     ap (λ written. written ++ flat_map uint32 (map (λ o. (offset + n) + o) rest))
-        (e ∙ ap (λ m. old ++ uint32 m) here)
+    (e ∙ ap (λ m. old ++ uint32 m) here)
     ∙ append_assoc old (uint32 (offset + 0)) (flat_map uint32 (map (λ o. (offset + n) + o) rest))
     ∙ ap (λ ms. old ++ (uint32 (offset + 0) ++ flat_map uint32 ms))
-        (sym (shift_shift offset n rest))
+    (sym (shift_shift offset n rest))
     ∙ ap (λ m. old ++ (uint32 (offset + 0)
-        ++ flat_map uint32 (map (λ o. offset + o) (map (λ o. m + o) rest)))) (sym first)
+    ++ flat_map uint32 (map (λ o. offset + o) (map (λ o. m + o) rest)))) (sym first)
     ∙ ap (λ more. old ++ more) (sym (at_drop_more F parts i item lt))
     ∙ told
 
@@ -82,8 +82,8 @@ pub count_step : {C : Type 0} (size : C → ℕ) (contours : List C) (i : ℕ) (
     → sum_by size (drop i contours) ≡ size item + sum_by size (drop (i + 1) contours)
 count_step size contours i item lt is =
     at_drop_more (sum_by size) contours i item lt
-        ∙ sum_by-cons size (get_or contours i item) (drop (i + 1) contours)
-        ∙ ap (λ c. size c + sum_by size (drop (i + 1) contours)) (sym is)
+    ∙ sum_by-cons size (get_or contours i item) (drop (i + 1) contours)
+    ∙ ap (λ c. size c + sum_by size (drop (i + 1) contours)) (sym is)
 
 pub total_step : {P : Type 0} (bytes_of : P → List ℕ) (parts : List P) (i : ℕ) (item : P)
     → i < length parts → item ≡ get_or parts i item
@@ -97,26 +97,38 @@ total_step bytes_of parts i item lt is =
 -- how a point lies to the one before it, before the steps of the points after it
 pub step_step : (points : List StoredPoint) (i : ℕ) (d : StoredPoint) (old new all : List Step)
     (x y : ℤ) → i < length points → new ≡ old
-    ++ (record { dx = (get_or points i d).x -ℤ x; dy = (get_or points i d).y -ℤ y; on
-    = (get_or points i d).on }) ∷ [] → old ++ steps_from x y (drop i points) ≡ all
+    ++ (record {
+      dx = (get_or points i d).x -ℤ x;
+      dy = (get_or points i d).y -ℤ y;
+      on
+          = (get_or points i d).on;
+    }) ∷ [] → old ++ steps_from x y (drop i points) ≡ all
     → new ++ steps_from (get_or points i d).x (get_or points i d).y (drop (i + 1) points) ≡ all
 step_step points i d old new all x y lt e told =
     let point : StoredPoint = get_or points i d in
     ap (λ written. written ++ steps_from point.x point.y (drop (i + 1) points)) e
     ∙ append_assoc old (record { dx = point.x -ℤ x; dy = point.y -ℤ y; on = point.on } ∷ [])
-        (steps_from point.x point.y (drop (i + 1) points))
+    (steps_from point.x point.y (drop (i + 1) points))
     ∙ ap (λ more. old ++ more) (sym (at_drop_more (steps_from x y) points i d lt))
     ∙ told
 
 length_flat4 : (ns : List ℕ) → length (flat_map uint32 ns) ≡ 4 * length ns
 length_flat4 [] = refl
-length_flat4 (n ∷ ns) = omega (arith, length_flat4 ns, length-append (uint32 n)
-    (flat_map uint32 ns))
+length_flat4 (n ∷ ns) = omega (
+  arith,
+  length_flat4 ns,
+  length-append (uint32 n)
+      (flat_map uint32 ns),
+)
 
 length_offsets : (parts : List (List ℕ)) → length (offsets parts) ≡ length parts + 1
 length_offsets [] = refl
-length_offsets (part ∷ parts) = omega (arith, length_offsets parts, length-map (offsets parts)
-    (λ offset. length part + offset))
+length_offsets (part ∷ parts) = omega (
+  arith,
+  length_offsets parts,
+  length-map (offsets parts)
+      (λ offset. length part + offset),
+)
 
 -- "loca" has an offset more than there are parts
 pub length_loca : (parts : List (List ℕ)) → length (loca_bytes parts) ≡ 4 * (length parts + 1)
@@ -129,9 +141,9 @@ pub loca_over : (parts : List (List ℕ)) (n m : ℕ)
 loca_over parts n m e few f many =
     let short : nat_lt 4294967295 (length (concat parts)) ≡ false = grind (arith, nat_tests) in
     ap (λ b. cond b (over_limit (length (concat parts))) (over_limit (length (loca_bytes parts))))
-        short
+    short
     ∙ is_over (length (loca_bytes parts)) m
-        (f ∙ ap (λ k. min k 18446744073709551615) (sym (length_loca parts))) many
+    (f ∙ ap (λ k. min k 18446744073709551615) (sym (length_loca parts))) many
 
 pub none_over : (parts : List (List ℕ)) (n m : ℕ)
     → n ≡ min (length (concat parts)) 18446744073709551615 → n ≤ 4294967295
@@ -140,9 +152,9 @@ pub none_over : (parts : List (List ℕ)) (n m : ℕ)
 none_over parts n m e few f less =
     let short : nat_lt 4294967295 (length (concat parts)) ≡ false = grind (arith, nat_tests) in
     ap (λ b. cond b (over_limit (length (concat parts))) (over_limit (length (loca_bytes parts))))
-        short
+    short
     ∙ is_within (length (loca_bytes parts)) m
-        (f ∙ ap (λ k. min k 18446744073709551615) (sym (length_loca parts))) less
+    (f ∙ ap (λ k. min k 18446744073709551615) (sym (length_loca parts))) less
 
 -- an int16 holds a small number, and the difference of two
 pub kept : (z : ℤ) → IsSmall z → cast_signed w16 (cast_unsigned w16 z) ≡ z

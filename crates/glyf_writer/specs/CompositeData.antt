@@ -1,7 +1,7 @@
 -- The bytes of a composite glyph (OpenType 1.9, "glyf", "Glyph Headers" and "Composite Glyph
 -- Description"). Each component stands by its offset alone, in words; the padding is fontc's own.
-use Rattle.std.specs.Prelude.{ℕ, ℤ, pos, neg_ℤ, Bool, true, false, List, [], ◌∷◌, ◌++◌,
-    slice_index_or, unwrap_or, if◌then◌else◌}
+use Rattle.std.specs.Prelude.{ℕ, ℤ, pos, neg_ℤ, Bool, true, false, List, [], ◌∷◌, ◌++◌}
+use Rattle.std.specs.Prelude.{slice_index_or, unwrap_or, if◌then◌else◌}
 use Rattle.font_ir.specs.declared.glyph.FlatGlyph.{FlatGlyph}
 use Rattle.font_ir.specs.declared.glyph.Kept.{Kept}
 use Rattle.font_ir.specs.declared.outline.StoredPoint.{StoredPoint}

@@ -2,8 +2,8 @@
 -- Description"). Which of the many spellings of an outline is written, and the padding, are fontc's
 -- own: each coordinate takes as few bytes as it can, and each run of equal flags is written as a
 -- repeat.
-use Rattle.std.specs.Prelude.{ℕ, ◌+◌, ◌-◌, ◌/◌, ◌%◌, ℤ, pos, Bool, List, [], ◌∷◌, ◌++◌, map, length,
-    replicate, nat_lt, ◌==◌, if◌then◌else◌, unsigned_abs, int_lt, bit_or}
+use Rattle.std.specs.Prelude.{ℕ, ◌+◌, ◌-◌, ◌/◌, ◌%◌, ℤ, pos, Bool, List, [], ◌∷◌, ◌++◌, map, length}
+use Rattle.std.specs.Prelude.{replicate, nat_lt, ◌==◌, if◌then◌else◌, unsigned_abs, int_lt, bit_or}
 use Rattle.std.specs.List.{flat_map}
 use Rattle.font_ir.specs.declared.outline.StoredPoint.{StoredPoint}
 use Rattle.table_bytes.specs.DataTypes.{uint16, int16, padded}
@@ -19,7 +19,7 @@ use Rattle.glyf_writer.specs.Outlines.{steps_of, end_points}
 abbrev pub coordinate_flag : ℕ → ℕ → ℤ → ℕ
 coordinate_flag short same z =
     if unsigned_abs z == 0 then same else (if nat_lt 255 (unsigned_abs z) then 0 else
-        (if int_lt z (pos 0) then short else bit_or short same))
+    (if int_lt z (pos 0) then short else bit_or short same))
 
 -- bit 0: on the curve; bits 1 and 4: short and same of x; bits 2 and 5: those of y
 abbrev pub flag_of : Step → ℕ
@@ -63,7 +63,7 @@ with_repeats flags = flat_map (λ run. flat_map flag_bytes (cut_at_256 run)) (lo
 abbrev pub coordinate_bytes : ℤ → List ℕ
 coordinate_bytes z =
     if unsigned_abs z == 0 then [] else (if nat_lt 255 (unsigned_abs z) then int16 z else
-        unsigned_abs z ∷ [])
+    unsigned_abs z ∷ [])
 
 -- ---- the whole
 

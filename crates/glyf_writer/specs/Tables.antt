@@ -22,4 +22,4 @@ loca_bytes parts = flat_map uint32 (offsets parts)
 abbrev pub too_large : List (List ℕ) → Option ℕ
 too_large parts =
     if nat_lt 4294967295 (length (glyf_bytes parts)) then over_limit (length (glyf_bytes parts))
-        else over_limit (length (loca_bytes parts))
+    else over_limit (length (loca_bytes parts))

@@ -1,8 +1,8 @@
 ghost use Rattle.std.specs.Prelude.{◌≡◌, ◌<◌, ◌++◌, length, IfOk, OnOk};
 ghost use Rattle.std.specs.List.{All};
 ghost use Rattle.font_ir.specs.FlatGlyphs.{IsFlatGlyph};
-ghost use Rattle.glyf_writer.specs.CompositeData.{component_bytes, components_bytes,
-    components_at, composite_data};
+ghost use Rattle.glyf_writer.specs.CompositeData.{component_bytes, components_bytes, components_at};
+ghost use Rattle.glyf_writer.specs.CompositeData.{composite_data};
 
 use crate::bytes::{pad, push_bounds};
 use font_ir::{FlatGlyph, Kept, bounds_of};

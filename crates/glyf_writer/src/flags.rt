@@ -1,7 +1,7 @@
-ghost use Rattle.std.specs.Prelude.{◌≡◌, ◌<◌, ◌≤◌, ◌++◌, ◌≢◌, ℕ, length, map, take, replicate,
-    slice_index, IfOk, OnOk};
-ghost use Rattle.glyf_writer.specs.GlyphData.{coordinate_flag, flag_of, flags_of, flag_bytes,
-    with_repeats};
+ghost use Rattle.std.specs.Prelude.{◌≡◌, ◌<◌, ◌≤◌, ◌++◌, ◌≢◌, ℕ, length, map, take, replicate};
+ghost use Rattle.std.specs.Prelude.{slice_index, IfOk, OnOk};
+ghost use Rattle.glyf_writer.specs.GlyphData.{coordinate_flag, flag_of, flags_of, flag_bytes};
+ghost use Rattle.glyf_writer.specs.GlyphData.{with_repeats};
 
 use crate::outline::Step;
 use refusal_codes::NoMemory;

@@ -23,9 +23,11 @@ const LONGEST_TABLE: u64 = 4_294_967_295;
 /// only where neither is.
 pub fn glyf_loca(alloc: Global, parts: &[Arc<Vec<u8>>]) -> Result<(Vec<u8>, Vec<u8>), TableError>
     ensures { Builds {Y = List ℕ × List ℕ} (λ tables. (tables.0.items, tables.1.items)) result
-        (too_large (map (λ part. part.value.items) parts.now))
-        (glyf_bytes (map (λ part. part.value.items) parts.now), loca_bytes
-            (map (λ part. part.value.items) parts.now)) }
+        (too_large (map (λ part. part.value.items) parts.now)) (
+          glyf_bytes (map (λ part. part.value.items) parts.now),
+          loca_bytes
+              (map (λ part. part.value.items) parts.now),
+        ) }
 {
     let glyf_length = total_length(parts);
     if glyf_length > LONGEST_TABLE {

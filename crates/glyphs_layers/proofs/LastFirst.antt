@@ -1,6 +1,6 @@
 -- Turning a list by one item to the right puts the last item first.
-use Rattle.std.proofs.Common.{◌≡◌, ℕ, zero, suc, ◌+◌, ◌-◌, ◌<◌, List, [], ◌∷◌, ◌++◌, length, take,
-    drop, refl, sym, ap, ◌∙◌, arith}
+use Rattle.std.proofs.Common.{◌≡◌, ℕ, zero, suc, ◌+◌, ◌-◌, ◌<◌, List, [], ◌∷◌, ◌++◌, length, take}
+use Rattle.std.proofs.Common.{drop, refl, sym, ap, ◌∙◌, arith}
 use Rattle.std.proofs.lemmas.List.{length-append, length-drop, length-take}
 use Rattle.std.proofs.Math.Seq.{take-append_seam}
 use Rattle.font_ir.specs.declared.glyph.DrawnPoint.{DrawnPoint}

@@ -1,6 +1,6 @@
 -- What the tables of a glyph's layers say of single rules.
-use Rattle.std.proofs.Common.{inl, inr, ◌≡◌, ◌⊎◌, ℕ, Bool, true, false, not, List, [], Some, refl,
-    sym, ap, true≢false}
+use Rattle.std.proofs.Common.{inl, inr, ◌≡◌, ◌⊎◌, ℕ, Bool, true, false, not, List, [], Some, refl}
+use Rattle.std.proofs.Common.{sym, ap, true≢false}
 use Rattle.std.specs.Prelude.{codes}
 use Rattle.plist_reader.specs.declared.tree.Tree.{Tree}
 use Rattle.font_ir.specs.declared.header.Master.{Master}
@@ -10,10 +10,11 @@ use Rattle.refusal_codes.specs.declared.first.Failure.{Failure}
 use Rattle.source_values.specs.Ways.{IsOneOf, Step, Row, FailsRow, rows_of, has}
 use Rattle.source_values.specs.WayLaws.{to_rule, of_rule}
 use Rattle.glyphs_layers.specs.LayerRules.{layer_numbers, layer_of}
-use Rattle.glyphs_layers.specs.LayerTables.{is_cubic_node, is_no_cubic_node, is_open, is_not_open,
-    is_no_component, has_no_width, to_others, to_paths, to_nodes, layer_table, entries_table,
-    FailsInLayers, LayersAreTabled, IsInALayer, CubicNodesAreRefused, OpenContoursAreRefused,
-    MissingKeysAreRefused}
+use Rattle.glyphs_layers.specs.LayerTables.{is_cubic_node, is_no_cubic_node, is_open, is_not_open}
+use Rattle.glyphs_layers.specs.LayerTables.{is_no_component, has_no_width, to_others, to_paths}
+use Rattle.glyphs_layers.specs.LayerTables.{to_nodes, layer_table, entries_table, FailsInLayers}
+use Rattle.glyphs_layers.specs.LayerTables.{LayersAreTabled, IsInALayer, CubicNodesAreRefused}
+use Rattle.glyphs_layers.specs.LayerTables.{OpenContoursAreRefused, MissingKeysAreRefused}
 use Rattle.glyphs_layers.proofs.LayerTableLaws.{from_layers, to_layers}
 
 module _ (t : Tree) (masters : List Master) (glyph : ℕ) (rule : Rule) (place : ℕ) where

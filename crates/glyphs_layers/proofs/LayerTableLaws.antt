@@ -1,14 +1,15 @@
 -- The tables tell what a glyph's layers fail.
-use Rattle.std.proofs.Common.{inl, inr, ◌≡◌, ◌⊎◌, ◌==◌, ℕ, Bool, true, false, not, ◌&&◌, ◌||◌, cond,
-    List, [], ◌∷◌, ◌++◌, Option, Some, None, is_some, refl, sym, ap, ◌∙◌, subst, true≢false, arith}
+use Rattle.std.proofs.Common.{inl, inr, ◌≡◌, ◌⊎◌, ◌==◌, ℕ, Bool, true, false, not, ◌&&◌, ◌||◌, cond}
+use Rattle.std.proofs.Common.{List, [], ◌∷◌, ◌++◌, Option, Some, None, is_some, refl, sym, ap, ◌∙◌}
+use Rattle.std.proofs.Common.{subst, true≢false, arith}
 use Rattle.std.specs.Prelude.{codes, slice_index, flat_map, option_and_then}
 use Rattle.std.specs.Option.{option_map_or}
 use Rattle.std.specs.Cmp.Lexicographic.{bytes_decides}
 use Rattle.plist_reader.specs.declared.tree.Tree.{Tree}
 use Rattle.plist_reader.specs.Tree.{find_in, spells, text_at}
 use Rattle.font_ir.specs.declared.header.Master.{Master}
-use Rattle.refusal_codes.specs.declared.rule.Rule.TheVariants.{WrongShape, MissingKey, NotWhole,
-    CubicNode, OpenContour}
+use Rattle.refusal_codes.specs.declared.rule.Rule.TheVariants.{WrongShape, MissingKey, NotWhole}
+use Rattle.refusal_codes.specs.declared.rule.Rule.TheVariants.{CubicNode, OpenContour}
 use Rattle.refusal_codes.specs.declared.first.Failure.{Failure}
 use Rattle.source_values.specs.declared.decimals.Decimal.{Decimal}
 use Rattle.source_values.specs.declared.kinds.Range.TheVariants.{Natural, Coordinate}
@@ -18,16 +19,20 @@ use Rattle.source_values.specs.Asking.{fails, whole_failures, under_by, optional
 use Rattle.source_values.specs.Ways.{IsOneOf, Fails, has}
 use Rattle.source_values.specs.WayLaws.{among_left, among_right, among_cases, never}
 use Rattle.source_values.specs.Tables.{decimal_table, text_table, optional_table, each_table}
-use Rattle.source_values.specs.Telling.{Told, whole, text, no_items, tried, measured, rewritten,
-    also, must, can, every, within, checked, choice, at_place, placed, of_several, to_several}
-use Rattle.glyphs_layers.specs.LayerRules.{is_node, is_line, is_cubic, is_quadratic, type_failures,
-    node_parts_failures, node_failures_by, node_failures, nodes_failures, closed_failures_by,
-    closed_failures, other_shape_failures, shape_failures_by, shape_parts_failures, shape_failures,
-    shapes_failures, layer_failures, entry_failures, entries_failures, layer_numbers, layer_of,
-    master_failures, glyph_failures}
-use Rattle.glyphs_layers.specs.LayerTables.{is_node_value, is_no_cubic_node, is_no_quadratic_node,
-    is_type, node_table, is_zero, is_not_open, path_table, is_no_component, other_table,
-    shape_parts_table, shape_table, layer_table, entries_table, FailsInLayers}
+use Rattle.source_values.specs.Telling.{Told, whole, text, no_items, tried, measured, rewritten}
+use Rattle.source_values.specs.Telling.{also, must, can, every, within, checked, choice, at_place}
+use Rattle.source_values.specs.Telling.{placed, of_several, to_several}
+use Rattle.glyphs_layers.specs.LayerRules.{is_node, is_line, is_cubic, is_quadratic, type_failures}
+use Rattle.glyphs_layers.specs.LayerRules.{node_parts_failures, node_failures_by, node_failures}
+use Rattle.glyphs_layers.specs.LayerRules.{nodes_failures, closed_failures_by, closed_failures}
+use Rattle.glyphs_layers.specs.LayerRules.{other_shape_failures, shape_failures_by}
+use Rattle.glyphs_layers.specs.LayerRules.{shape_parts_failures, shape_failures, shapes_failures}
+use Rattle.glyphs_layers.specs.LayerRules.{layer_failures, entry_failures, entries_failures}
+use Rattle.glyphs_layers.specs.LayerRules.{layer_numbers, layer_of, master_failures, glyph_failures}
+use Rattle.glyphs_layers.specs.LayerTables.{is_node_value, is_no_cubic_node, is_no_quadratic_node}
+use Rattle.glyphs_layers.specs.LayerTables.{is_type, node_table, is_zero, is_not_open, path_table}
+use Rattle.glyphs_layers.specs.LayerTables.{is_no_component, other_table, shape_parts_table}
+use Rattle.glyphs_layers.specs.LayerTables.{shape_table, layer_table, entries_table, FailsInLayers}
 
 -- ---- types of nodes: a text is of one kind
 

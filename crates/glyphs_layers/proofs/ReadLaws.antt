@@ -1,9 +1,9 @@
 -- What holds of each glyph whose layers are read: the limits that the readers above rely on.
-use Rattle.std.proofs.Common.{◌≡◌, ℕ, ◌<◌, ◌≤◌, Bool, true, false, ◌&&◌, List, [], ◌∷◌, ◌++◌,
-    length, map, Option, Some, None, Result, Ok, Err, suc, not, ltb, cond, refl, sym, ap, ◌∙◌, ◌^◌,
-    subst, arith, lit<}
-use Rattle.std.specs.Prelude.{◌*◌, codes, is_some, flat_map, pos, neg_ℤ, ◌≤ℤ◌, if◌then◌else◌, ◌==◌,
-    slice_index, IfOk}
+use Rattle.std.proofs.Common.{◌≡◌, ℕ, ◌<◌, ◌≤◌, Bool, true, false, ◌&&◌, List, [], ◌∷◌, ◌++◌}
+use Rattle.std.proofs.Common.{length, map, Option, Some, None, Result, Ok, Err, suc, not, ltb, cond}
+use Rattle.std.proofs.Common.{refl, sym, ap, ◌∙◌, ◌^◌, subst, arith, lit<}
+use Rattle.std.specs.Prelude.{◌*◌, codes, is_some, flat_map, pos, neg_ℤ, ◌≤ℤ◌, if◌then◌else◌, ◌==◌}
+use Rattle.std.specs.Prelude.{slice_index, IfOk}
 use Rattle.std.specs.List.{All, AllByRecursion, count_by, list_all}
 use Rattle.std.specs.Option.{option_map_or}
 use Rattle.std.proofs.lemmas.List.Elements.{All-from_recursion, All-nil}
@@ -21,8 +21,8 @@ use Rattle.font_ir.specs.declared.glyph.LayerIr.{LayerIr}
 use Rattle.font_ir.specs.declared.glyph.GlyphIr.{GlyphIr}
 use Rattle.font_ir.specs.PlaceLaws.{origin_alone}
 use Rattle.font_ir.specs.FlatGlyphs.{IsSmall, IsSmallFixed, IsSmallPoint}
-use Rattle.font_ir.specs.ReadGlyphs.{IsReadGlyph, HasNoComponents, HasNoAnchors, HasPoints,
-    IsInRange, is_component, IsPath}
+use Rattle.font_ir.specs.ReadGlyphs.{IsReadGlyph, HasNoComponents, HasNoAnchors, HasPoints}
+use Rattle.font_ir.specs.ReadGlyphs.{IsInRange, is_component, IsPath}
 use Rattle.refusal_codes.specs.declared.errors.ReadError.{ReadError}
 use Rattle.refusal_codes.specs.declared.rule.Rule.TheVariants.{MissingLayer}
 use Rattle.refusal_codes.specs.declared.first.Failure.{Failure}
@@ -33,15 +33,16 @@ use Rattle.refusal_codes.specs.JudgedLaws.{judged_ok}
 use Rattle.source_values.specs.declared.decimals.Decimal.{Decimal}
 use Rattle.source_values.specs.declared.kinds.Range.TheVariants.{Coordinate}
 use Rattle.source_values.specs.Decimals.{is_whole, is_natural_in}
-use Rattle.source_values.specs.Values.{place_at, items_at, decimal_at, in_range, natural_by,
-    natural_in, natural_or, items_under}
+use Rattle.source_values.specs.Values.{place_at, items_at, decimal_at, in_range, natural_by}
+use Rattle.source_values.specs.Values.{natural_in, natural_or, items_under}
 use Rattle.plist_reader.specs.Tree.{find_in}
 use Rattle.glyphs_source.specs.HeaderReading.{IsReadHeader}
-use Rattle.glyphs_layers.specs.LayerRules.{is_node, layer_numbers, layer_of, glyph_failures,
-    glyph_whole_failures}
-use Rattle.glyphs_layers.specs.LayerReading.{coordinate_by, coordinate_of, point_by, origin,
-    node_point, point_of, behind_first, last_first, contour_of, path_by, paths_of, shapes_of,
-    all_shapes, layer_record, master_layers, glyph_record, glyph_of}
+use Rattle.glyphs_layers.specs.LayerRules.{is_node, layer_numbers, layer_of, glyph_failures}
+use Rattle.glyphs_layers.specs.LayerRules.{glyph_whole_failures}
+use Rattle.glyphs_layers.specs.LayerReading.{coordinate_by, coordinate_of, point_by, origin}
+use Rattle.glyphs_layers.specs.LayerReading.{node_point, point_of, behind_first, last_first}
+use Rattle.glyphs_layers.specs.LayerReading.{contour_of, path_by, paths_of, shapes_of, all_shapes}
+use Rattle.glyphs_layers.specs.LayerReading.{layer_record, master_layers, glyph_record, glyph_of}
 
 -- ---- single layers
 
@@ -82,8 +83,10 @@ unfolding coordinate_of
 parts_range t x y = (coordinate_range (decimal_at t x), coordinate_range (decimal_at t y))
 
 origin_range : IsSmallPoint origin
-origin_range = ((omega (arith, ints), omega (arith, ints)),
-    (omega (arith, ints), omega (arith, ints)))
+origin_range = (
+  (omega (arith, ints), omega (arith, ints)),
+  (omega (arith, ints), omega (arith, ints)),
+)
 
 node_range : (t : Tree) (o : Option (List ℕ)) → IsSmallPoint (node_point t o)
 node_range t None = origin_range
@@ -91,7 +94,7 @@ node_range t (Some parts) = chosen (is_node parts)
   where
     chosen : (b : Bool)
         → IsSmallPoint (if b then point_by t (slice_index parts 0) (slice_index parts 1) else
-            origin)
+        origin)
     chosen true = parts_range t (slice_index parts 0) (slice_index parts 1)
     chosen false = origin_range
 
@@ -115,9 +118,11 @@ path_range : (t : Tree) (o : Option (List ℕ)) → AllByRecursion IsInRange (pa
 unfolding contour_of
 path_range t None = tt
 path_range t (Some []) = tt
-path_range t (Some (n ∷ ns)) =
-    (All-from_recursion IsSmallPoint _ (all_last_first IsSmallPoint (map (point_of t) (n ∷ ns))
-        (points_range t (n ∷ ns))), tt)
+path_range t (Some (n ∷ ns)) = (
+  All-from_recursion IsSmallPoint _ (all_last_first IsSmallPoint (map (point_of t) (n ∷ ns))
+      (points_range t (n ∷ ns))),
+  tt,
+)
 
 -- a path that stands has points
 some_behind : {X : Type 0} (x : X) (ys : List X) → 0 < length (behind_first x ys)
@@ -180,7 +185,7 @@ width_range : (t : Tree) (n : ℕ) → (pos 0 ≤ℤ (layer_record t n).width)
 unfolding layer_record
 width_range t n =
     let small : natural_or 0 32767 0 t n (codes "width") ≤ 32767
-        = number_small t (find_in t n (codes "width")) in
+    = number_small t (find_in t n (codes "width")) in
     (omega (arith, ints), omega (arith, ints))
 
 layer_points : (t : Tree) (n : ℕ) → All HasPoints (layer_record t n).shapes
@@ -232,8 +237,8 @@ one_layer_facts t number place n = record {
         256) (layer_record t n ∷ []) (layer_components t n, tt);
     small_anchors =
         All-from_recursion (λ (layer : LayerIr). All
-            (λ (anchor : Anchor). IsSmall anchor.x × IsSmall anchor.y) layer.anchors)
-            (layer_record t n ∷ []) (layer_anchors t n, tt);
+        (λ (anchor : Anchor). IsSmall anchor.x × IsSmall anchor.y) layer.anchors)
+        (layer_record t n ∷ []) (layer_anchors t n, tt);
   };
   components = All-from_recursion (λ (layer : LayerIr). All IsPath layer.shapes)
       (layer_record t n ∷ []) (layer_paths t n, tt);
@@ -263,21 +268,21 @@ unfolding glyph_record
 record_facts t m number g at there =
     let found = one_layer t (layer_of t (layer_numbers t g) m) there in
     let here : Facts number (glyph_at number (place_at t g) (m.location ∷ [])
-        (layer_record t found.0 ∷ [])) =
+    (layer_record t found.0 ∷ [])) =
     subst (λ (place : List F2Dot14). Facts number
-        (glyph_at number (place_at t g) (place ∷ []) (layer_record t found.0 ∷ []))) (sym at)
-        (one_layer_facts t number (place_at t g) found.0) in
+    (glyph_at number (place_at t g) (place ∷ []) (layer_record t found.0 ∷ []))) (sym at)
+    (one_layer_facts t number (place_at t g) found.0) in
     subst (λ (layers : List LayerIr). Facts number
-        (glyph_at number (place_at t g) (m.location ∷ []) layers)) (sym found.1) here
+    (glyph_at number (place_at t g) (m.location ∷ []) layers)) (sym found.1) here
 
 one_master_facts : (t : Tree) (m : Master) (name : List ℕ) (number g : ℕ) (x : GlyphIr)
     → m.location ≡ [] → glyph_of t (m ∷ []) name number g ≡ Ok x → Facts number x
 unfolding glyph_of
 one_master_facts t m name number g x at e =
     let parts = judged_ok (refusal_of RAW name) (first_of (glyph_failures t (m ∷ []) g))
-        (foremost (glyph_whole_failures t (m ∷ []) g)) (glyph_record t (m ∷ []) number g) x e in
+    (foremost (glyph_whole_failures t (m ∷ []) g)) (glyph_record t (m ∷ []) number g) x e in
     subst (λ (y : GlyphIr). Facts number y) parts.2
-        (record_facts t m number g at (layer_there t m g parts.1))
+    (record_facts t m number g at (layer_there t m g parts.1))
 
 -- one location, which has no coordinates, is that of one master
 one_alone : (ms : List Master) → map (λ (master : Master). master.location) ms ≡ [] ∷ []
@@ -338,7 +343,7 @@ layers_at_most t ns (m ∷ ms) = one_more t _ (length ms) (layer_of t ns m) (lay
 one_fewer : (t : Tree) (rest : List LayerIr) (k : ℕ) (o : Option ℕ) (all : Bool) → length rest ≤ k
     → ltb (length rest) k ≡ not all
     → ltb (length (option_map_or (λ n. layer_record t n ∷ []) o [] ++ rest)) (suc k)
-        ≡ not (is_some o && all)
+    ≡ not (is_some o && all)
 one_fewer t rest k None all le e = grind (arith, nat_tests)
 one_fewer t rest k (Some n) all le e = same_test (length rest) k ∙ e
   where
@@ -351,7 +356,7 @@ layers_there : (t : Tree) (ns : List ℕ) (ms : List Master)
 layers_there t ns [] = refl
 layers_there t ns (m ∷ ms) =
     one_fewer t _ (length ms) (layer_of t ns m)
-        (list_all (λ (m : Master). is_some (layer_of t ns m)) ms)
+    (list_all (λ (m : Master). is_some (layer_of t ns m)) ms)
     (layers_at_most t ns ms) (layers_there t ns ms)
 
 missing_by : (t : Tree) (g : ℕ) (b : Bool)
@@ -363,12 +368,12 @@ missing_by t g false = refl
 -- what is missing, by the number of layers
 pub missing_told : (t : Tree) (ms : List Master) (g : ℕ) (layers : List LayerIr) (b : Bool)
     → layers ≡ flat_map (master_layers t (layer_numbers t g)) ms
-        → ltb (length layers) (length ms) ≡ b
+    → ltb (length layers) (length ms) ≡ b
     → cond b (Some (record { rule = MissingLayer; place = place_at t g })) None
-        ≡ foremost (glyph_whole_failures t ms g)
+    ≡ foremost (glyph_whole_failures t ms g)
 unfolding glyph_whole_failures
 missing_told t ms g layers b same e =
     ap (λ (x : Bool). cond x (Some (record { rule = MissingLayer; place = place_at t g })) None)
     (sym e ∙ ap (λ (ls : List LayerIr). ltb (length ls) (length ms)) same
-        ∙ layers_there t (layer_numbers t g) ms)
+    ∙ layers_there t (layer_numbers t g) ms)
     ∙ missing_by t g (list_all (λ (m : Master). is_some (layer_of t (layer_numbers t g) m)) ms)

@@ -97,7 +97,7 @@ triangle_with closed x d kind values keys e =
           ∷ value_from (e + 225) (e + 235) (Text (codes "unitsPerEm"))
           ∷ value_from (e + 238) (e + 242) (Text (codes "1000"))
           ∷ value_from 0 (e + 245) (Pairs ((0, 1) ∷ (2, 3) ∷ (4, 8) ∷ (9, n + 5) ∷ (n + 6, n + 7)
-              ∷ []))
+          ∷ []))
           ∷ [];
       top = n + 8;
     }
@@ -148,8 +148,18 @@ triangle_with_attributes =
 
 -- a master with this id, at no axis
 abbrev master_named : List ℕ → Master
-master_named id = record { id = id; design = []; user = []; location = []; ascender
-    = pos 800; descender = neg_ℤ (pos 200); cap = pos 0; xheight = pos 0; place = 55 }
+master_named id = record {
+  id = id;
+  design = [];
+  user = [];
+  location = [];
+  ascender
+      = pos 800;
+  descender = neg_ℤ (pos 200);
+  cap = pos 0;
+  xheight = pos 0;
+  place = 55;
+}
 
 -- its masters: one
 abbrev pub triangle_masters : List Master

@@ -10,12 +10,13 @@ use Rattle.refusal_codes.specs.declared.refusal.Refusal.{Refusal}
 use Rattle.refusal_codes.specs.declared.job.TheConstants.{RAW}
 use Rattle.refusal_codes.specs.First.{refusal_of}
 use Rattle.refusal_codes.specs.declared.rule.Rule.{Rule}
-use Rattle.refusal_codes.specs.declared.rule.Rule.TheVariants.{CubicNode, OpenContour, MissingKey,
-    NotWhole, MissingLayer, CoordinateTooLarge}
+use Rattle.refusal_codes.specs.declared.rule.Rule.TheVariants.{CubicNode, OpenContour, MissingKey}
+use Rattle.refusal_codes.specs.declared.rule.Rule.TheVariants.{NotWhole, MissingLayer}
+use Rattle.refusal_codes.specs.declared.rule.Rule.TheVariants.{CoordinateTooLarge}
 use Rattle.glyphs_layers.specs.LayerReading.{glyph_of}
 use Rattle.glyphs_layers.specs.OnLiterals.{layers_on_literals}
-use Rattle.glyphs_layers.proofs.Triangle.{triangle, triangle_without_width,
-    triangle_with_attributes, triangle_masters, more_masters}
+use Rattle.glyphs_layers.proofs.Triangle.{triangle, triangle_without_width}
+use Rattle.glyphs_layers.proofs.Triangle.{triangle_with_attributes, triangle_masters, more_masters}
 
 abbrev point : ℤ → ℤ → DrawnPoint
 point x y = record { x = record { 0 = x }; y = record { 0 = y }; on = true }
@@ -30,8 +31,10 @@ triangle_glyph x = record {
   layers =
       record {
         width = pos 500;
-        shapes = Path (record { points = point (pos 16384000) (pos 45875200) ∷ point (pos 0) (pos 0)
-            ∷ point x (pos 0) ∷ [] }) ∷ [];
+        shapes = Path (record {
+          points = point (pos 16384000) (pos 45875200) ∷ point (pos 0) (pos 0)
+              ∷ point x (pos 0) ∷ [];
+        }) ∷ [];
         anchors = [];
       }
       ∷ [];

@@ -1,7 +1,7 @@
 -- What a glyph's layers say (Glyphs file format, version 3; that the last node stored is where a
 -- contour starts is fontc's own reading).
-use Rattle.std.specs.Prelude.{ℕ, ◌*◌, ◌&&◌, true, List, [], ◌∷◌, length, map, flat_map, slice_index,
-    codes, Option, Some, None, Result, ℤ, pos, neg_ℤ, if◌then◌else◌}
+use Rattle.std.specs.Prelude.{ℕ, ◌*◌, ◌&&◌, true, List, [], ◌∷◌, length, map, flat_map, slice_index}
+use Rattle.std.specs.Prelude.{codes, Option, Some, None, Result, ℤ, pos, neg_ℤ, if◌then◌else◌}
 use Rattle.std.specs.Option.{option_map_or}
 use Rattle.plist_reader.specs.declared.tree.Tree.{Tree}
 use Rattle.plist_reader.specs.Tree.{find_in}
@@ -19,10 +19,10 @@ use Rattle.refusal_codes.specs.declared.job.TheConstants.{RAW}
 use Rattle.source_values.specs.declared.decimals.Decimal.{Decimal}
 use Rattle.source_values.specs.declared.kinds.Range.TheVariants.{Coordinate}
 use Rattle.source_values.specs.Decimals.{is_whole}
-use Rattle.source_values.specs.Values.{place_at, items_at, decimal_at, in_range, natural_or,
-    items_under}
-use Rattle.glyphs_layers.specs.LayerRules.{is_node, layer_numbers, layer_of, glyph_failures,
-    glyph_whole_failures}
+use Rattle.source_values.specs.Values.{place_at, items_at, decimal_at, in_range, natural_or}
+use Rattle.source_values.specs.Values.{items_under}
+use Rattle.glyphs_layers.specs.LayerRules.{is_node, layer_numbers, layer_of, glyph_failures}
+use Rattle.glyphs_layers.specs.LayerRules.{glyph_whole_failures}
 
 -- a coordinate in 16.16: the whole number times 65536, 0 where the value is no coordinate
 abbrev pub coordinate_by : Option Decimal → ℤ

@@ -3,22 +3,22 @@
 -- master. Each layer must be a dictionary, and its `layerId` a text where it has one; all else that
 -- a layer of no master holds is ignored. A form that isn't built is of a wrong shape, and a value
 -- of a wrong shape isn't looked into further.
-use Rattle.std.specs.Prelude.{ℕ, Bool, ◌||◌, ◌==◌, is_some, List, [], ◌++◌, length, slice_index,
-    flat_map, codes, Option, Some, None, if◌then◌else◌}
+use Rattle.std.specs.Prelude.{ℕ, Bool, ◌||◌, ◌==◌, is_some, List, [], ◌++◌, length, slice_index}
+use Rattle.std.specs.Prelude.{flat_map, codes, Option, Some, None, if◌then◌else◌}
 use Rattle.std.specs.Option.{option_map_or}
 use Rattle.std.specs.List.{find, list_all}
 use Rattle.plist_reader.specs.declared.tree.Tree.{Tree}
 use Rattle.plist_reader.specs.Tree.{find_in, spells, is_key}
 use Rattle.font_ir.specs.declared.header.Master.{Master}
-use Rattle.refusal_codes.specs.declared.rule.Rule.TheVariants.{WrongShape, MissingKey, NotWhole,
-    MissingLayer, CubicNode, OpenContour}
+use Rattle.refusal_codes.specs.declared.rule.Rule.TheVariants.{WrongShape, MissingKey, NotWhole}
+use Rattle.refusal_codes.specs.declared.rule.Rule.TheVariants.{MissingLayer, CubicNode, OpenContour}
 use Rattle.refusal_codes.specs.declared.first.Failure.{Failure}
 use Rattle.source_values.specs.declared.decimals.Decimal.{Decimal}
 use Rattle.source_values.specs.declared.kinds.Range.TheVariants.{Natural, Coordinate}
 use Rattle.source_values.specs.Decimals.{is_whole}
 use Rattle.source_values.specs.Values.{items_at, decimal_at, items_under, text_under}
-use Rattle.source_values.specs.Asking.{fails, whole_failures, text_failures, empty_list_failures,
-    each, dictionary, required, optional}
+use Rattle.source_values.specs.Asking.{fails, whole_failures, text_failures, empty_list_failures}
+use Rattle.source_values.specs.Asking.{each, dictionary, required, optional}
 
 -- ---- nodes: a list of x, y and a type, and maybe a fourth value, which is ignored
 
@@ -78,7 +78,7 @@ abbrev pub closed_failures_by : Tree → ℕ → ℕ → Option Decimal → List
 closed_failures_by t path n None = fails WrongShape t n
 closed_failures_by t path n (Some d) =
     if is_whole d then (if d.whole == 0 then fails OpenContour t path else []) else fails NotWhole t
-        n
+    n
 
 unfoldable pub closed_failures : ℕ → Tree → ℕ → List Failure
 closed_failures path t n = closed_failures_by t path n (decimal_at t n)

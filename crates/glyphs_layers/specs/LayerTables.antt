@@ -1,25 +1,26 @@
 -- What is asked of a glyph's layers, as tables of ways and rules (Glyphs file format, version 3;
 -- the rules are fontc's own). They tell of each local rule where it fails: exactly at the values
--- that a row of that rule reaches, and of which it doesn't hold. So they know no order, and no walk.
-use Rattle.std.specs.Prelude.{◌≡◌, ℕ, Bool, true, false, not, ◌&&◌, ◌||◌, ◌==◌, List, [], ◌∷◌, ◌++◌,
-    slice_index, codes, Option, Some, None, ◌⊎◌, ◌↔◌}
+-- that a row of that rule reaches, and of which it doesn't hold. So they know no order, and no
+-- walk.
+use Rattle.std.specs.Prelude.{◌≡◌, ℕ, Bool, true, false, not, ◌&&◌, ◌||◌, ◌==◌, List, [], ◌∷◌, ◌++◌}
+use Rattle.std.specs.Prelude.{slice_index, codes, Option, Some, None, ◌⊎◌, ◌↔◌}
 use Rattle.std.specs.Option.{option_map_or}
 use Rattle.plist_reader.specs.declared.tree.Tree.{Tree}
 use Rattle.font_ir.specs.declared.header.Master.{Master}
 use Rattle.refusal_codes.specs.declared.rule.Rule.{Rule}
-use Rattle.refusal_codes.specs.declared.rule.Rule.TheVariants.{WrongShape, MissingKey, NotWhole,
-    CubicNode, OpenContour}
+use Rattle.refusal_codes.specs.declared.rule.Rule.TheVariants.{WrongShape, MissingKey, NotWhole}
+use Rattle.refusal_codes.specs.declared.rule.Rule.TheVariants.{CubicNode, OpenContour}
 use Rattle.refusal_codes.specs.declared.first.Failure.{Failure}
 use Rattle.source_values.specs.declared.decimals.Decimal.{Decimal}
 use Rattle.source_values.specs.declared.kinds.Range.TheVariants.{Natural, Coordinate}
 use Rattle.source_values.specs.Decimals.{is_whole}
 use Rattle.source_values.specs.Values.{place_at, items_at, is_dictionary, decimal_under}
-use Rattle.source_values.specs.Ways.{IsOneOf, Step, under, each_item, item, when, Reaches, Row,
-    Fails, rows_of, here, behind, has}
-use Rattle.source_values.specs.Tables.{decimal_table, whole_table, text_table, empty_list_table,
-    required_table, optional_table, each_table, inside_table}
-use Rattle.glyphs_layers.specs.LayerRules.{is_node, is_line, is_cubic, is_quadratic, layer_numbers,
-    layer_of, glyph_failures}
+use Rattle.source_values.specs.Ways.{IsOneOf, Step, under, each_item, item, when, Reaches, Row}
+use Rattle.source_values.specs.Ways.{Fails, rows_of, here, behind, has}
+use Rattle.source_values.specs.Tables.{decimal_table, whole_table, text_table, empty_list_table}
+use Rattle.source_values.specs.Tables.{required_table, optional_table, each_table, inside_table}
+use Rattle.glyphs_layers.specs.LayerRules.{is_node, is_line, is_cubic, is_quadratic, layer_numbers}
+use Rattle.glyphs_layers.specs.LayerRules.{layer_of, glyph_failures}
 
 -- ---- nodes
 

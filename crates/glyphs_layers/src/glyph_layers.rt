@@ -1,11 +1,11 @@
-ghost use Rattle.std.specs.Prelude.{◌≡◌, ◌<◌, ◌^◌, length, map, flat_map, slice_get, Ok, Err, IfOk,
-    OnOk, IfSome, [], ◌∷◌, ◌++◌};
+ghost use Rattle.std.specs.Prelude.{◌≡◌, ◌<◌, ◌^◌, length, map, flat_map, slice_get, Ok, Err, IfOk};
+ghost use Rattle.std.specs.Prelude.{OnOk, IfSome, [], ◌∷◌, ◌++◌};
 ghost use Rattle.glyphs_source.specs.HeaderReading.{header_of};
 ghost use Rattle.font_ir.specs.ReadGlyphs.{IsReadGlyph, HasNoComponents, HasNoAnchors};
 ghost use Rattle.refusal_codes.specs.First.{noted, foremost};
 ghost use Rattle.refusal_codes.specs.Gives.{Gives};
-ghost use Rattle.glyphs_layers.specs.LayerRules.{layer_numbers, glyph_failures,
-    glyph_whole_failures};
+ghost use Rattle.glyphs_layers.specs.LayerRules.{layer_numbers, glyph_failures};
+ghost use Rattle.glyphs_layers.specs.LayerRules.{glyph_whole_failures};
 ghost use Rattle.glyphs_layers.specs.LayerReading.{master_layers, glyph_of};
 
 use crate::layers::{Entry, read_layers};
@@ -37,7 +37,7 @@ pub fn raw_glyph(
     requires number { number < length index.now }
     ensures record { IfSome (slice_get index.now number)
         (λ entry. Gives (λ glyph. glyph) result
-            (glyph_of tree.now header.now.masters entry.0 number entry.1.node)) }
+        (glyph_of tree.now header.now.masters entry.0 number entry.1.node)) }
     ensures number { IfOk result (λ glyph. glyph.number ≡ number) }
     ensures places { IfOk result (λ glyph. glyph.places
         ≡ map (λ master. master.location) header.now.masters) }
@@ -58,8 +58,7 @@ pub fn raw_glyph(
 }
 
 /// The layers of the glyph with this name, number and dictionary.
-#[tactic(auto, unfolding(crate::specs::LayerReading::glyph_of,
-    crate::specs::LayerReading::glyph_record))]
+#[tactic(auto, unfolding(crate::specs::LayerReading::glyph_of, crate::specs::LayerReading::glyph_record))]
 fn read_glyph(
     alloc: Global,
     tree: &Tree,
@@ -71,8 +70,8 @@ fn read_glyph(
     requires { length masters.now < 2 ^ 32 }
     ensures record { Gives (λ glyph. glyph) result
         (glyph_of tree.now masters.now name.now number glyph) }
-    ensures places { IfOk result (λ read. read.places ≡ map (λ master. master.location) masters.now)
-        }
+    ensures places { IfOk result (λ read. read.places
+        ≡ map (λ master. master.location) masters.now) }
 {
     let mut first = FirstFailure::new();
     let layers = glyph_layers(alloc, tree, masters, glyph, &mut first)?;
@@ -109,9 +108,7 @@ fn missing_layer(tree: &Tree, masters: &[Master], glyph: u32, layers: &[LayerIr]
 }
 
 /// The layers of the masters that have one, and what fails of the glyph's layers.
-#[tactic(auto, using(refusal_codes::specs::FirstLaws::noting),
-    unfolding(crate::specs::LayerRules::glyph_failures, crate::specs::LayerRules::entries_failures,
-    crate::specs::LayerRules::layer_numbers))]
+#[tactic(auto, using(refusal_codes::specs::FirstLaws::noting), unfolding(crate::specs::LayerRules::glyph_failures, crate::specs::LayerRules::entries_failures, crate::specs::LayerRules::layer_numbers))]
 fn glyph_layers(
     alloc: Global,
     tree: &Tree,

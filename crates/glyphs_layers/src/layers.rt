@@ -2,10 +2,11 @@ ghost use Rattle.std.specs.Prelude.{◌≡◌, ◌++◌, flat_map, IfOk, OnOk};
 ghost use Rattle.std.specs.List.{find};
 ghost use Rattle.refusal_codes.specs.First.{noted};
 ghost use Rattle.source_values.specs.Values.{items_under};
-ghost use Rattle.glyphs_layers.specs.LayerRules.{shape_failures, shapes_failures, layer_failures,
-    entry_failures, is_layer_of, layer_of, master_failures};
-ghost use Rattle.glyphs_layers.specs.LayerReading.{shapes_of, all_shapes, layer_record,
-    master_layers};
+ghost use Rattle.glyphs_layers.specs.LayerRules.{shape_failures, shapes_failures, layer_failures};
+ghost use Rattle.glyphs_layers.specs.LayerRules.{entry_failures, is_layer_of, layer_of};
+ghost use Rattle.glyphs_layers.specs.LayerRules.{master_failures};
+ghost use Rattle.glyphs_layers.specs.LayerReading.{shapes_of, all_shapes, layer_record};
+ghost use Rattle.glyphs_layers.specs.LayerReading.{master_layers};
 
 use crate::paths::read_shape;
 use font_ir::{LayerIr, Master, Shape};
@@ -92,8 +93,7 @@ fn is_layer_of(tree: &Tree, id: &[u8], layer: u32) -> bool
     }
 }
 
-#[tactic(auto, using(refusal_codes::specs::FirstLaws::noting),
-    unfolding(crate::specs::LayerRules::layer_failures, crate::specs::LayerReading::layer_record))]
+#[tactic(auto, using(refusal_codes::specs::FirstLaws::noting), unfolding(crate::specs::LayerRules::layer_failures, crate::specs::LayerReading::layer_record))]
 fn read_layer(
     alloc: Global,
     tree: &Tree,

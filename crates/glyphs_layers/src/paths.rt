@@ -2,11 +2,13 @@ ghost use Rattle.std.specs.Prelude.{◌≡◌, ◌++◌, List, [], ◌∷◌, ma
 ghost use Rattle.font_ir.specs.declared.glyph.DrawnPoint.{DrawnPoint as SeenPoint};
 ghost use Rattle.refusal_codes.specs.First.{noted};
 ghost use Rattle.source_values.specs.Asking.{optional, whole_failures};
-ghost use Rattle.glyphs_layers.specs.LayerRules.{is_line, is_cubic, is_quadratic, type_failures,
-    node_parts_failures, node_failures, nodes_failures, closed_failures, other_shape_failures,
-    shape_parts_failures, shape_failures};
-ghost use Rattle.glyphs_layers.specs.LayerReading.{coordinate_of, point_by, point_of, last_first,
-    contour_of, paths_of, shapes_of};
+ghost use Rattle.glyphs_layers.specs.LayerRules.{is_line, is_cubic, is_quadratic, type_failures};
+ghost use Rattle.glyphs_layers.specs.LayerRules.{node_parts_failures, node_failures};
+ghost use Rattle.glyphs_layers.specs.LayerRules.{nodes_failures, closed_failures};
+ghost use Rattle.glyphs_layers.specs.LayerRules.{other_shape_failures, shape_parts_failures};
+ghost use Rattle.glyphs_layers.specs.LayerRules.{shape_failures};
+ghost use Rattle.glyphs_layers.specs.LayerReading.{coordinate_of, point_by, point_of, last_first};
+ghost use Rattle.glyphs_layers.specs.LayerReading.{contour_of, paths_of, shapes_of};
 
 use fixed_math::Fixed;
 use font_ir::{Contour, DrawnPoint, Shape};
@@ -19,8 +21,7 @@ use source_values::{
 use std::alloc::{AllocError, Global};
 
 /// Adds a path, unless it has no nodes, and notes what fails of the shape.
-#[tactic(auto, unfolding(crate::specs::LayerRules::shape_failures,
-    crate::specs::LayerReading::shapes_of))]
+#[tactic(auto, unfolding(crate::specs::LayerRules::shape_failures, crate::specs::LayerReading::shapes_of))]
 pub fn read_shape(
     alloc: Global,
     tree: &Tree,
@@ -39,9 +40,7 @@ pub fn read_shape(
     }
 }
 
-#[tactic(auto, using(refusal_codes::specs::FirstLaws::noting),
-    unfolding(crate::specs::LayerRules::shape_parts_failures,
-    crate::specs::LayerReading::shapes_of))]
+#[tactic(auto, using(refusal_codes::specs::FirstLaws::noting), unfolding(crate::specs::LayerRules::shape_parts_failures, crate::specs::LayerReading::shapes_of))]
 fn read_shape_parts(
     alloc: Global,
     tree: &Tree,
@@ -175,8 +174,7 @@ fn read_nodes(
 }
 
 /// The point of a node.
-#[tactic(auto, unfolding(crate::specs::LayerRules::node_failures,
-    crate::specs::LayerReading::point_of))]
+#[tactic(auto, unfolding(crate::specs::LayerRules::node_failures, crate::specs::LayerReading::point_of))]
 fn read_node(tree: &Tree, node: u32, first: &mut FirstFailure) -> DrawnPoint
     ensures point { result ≡ point_of tree.now node }
     ensures failures { first.new ≡ noted first.old (node_failures tree.now node) }
@@ -197,8 +195,7 @@ fn read_node(tree: &Tree, node: u32, first: &mut FirstFailure) -> DrawnPoint
     }
 }
 
-#[tactic(auto, using(refusal_codes::specs::FirstLaws::noting),
-    unfolding(crate::specs::LayerRules::node_parts_failures))]
+#[tactic(auto, using(refusal_codes::specs::FirstLaws::noting), unfolding(crate::specs::LayerRules::node_parts_failures))]
 fn read_node_parts(
     tree: &Tree,
     node: u32,
@@ -217,12 +214,11 @@ fn read_node_parts(
 }
 
 /// A coordinate in 16.16, 0 where the value is no coordinate.
-#[tactic(auto, unfolding(source_values::specs::Asking::whole_failures,
-    crate::specs::LayerReading::coordinate_of))]
+#[tactic(auto, unfolding(source_values::specs::Asking::whole_failures, crate::specs::LayerReading::coordinate_of))]
 fn read_coordinate(tree: &Tree, number: u32, first: &mut FirstFailure) -> Fixed
     ensures coordinate { result ≡ coordinate_of tree.now number }
-    ensures failures { first.new ≡ noted first.old (whole_failures Range.Coordinate tree.now number)
-        }
+    ensures failures { first.new ≡ noted first.old
+        (whole_failures Range.Coordinate tree.now number) }
 {
     match decimal_at(tree, number) {
         None => note_at(tree, number, Rule::WrongShape, first),

@@ -1,5 +1,5 @@
-ghost use Rattle.glyphs_layers.specs.LayerTables.{LayersAreTabled, CubicNodesAreRefused,
-    OpenContoursAreRefused, MissingKeysAreRefused};
+ghost use Rattle.glyphs_layers.specs.LayerTables.{LayersAreTabled, CubicNodesAreRefused};
+ghost use Rattle.glyphs_layers.specs.LayerTables.{OpenContoursAreRefused, MissingKeysAreRefused};
 
 /// A local rule of a glyph's layers fails at a place exactly where the tables of what is asked of
 /// layers say so. A law: the function does nothing.

@@ -1,6 +1,6 @@
 -- Worked examples: a source of one triangle as its property list reads, and what is read of it.
-use Rattle.std.specs.Prelude.{◌≡◌, ℕ, ◌+◌, List, [], ◌∷◌, ◌++◌, map, length, true, None, Result, Ok,
-    Err, codes, pos, negsuc, refl}
+use Rattle.std.specs.Prelude.{◌≡◌, ℕ, ◌+◌, List, [], ◌∷◌, ◌++◌, map, length, true, None, Result, Ok}
+use Rattle.std.specs.Prelude.{Err, codes, pos, negsuc, refl}
 use Rattle.plist_reader.specs.declared.tree.Tree.{Tree}
 use Rattle.plist_reader.specs.declared.tree.TreeNode.{TreeNode}
 use Rattle.plist_reader.specs.declared.tree.TreeValue.TheVariants as tree
@@ -8,8 +8,8 @@ use Rattle.refusal_codes.specs.declared.refusal.Refusal.{Refusal}
 use Rattle.refusal_codes.specs.declared.job.TheConstants.{HEADER, INDEX}
 use Rattle.refusal_codes.specs.First.{refusal_of}
 use Rattle.refusal_codes.specs.declared.rule.Rule.{Rule}
-use Rattle.refusal_codes.specs.declared.rule.Rule.TheVariants.{WrongShape, MissingKey, OutOfRange,
-    DuplicateUnicode}
+use Rattle.refusal_codes.specs.declared.rule.Rule.TheVariants.{WrongShape, MissingKey, OutOfRange}
+use Rattle.refusal_codes.specs.declared.rule.Rule.TheVariants.{DuplicateUnicode}
 use Rattle.font_ir.specs.declared.header.Header.{Header}
 use Rattle.glyphs_source.specs.declared.entries.IndexEntry.{IndexEntry}
 use Rattle.glyphs_source.specs.HeaderReading.{header_of}
@@ -76,16 +76,17 @@ master_and_glyph n p =
 abbrev pub source : ℕ → List TreeNode → List (ℕ × ℕ) → List TreeNode → List ℕ → ℕ → List ℕ → Tree
 source p front keys further glyphs bytes units = let n = length front
     in let m = length front + 37 + length further in let q = p + bytes in record {
-  top = m + 3;
-  nodes =
-      front
-      ++ master_and_glyph n p
-      ++ further
-      ++ items (p + 40) (q + 196) ((n + 36) ∷ map (λ k. n + 37 + k) glyphs) ∷
-      word (q + 198) (codes "unitsPerEm") ∷
-      word (q + 211) units ∷
-      pairs 0 (q + 214 + length units) (keys ++ (n, n + 4) ∷ (n + 5, m) ∷ (m + 1, m + 2) ∷ []) ∷ [];
-}
+      top = m + 3;
+      nodes =
+          front
+          ++ master_and_glyph n p
+          ++ further
+          ++ items (p + 40) (q + 196) ((n + 36) ∷ map (λ k. n + 37 + k) glyphs) ∷
+          word (q + 198) (codes "unitsPerEm") ∷
+          word (q + 211) units ∷
+          pairs 0 (q + 214 + length units)
+          (keys ++ (n, n + 4) ∷ (n + 5, m) ∷ (m + 1, m + 2) ∷ []) ∷ [];
+    }
 
 -- the version of the format, and a family's name
 abbrev pub named : List TreeNode
@@ -186,8 +187,15 @@ headers-computed = refl
 
 -- the one exported glyph of the triangle, with one code, whose dictionary is the value 40
 abbrev triangle_entry : IndexEntry
-triangle_entry = record { number = 0; node = 40; exported = true; codes = 65
-    ∷ []; left = None; right = None }
+triangle_entry = record {
+  number = 0;
+  node = 40;
+  exported = true;
+  codes = 65
+      ∷ [];
+  left = None;
+  right = None;
+}
 
 -- each source with its index or its refusal: where a code stands again, the second glyph fails
 abbrev index_rows : List (Tree × Result (List (List ℕ × IndexEntry)) Refusal)

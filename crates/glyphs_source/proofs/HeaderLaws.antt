@@ -1,7 +1,7 @@
 -- A header that is read has one master, at no axis, and its numbers are in their ranges.
-use Rattle.std.proofs.Common.{◌≡◌, ℕ, ◌+◌, ◌≤◌, ◌*◌, ◌/◌, pos, ◌-ℤ◌, ◌==◌, ◌&&◌, ◌||◌, not, cond,
-    nat_le, Bool, true, false, List, [], ◌∷◌, ◌++◌, length, map, Option, Some, None, Result, Ok,
-    Err, refl, sym, ap, ◌∙◌, subst, lit≤, arith}
+use Rattle.std.proofs.Common.{◌≡◌, ℕ, ◌+◌, ◌≤◌, ◌*◌, ◌/◌, pos, ◌-ℤ◌, ◌==◌, ◌&&◌, ◌||◌, not, cond}
+use Rattle.std.proofs.Common.{nat_le, Bool, true, false, List, [], ◌∷◌, ◌++◌, length, map, Option}
+use Rattle.std.proofs.Common.{Some, None, Result, Ok, Err, refl, sym, ap, ◌∙◌, subst, lit≤, arith}
 use Rattle.std.specs.Prelude.{codes, IfOk, option_and_then, unwrap_or, if◌then◌else◌}
 use Rattle.std.specs.Option.{option_map_or}
 use Rattle.std.specs.List.{AllByRecursion}
@@ -24,10 +24,13 @@ use Rattle.source_values.specs.declared.decimals.Decimal.{Decimal}
 use Rattle.source_values.specs.Decimals.{is_whole}
 use Rattle.source_values.specs.Values.{items_at, is_dictionary, decimal_at, natural_by, natural_in}
 use Rattle.source_values.specs.Asking.{fails, name_failures_by, name_failures, under_by}
-use Rattle.glyphs_source.specs.HeaderReading.{IsMetric, HasMetricsInRange, HasNumbersInRange,
-    IsReadHeader, units_per_em, masters_failures_by, masters_failures, name_and_numbers_failures,
-    design_forms_failures, feature_forms_failures, top_failures, header_failures, whole_rules_by,
-    header_whole_failures, master_record, first_master, master_numbers, header_record, header_of}
+use Rattle.glyphs_source.specs.HeaderReading.{IsMetric, HasMetricsInRange, HasNumbersInRange}
+use Rattle.glyphs_source.specs.HeaderReading.{IsReadHeader, units_per_em, masters_failures_by}
+use Rattle.glyphs_source.specs.HeaderReading.{masters_failures, name_and_numbers_failures}
+use Rattle.glyphs_source.specs.HeaderReading.{design_forms_failures, feature_forms_failures}
+use Rattle.glyphs_source.specs.HeaderReading.{top_failures, header_failures, whole_rules_by}
+use Rattle.glyphs_source.specs.HeaderReading.{header_whole_failures, master_record, first_master}
+use Rattle.glyphs_source.specs.HeaderReading.{master_numbers, header_record, header_of}
 use Rattle.glyphs_source.specs.ReadHeaders.{read_header_is_whole}
 
 -- of two lists that are empty together the second is
@@ -60,12 +63,12 @@ there t (Some n) e w = listed t n (items_at t n) e w
 
 local_none : (t : Tree) → first_of (header_failures t) ≡ None
     → under_by (masters_failures t) (fails MissingKey t t.top)
-        (find_in t t.top (codes "fontMaster")) ≡ []
+    (find_in t t.top (codes "fontMaster")) ≡ []
 unfolding top_failures
 local_none t e =
     last_empty
     (name_and_numbers_failures t t.top ++ design_forms_failures t t.top
-        ++ feature_forms_failures t t.top) _
+    ++ feature_forms_failures t t.top) _
     (dictionary_there (is_dictionary t t.top) _ _ (first_of_none _ e))
 
 one_master : (t : Tree) → first_of (header_failures t) ≡ None
@@ -143,17 +146,19 @@ family_within : (t : Tree) → first_of (header_failures t) ≡ None
 unfolding top_failures name_and_numbers_failures header_record
 family_within t e =
     let top = dictionary_there (is_dictionary t t.top) (top_failures t t.top) _ (first_of_none _ e)
-        in
+    in
     let forms = name_and_numbers_failures t t.top ++ design_forms_failures t t.top in
     let own = first_empty (name_and_numbers_failures t t.top) _
-        (first_empty forms _ (first_empty _ _ top)) in
+    (first_empty forms _ (first_empty _ _ top)) in
     name_under t t.top (find_in t t.top (codes "familyName"))
-        (last_empty _ _ (first_empty _ _ (first_empty _ _ own)))
+    (last_empty _ _ (first_empty _ _ (first_empty _ _ own)))
 
 signed : (a u : ℕ) → a ≤ u → u ≤ a + 16383 → a ≤ 16383
     → IsMetric (pos a) × IsMetric (pos a -ℤ pos u)
-signed a u below near top = ((omega (arith, ints, top), omega (arith, ints, top)),
-    (omega (arith, ints, below, near), omega (arith, ints, below, near)))
+signed a u below near top = (
+  (omega (arith, ints, top), omega (arith, ints, top)),
+  (omega (arith, ints, below, near), omega (arith, ints, below, near)),
+)
 
 four_fifths : (u : ℕ) → u ≤ 16384 → (u * 4 / 5 ≤ u) × (u ≤ u * 4 / 5 + 16383) × (u * 4 / 5 ≤ 16383)
 four_fifths u units = (omega (arith, units), omega (arith, units), omega (arith, units))
@@ -164,9 +169,14 @@ metrics_within t m =
     let units = units_within t in
     let four = four_fifths (units_per_em t) units.1 in
     let both = signed (units_per_em t * 4 / 5) (units_per_em t) four.0 four.1 four.2 in
-    record { ascender = both.0; descender = both.1; cap
-        = (omega (arith, ints), omega (arith, ints)); xheight
-        = (omega (arith, ints), omega (arith, ints)) }
+    record {
+      ascender = both.0;
+      descender = both.1;
+      cap
+          = (omega (arith, ints), omega (arith, ints));
+      xheight
+          = (omega (arith, ints), omega (arith, ints));
+    }
 
 numbers_within : (t : Tree) → first_of (header_failures t) ≡ None
     → foremost (header_whole_failures t) ≡ None → HasNumbersInRange (header_record t)
@@ -221,7 +231,7 @@ unfolding header_of
 read_header t h e =
     let parts =
     judged_ok (refusal_of HEADER []) (first_of (header_failures t))
-        (foremost (header_whole_failures t))
+    (foremost (header_whole_failures t))
     (header_record t) h e in
     subst IsReadHeader parts.2 (read_record t parts.0 parts.1)
 

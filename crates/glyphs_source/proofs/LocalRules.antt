@@ -1,25 +1,25 @@
 -- No local rule of the index is that of a repeated name or of a repeated code.
-use Rattle.std.proofs.Common.{◌≡◌, ℕ, Bool, true, false, cond, List, [], ◌∷◌, ◌++◌, Option, Some,
-    None, unwrap_or, ap, sym, subst}
+use Rattle.std.proofs.Common.{◌≡◌, ℕ, Bool, true, false, cond, List, [], ◌∷◌, ◌++◌, Option, Some}
+use Rattle.std.proofs.Common.{None, unwrap_or, ap, sym, subst}
 use Rattle.std.specs.Prelude.{flat_map, codes}
 use Rattle.std.specs.List.{AllByRecursion}
 use Rattle.std.proofs.lemmas.List.Concat.{flat_map-cons}
 use Rattle.plist_reader.specs.declared.tree.Tree.{Tree}
 use Rattle.plist_reader.specs.Tree.{find_in, text_at}
 use Rattle.refusal_codes.specs.declared.first.Failure.{Failure}
-use Rattle.refusal_codes.specs.declared.rule.Rule.TheVariants.{WrongShape, MissingKey, OutOfRange,
-    DuplicateGlyph, DuplicateUnicode}
+use Rattle.refusal_codes.specs.declared.rule.Rule.TheVariants.{WrongShape, MissingKey, OutOfRange}
+use Rattle.refusal_codes.specs.declared.rule.Rule.TheVariants.{DuplicateGlyph, DuplicateUnicode}
 use Rattle.refusal_codes.specs.First.{first_of, noted, is_before}
 use Rattle.source_values.specs.declared.decimals.Decimal.{Decimal}
 use Rattle.source_values.specs.declared.kinds.Range.{Range}
 use Rattle.source_values.specs.declared.kinds.Range.TheVariants.{Any, Natural, Code, Coordinate}
 use Rattle.source_values.specs.Decimals.{is_whole}
 use Rattle.source_values.specs.Values.{is_list, is_dictionary, items_at, decimal_at, in_range}
-use Rattle.source_values.specs.Asking.{fails, range_rule, whole_failures_by, whole_failures,
-    text_failures, name_failures_by, name_failures, each_by, each, dictionary, under_by, required,
-    optional}
-use Rattle.glyphs_source.specs.IndexReading.{codes_failures, glyph_parts_failures,
-    glyph_list_failures, index_failures}
+use Rattle.source_values.specs.Asking.{fails, range_rule, whole_failures_by, whole_failures}
+use Rattle.source_values.specs.Asking.{text_failures, name_failures_by, name_failures, each_by}
+use Rattle.source_values.specs.Asking.{each, dictionary, under_by, required, optional}
+use Rattle.glyphs_source.specs.IndexReading.{codes_failures, glyph_parts_failures}
+use Rattle.glyphs_source.specs.IndexReading.{glyph_list_failures, index_failures}
 
 -- what holds of each failure of a list holds of the least
 both : (P : Failure → Type 0) (b : Bool) (x y : Failure) → P x → P y → P (cond b x y)
@@ -135,7 +135,7 @@ parts t g =
     (joined _ _
     (joined _ _
     (joined _ _ (needed name_failures name (codes "glyphname") t g)
-        (allowed codes_failures code (codes "unicode") t g))
+    (allowed codes_failures code (codes "unicode") t g))
     (allowed (whole_failures Any) (whole Any) (codes "export") t g))
     (allowed text_failures text (codes "kernLeft") t g))
     (allowed text_failures text (codes "kernRight") t g)

@@ -1,7 +1,8 @@
 -- Where an index is read, its names and its codes are distinct; where a name or a code stands
 -- again, the glyph is the first.
-use Rattle.std.proofs.Common.{◌≡◌, ℕ, ◌+◌, Bool, true, false, cond, ◌||◌, List, [], ◌∷◌, ◌++◌, map,
-    Option, Some, None, unwrap_or, Result, Ok, Err, nat_eq, true≢false, refl, sym, ap, ◌∙◌, subst}
+use Rattle.std.proofs.Common.{◌≡◌, ℕ, ◌+◌, Bool, true, false, cond, ◌||◌, List, [], ◌∷◌, ◌++◌, map}
+use Rattle.std.proofs.Common.{Option, Some, None, unwrap_or, Result, Ok, Err, nat_eq, true≢false}
+use Rattle.std.proofs.Common.{refl, sym, ap, ◌∙◌, subst}
 use Rattle.std.specs.Prelude.{flat_map, IfOk, IfErr}
 use Rattle.std.specs.List.{IsDistinct, AllByRecursion, list_any}
 use Rattle.std.specs.Map.{keys_of}
@@ -23,10 +24,11 @@ use Rattle.refusal_codes.specs.declared.job.TheConstants.{INDEX}
 use Rattle.refusal_codes.specs.Gives.{Gives}
 use Rattle.glyphs_source.specs.declared.entries.IndexEntry.{IndexEntry}
 use Rattle.source_values.specs.Values.{place_at}
-use Rattle.glyphs_source.specs.IndexReading.{glyph_name, glyph_numbers, entries_from,
-    repeated_names, repeats, counting, repeated_codes, index_failures, index_of}
-use Rattle.glyphs_source.specs.Repeats.{IsWithoutRepeats, IsFirstRepeatedName, IsFirstRepeatedCode,
-    TellsRepeat, TellsRepeatOf}
+use Rattle.glyphs_source.specs.IndexReading.{glyph_name, glyph_numbers, entries_from}
+use Rattle.glyphs_source.specs.IndexReading.{repeated_names, repeats, counting, repeated_codes}
+use Rattle.glyphs_source.specs.IndexReading.{index_failures, index_of}
+use Rattle.glyphs_source.specs.Repeats.{IsWithoutRepeats, IsFirstRepeatedName, IsFirstRepeatedCode}
+use Rattle.glyphs_source.specs.Repeats.{TellsRepeat, TellsRepeatOf}
 use Rattle.glyphs_source.proofs.LocalRules.{first_local}
 
 -- ---- lists
@@ -61,9 +63,11 @@ module _ {K : Type 0} (e : K → K → Bool) (laws : IsEquivalence e) where
   unfolding IsDistinct
   distinct_last [] c h n = (tt, tt)
   distinct_last (x ∷ xs) c h n =
-      let parts = neither (e c x) (list_any (e c) xs) n in
-      (all_last (λ y. e x y ≡ false) xs c h.0 (laws.symm x c ∙ parts.0), distinct_last xs c h.1
-          parts.1)
+      let parts = neither (e c x) (list_any (e c) xs) n in (
+        all_last (λ y. e x y ≡ false) xs c h.0 (laws.symm x c ∙ parts.0),
+        distinct_last xs c h.1
+            parts.1,
+      )
 
   -- an item equal to one before it is in no distinct list
   not_distinct : (xs : List K) (c : K) (ys : List K) → list_any (e c) xs ≡ true
@@ -72,8 +76,8 @@ module _ {K : Type 0} (e : K → K → Bool) (laws : IsEquivalence e) where
   not_distinct [] c ys n = λ h. true≢false (sym n)
   not_distinct (x ∷ xs) c ys n =
       λ h. chosen (e c x) (list_any (e c) xs) n
-          (λ q. true≢false (sym q ∙ laws.symm c x ∙ all_middle (λ y. e x y ≡ false) xs c ys h.0))
-          (λ q. not_distinct xs c ys q h.1)
+      (λ q. true≢false (sym q ∙ laws.symm c x ∙ all_middle (λ y. e x y ≡ false) xs c ys h.0))
+      (λ q. not_distinct xs c ys q h.1)
 
 -- ---- codes
 
@@ -90,23 +94,23 @@ unrepeated before [] h n = codes_end before h
 unrepeated before (c ∷ cs) h n =
     let parts = neither (list_any (nat_eq c) before) (repeats (before ++ c ∷ []) cs) n in
     subst distinct_codes (append_assoc before (c ∷ []) cs)
-        (unrepeated (before ++ c ∷ []) cs (distinct_last nat_eq nat_eq_equiv before c h parts.0)
-        parts.1)
+    (unrepeated (before ++ c ∷ []) cs (distinct_last nat_eq nat_eq_equiv before c h parts.0)
+    parts.1)
 
 repeated : (before cs : List ℕ) → repeats before cs ≡ true → ¬ distinct_codes (before ++ cs)
 repeated before [] n = λ h. true≢false (sym n)
 repeated before (c ∷ cs) n =
     λ h. chosen (list_any (nat_eq c) before) (repeats (before ++ c ∷ []) cs) n
-        (λ q. not_distinct nat_eq nat_eq_equiv before c cs q h)
+    (λ q. not_distinct nat_eq nat_eq_equiv before c cs q h)
     (λ q. repeated (before ++ c ∷ []) cs q
-        (subst distinct_codes (sym (append_assoc before (c ∷ []) cs)) h))
+    (subst distinct_codes (sym (append_assoc before (c ∷ []) cs)) h))
 
 flat_last : (before : List IndexEntry) (e : IndexEntry)
     → flat_map counting (before ++ e ∷ []) ≡ flat_map counting before ++ counting e
 flat_last before e =
     flat_map-append counting before (e ∷ [])
-        ∙ ap (λ cs. flat_map counting before ++ cs)
-        (flat_map-cons counting e [] ∙ append-nil (counting e))
+    ∙ ap (λ cs. flat_map counting before ++ cs)
+    (flat_map-cons counting e [] ∙ append-nil (counting e))
 
 -- a first failure of a list and the rest, by whether it is there
 at_first : {A : Type 0} (b : Bool) (x f : Failure) (fs : List Failure)
@@ -129,15 +133,25 @@ module _ (t : Tree) where
   codes_first before (e ∷ es) f h n =
       let x : Failure = record { rule = DuplicateUnicode; place = place_at t e.node } in
       at_first (repeats (flat_map counting before) (counting e)) x f
-          (repeated_codes t (flat_map counting before ++ counting e) es) n
-      (λ b q. (sym (ap (λ y. y.rule) q), record
-          { before = before; entry = e; behind = es; in_order = refl; distinct = h; again
-          = repeated (flat_map counting before) (counting e) b; there
-          = sym (ap (λ y. y.place) q) }))
+      (repeated_codes t (flat_map counting before ++ counting e) es) n
+      (λ b q. (
+        sym (ap (λ y. y.rule) q),
+        record {
+          before = before;
+          entry = e;
+          behind = es;
+          in_order = refl;
+          distinct = h;
+          again
+              = repeated (flat_map counting before) (counting e) b;
+          there
+              = sym (ap (λ y. y.place) q);
+        },
+      ))
       (λ b q. subst (λ all. (f.rule ≡ DuplicateUnicode) × IsFirstRepeatedCode t all f.place)
-          (append_assoc before (e ∷ []) es)
+      (append_assoc before (e ∷ []) es)
       (codes_first (before ++ e ∷ []) es f (subst distinct_codes (sym (flat_last before e))
-          (unrepeated (flat_map counting before) (counting e) h b))
+      (unrepeated (flat_map counting before) (counting e) h b))
       (ap (λ seen. foremost (repeated_codes t seen es)) (flat_last before e) ∙ q)))
 
   codes_none : (before es : List IndexEntry) → distinct_codes (flat_map counting before)
@@ -148,10 +162,10 @@ module _ (t : Tree) where
   codes_none before (e ∷ es) h n =
       let x : Failure = record { rule = DuplicateUnicode; place = place_at t e.node } in
       let parts = at_none (repeats (flat_map counting before) (counting e)) x
-          (repeated_codes t (flat_map counting before ++ counting e) es) n in
+      (repeated_codes t (flat_map counting before ++ counting e) es) n in
       subst (λ all. distinct_codes (flat_map counting all)) (append_assoc before (e ∷ []) es)
       (codes_none (before ++ e ∷ []) es (subst distinct_codes (sym (flat_last before e))
-          (unrepeated (flat_map counting before) (counting e) h parts.0))
+      (unrepeated (flat_map counting before) (counting e) h parts.0))
       (ap (λ seen. foremost (repeated_codes t seen es)) (flat_last before e) ∙ parts.1))
 
 -- ---- names
@@ -171,15 +185,25 @@ module _ (t : Tree) where
   names_first before (g ∷ gs) f h n =
       let x : Failure = record { rule = DuplicateGlyph; place = place_at t g } in
       at_first (is_among (glyph_name t g) (map (glyph_name t) before)) x f
-          (repeated_names t (map (glyph_name t) before ++ glyph_name t g ∷ []) gs) n
-      (λ b q. (sym (ap (λ y. y.rule) q), record
-          { before = before; glyph = g; behind = gs; in_order = refl; distinct = h; again = b; there
-          = sym (ap (λ y. y.place) q) }))
+      (repeated_names t (map (glyph_name t) before ++ glyph_name t g ∷ []) gs) n
+      (λ b q. (
+        sym (ap (λ y. y.rule) q),
+        record {
+          before = before;
+          glyph = g;
+          behind = gs;
+          in_order = refl;
+          distinct = h;
+          again = b;
+          there
+              = sym (ap (λ y. y.place) q);
+        },
+      ))
       (λ b q. subst (λ all. (f.rule ≡ DuplicateGlyph) × IsFirstRepeatedName t all f.place)
-          (append_assoc before (g ∷ []) gs)
+      (append_assoc before (g ∷ []) gs)
       (names_first (before ++ g ∷ []) gs f (subst distinct_names (sym (names_last before g))
-          (distinct_last (pointwise nat_eq) nat_list_eq_equiv (map (glyph_name t) before)
-          (glyph_name t g) h b))
+      (distinct_last (pointwise nat_eq) nat_list_eq_equiv (map (glyph_name t) before)
+      (glyph_name t g) h b))
       (ap (λ names. foremost (repeated_names t names gs)) (names_last before g) ∙ q)))
 
   names_none : (before gs : List ℕ) → distinct_names (map (glyph_name t) before)
@@ -190,11 +214,11 @@ module _ (t : Tree) where
   names_none before (g ∷ gs) h n =
       let x : Failure = record { rule = DuplicateGlyph; place = place_at t g } in
       let parts = at_none (is_among (glyph_name t g) (map (glyph_name t) before)) x
-          (repeated_names t (map (glyph_name t) before ++ glyph_name t g ∷ []) gs) n in
+      (repeated_names t (map (glyph_name t) before ++ glyph_name t g ∷ []) gs) n in
       subst (λ all. distinct_names (map (glyph_name t) all)) (append_assoc before (g ∷ []) gs)
       (names_none (before ++ g ∷ []) gs (subst distinct_names (sym (names_last before g))
-          (distinct_last (pointwise nat_eq) nat_list_eq_equiv (map (glyph_name t) before)
-          (glyph_name t g) h parts.0))
+      (distinct_last (pointwise nat_eq) nat_list_eq_equiv (map (glyph_name t) before)
+      (glyph_name t g) h parts.0))
       (ap (λ names. foremost (repeated_names t names gs)) (names_last before g) ∙ parts.1))
 
   keys_entries : (k : ℕ) (gs : List ℕ) → keys_of (entries_from t k gs) ≡ map (glyph_name t) gs
@@ -207,8 +231,8 @@ codes_of : (index : List (List ℕ × IndexEntry))
 codes_of [] = refl
 codes_of (e ∷ es) =
     flat_map-cons counting e.1 (map (λ entry. entry.1) es)
-        ∙ ap (λ cs. counting e.1 ++ cs) (codes_of es)
-        ∙ sym (flat_map-cons (λ entry. counting entry.1) e es)
+    ∙ ap (λ cs. counting e.1 ++ cs) (codes_of es)
+    ∙ sym (flat_map-cons (λ entry. counting entry.1) e es)
 
 -- ---- what the job answers
 
@@ -254,16 +278,16 @@ module _ (t : Tree) where
   tells (Some f) names again l n a r e =
       let other = first_local t f (sym l) in
       subst (TellsRepeat t) (ap (λ x. refused_by x r) e)
-          (record { name = λ h. absurd (other.0 h); code = λ h. absurd (other.1 h) })
+      (record { name = λ h. absurd (other.0 h); code = λ h. absurd (other.1 h) })
   tells None (Some f) again l n a r e =
       let first = names_first t [] (glyph_numbers t) f (none_distinct (pointwise nat_eq)) (sym n) in
       subst (TellsRepeat t) (ap (λ x. refused_by x r) e)
-          (record { name = λ h. first.1; code = λ h. absurd (other_rule (sym first.0 ∙ h)) })
+      (record { name = λ h. first.1; code = λ h. absurd (other_rule (sym first.0 ∙ h)) })
   tells None None (Some f) l n a r e =
       let first = codes_first t [] (map (λ entry. entry.1) all_entries) f (none_distinct nat_eq)
-          (sym a) in
+      (sym a) in
       subst (TellsRepeat t) (ap (λ x. refused_by x r) e)
-          (record { name = λ h. absurd (other_rule (sym h ∙ first.0)); code = λ h. first.1 })
+      (record { name = λ h. absurd (other_rule (sym h ∙ first.0)); code = λ h. first.1 })
   tells None None None l n a r e = absurd cc
 
   -- an index that is read has no repeats

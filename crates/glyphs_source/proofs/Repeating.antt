@@ -1,6 +1,7 @@
 -- One turn of the loops that look for a name or a code that stands again.
-use Rattle.std.proofs.Common.{◌≡◌, ℕ, ◌+◌, ◌<◌, Bool, true, false, cond, ◌||◌, List, [], ◌∷◌, ◌++◌,
-    length, get_or, drop, Option, Some, None, is_some, nat_eq, refl, ap, ◌∙◌}
+use Rattle.std.proofs.Common.{◌≡◌, ℕ, ◌+◌, ◌<◌, Bool, true, false, cond, ◌||◌, List, [], ◌∷◌, ◌++◌}
+use Rattle.std.proofs.Common.{length, get_or, drop, Option, Some, None, is_some, nat_eq, refl, ap}
+use Rattle.std.proofs.Common.{◌∙◌}
 use Rattle.std.specs.List.{list_any}
 use Rattle.std.specs.Map.{lookup, keys_of}
 use Rattle.std.specs.Cmp.Lexicographic.{pointwise}
@@ -13,8 +14,8 @@ use Rattle.refusal_codes.specs.First.{foremost}
 use Rattle.glyphs_source.specs.declared.entries.IndexEntry.{IndexEntry}
 use Rattle.source_values.specs.Values.{place_at}
 use Rattle.source_values.specs.Asking.{fails}
-use Rattle.glyphs_source.specs.IndexReading.{glyph_name, repeats, repeated_names, entry_of,
-    entries_from}
+use Rattle.glyphs_source.specs.IndexReading.{glyph_name, repeats, repeated_names, entry_of}
+use Rattle.glyphs_source.specs.IndexReading.{entries_from}
 
 -- ---- codes
 
@@ -53,8 +54,8 @@ module _ (t : Tree) where
       ≡ Some (record { rule = DuplicateGlyph; place = place_at t (get_or gs i 0) })
   names_found names gs i lt e =
       ap foremost (names_next names gs i lt
-          ∙ ap (λ (b : Bool). cond b (fails DuplicateGlyph t (get_or gs i 0)) []
-          ++ repeated_names t (names ++ glyph_name t (get_or gs i 0) ∷ []) (drop (i + 1) gs)) e)
+      ∙ ap (λ (b : Bool). cond b (fails DuplicateGlyph t (get_or gs i 0)) []
+      ++ repeated_names t (names ++ glyph_name t (get_or gs i 0) ∷ []) (drop (i + 1) gs)) e)
 
   pub names_new : (names : List (List ℕ)) (gs : List ℕ) (i : ℕ) → i < length gs
       → is_among (glyph_name t (get_or gs i 0)) names ≡ false
@@ -62,7 +63,7 @@ module _ (t : Tree) where
       (names ++ glyph_name t (get_or gs i 0) ∷ []) (drop (i + 1) gs)
   names_new names gs i lt e =
       names_next names gs i lt ∙ ap (λ (b : Bool). cond b (fails DuplicateGlyph t (get_or gs i 0))
-          [] ++ repeated_names t (names ++ glyph_name t (get_or gs i 0) ∷ []) (drop (i + 1) gs)) e
+      [] ++ repeated_names t (names ++ glyph_name t (get_or gs i 0) ∷ []) (drop (i + 1) gs)) e
 
   pub entries_next : (k : ℕ) (gs : List ℕ) (i : ℕ) → i < length gs
       → entries_from t k (drop i gs) ≡ (glyph_name t (get_or gs i 0), entry_of t k (get_or gs i 0))

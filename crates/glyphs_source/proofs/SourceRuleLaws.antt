@@ -1,6 +1,6 @@
 -- What the tables of the header and of the index say of single rules.
-use Rattle.std.proofs.Common.{inl, inr, ◌≡◌, ◌⊎◌, ℕ, Bool, true, false, not, List, refl, sym, ap,
-    true≢false}
+use Rattle.std.proofs.Common.{inl, inr, ◌≡◌, ◌⊎◌, ℕ, Bool, true, false, not, List, refl, sym, ap}
+use Rattle.std.proofs.Common.{true≢false}
 use Rattle.std.specs.Prelude.{codes}
 use Rattle.plist_reader.specs.declared.tree.Tree.{Tree}
 use Rattle.refusal_codes.specs.declared.rule.Rule.{Rule}
@@ -12,9 +12,10 @@ use Rattle.source_values.specs.WayLaws.{by_rule}
 use Rattle.source_values.specs.Tables.{decimal_passes}
 use Rattle.glyphs_source.specs.HeaderReading.{is_version, top_failures}
 use Rattle.glyphs_source.specs.IndexReading.{glyph_list_failures}
-use Rattle.glyphs_source.specs.SourceTables.{header_table, HeaderIsTabled, index_table,
-    IndexIsTabled, IsInSource, lacks, to_font, to_version, to_master, to_glyphs,
-    MissingKeysOfTheHeader, is_other_version, WrongVersions, MissingKeysOfTheIndex}
+use Rattle.glyphs_source.specs.SourceTables.{header_table, HeaderIsTabled, index_table}
+use Rattle.glyphs_source.specs.SourceTables.{IndexIsTabled, IsInSource, lacks, to_font, to_version}
+use Rattle.glyphs_source.specs.SourceTables.{to_master, to_glyphs, MissingKeysOfTheHeader}
+use Rattle.glyphs_source.specs.SourceTables.{is_other_version, WrongVersions, MissingKeysOfTheIndex}
 use Rattle.glyphs_source.proofs.SourceTableLaws.{header_told, index_told}
 
 pub header_by_rule : HeaderIsTabled
@@ -50,9 +51,12 @@ module _ (t : Tree) (rule : Rule) (place : ℕ) (way : List Step) (holds : Tree 
 
   of_words : IsInSource t way fails_not place
       → FailsRow row t t.top (record { rule = rule; place = place })
-  of_words (n, reaches, passes, same) =
-      (n, reaches, isnt_not (holds t n) passes,
-      ap (λ (p : ℕ). record { rule = rule; place = p }) same)
+  of_words (n, reaches, passes, same) = (
+    n,
+    reaches,
+    isnt_not (holds t n) passes,
+    ap (λ (p : ℕ). record { rule = rule; place = p }) same,
+  )
 
 abbrev HeaderFails : Tree → Rule → ℕ → Type 0
 HeaderFails t rule place = Fails (rows_of rule header_table) t t.top

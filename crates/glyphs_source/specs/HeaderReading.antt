@@ -1,9 +1,9 @@
 -- What a source says of the whole font, and the rules that it may fail there (Glyphs file format,
 -- version 3; the rules and the defaults are fontc's own). One master is read, without axes: a form
 -- that isn't built is of a wrong shape.
-use Rattle.std.specs.Prelude.{◌≡◌, ℕ, ◌*◌, ◌/◌, ◌≤◌, Bool, not, ◌&&◌, ◌||◌, ◌==◌, nat_lt, List, [],
-    ◌∷◌, ◌++◌, length, slice_get, map, Option, Some, None, Result, ℤ, pos, neg_ℤ, ◌-ℤ◌, ◌≤ℤ◌, codes,
-    option_and_then, if◌then◌else◌}
+use Rattle.std.specs.Prelude.{◌≡◌, ℕ, ◌*◌, ◌/◌, ◌≤◌, Bool, not, ◌&&◌, ◌||◌, ◌==◌, nat_lt, List, []}
+use Rattle.std.specs.Prelude.{◌∷◌, ◌++◌, length, slice_get, map, Option, Some, None, Result, ℤ, pos}
+use Rattle.std.specs.Prelude.{neg_ℤ, ◌-ℤ◌, ◌≤ℤ◌, codes, option_and_then, if◌then◌else◌}
 use Rattle.std.specs.Option.{option_map_or}
 use Rattle.std.specs.List.{AllByRecursion}
 use Rattle.plist_reader.specs.declared.tree.Tree.{Tree}
@@ -11,19 +11,20 @@ use Rattle.plist_reader.specs.Tree.{find_in}
 use Rattle.font_ir.specs.declared.header.Header.{Header}
 use Rattle.font_ir.specs.declared.header.Master.{Master}
 use Rattle.refusal_codes.specs.declared.refusal.Refusal.{Refusal}
-use Rattle.refusal_codes.specs.declared.rule.Rule.TheVariants.{WrongShape, WrongVersion, OutOfRange,
-    NoMaster, AxisCount}
+use Rattle.refusal_codes.specs.declared.rule.Rule.TheVariants.{WrongShape, WrongVersion, OutOfRange}
+use Rattle.refusal_codes.specs.declared.rule.Rule.TheVariants.{NoMaster, AxisCount}
 use Rattle.refusal_codes.specs.declared.first.Failure.{Failure}
 use Rattle.refusal_codes.specs.First.{first_of, foremost, refusal_of, judged}
 use Rattle.refusal_codes.specs.declared.job.TheConstants.{HEADER}
 use Rattle.source_values.specs.declared.decimals.Decimal.{Decimal}
 use Rattle.source_values.specs.declared.kinds.Range.TheVariants.{Natural}
 use Rattle.source_values.specs.Decimals.{is_whole}
-use Rattle.source_values.specs.Values.{place_at, items_at, decimal_at, natural_or, items_under,
-    text_or_empty}
-use Rattle.source_values.specs.Asking.{fails, whole_failures, text_failures, name_failures,
-    dictionary_failures, empty_list_failures, empty_dictionary_failures, each, dictionary, required,
-    optional}
+use Rattle.source_values.specs.Values.{place_at, items_at, decimal_at, natural_or, items_under}
+use Rattle.source_values.specs.Values.{text_or_empty}
+use Rattle.source_values.specs.Asking.{fails, whole_failures, text_failures, name_failures}
+use Rattle.source_values.specs.Asking.{dictionary_failures, empty_list_failures}
+use Rattle.source_values.specs.Asking.{empty_dictionary_failures, each, dictionary, required}
+use Rattle.source_values.specs.Asking.{optional}
 
 -- ---- rules of single values
 

@@ -1,7 +1,7 @@
 -- The glyphs that a source names, in the order of the file, and the rules that they may fail
 -- (Glyphs file format, version 3; the rules are fontc's own). Their layers are not read here.
-use Rattle.std.specs.Prelude.{ℕ, ◌+◌, Bool, false, not, ◌&&◌, ◌||◌, ◌==◌, nat_eq, List, [], ◌∷◌,
-    ◌++◌, map, Option, Some, None, Result, codes, if◌then◌else◌}
+use Rattle.std.specs.Prelude.{ℕ, ◌+◌, Bool, false, not, ◌&&◌, ◌||◌, ◌==◌, nat_eq, List, [], ◌∷◌}
+use Rattle.std.specs.Prelude.{◌++◌, map, Option, Some, None, Result, codes, if◌then◌else◌}
 use Rattle.std.specs.Option.{option_map_or}
 use Rattle.std.specs.List.{All, list_any}
 use Rattle.std.specs.Cmp.Lexicographic.{pointwise}
@@ -17,10 +17,10 @@ use Rattle.refusal_codes.specs.declared.job.TheConstants.{INDEX}
 use Rattle.source_values.specs.declared.decimals.Decimal.{Decimal}
 use Rattle.source_values.specs.declared.kinds.Range.TheVariants.{Any, Code}
 use Rattle.source_values.specs.Decimals.{is_whole}
-use Rattle.source_values.specs.Values.{items_at, is_list, decimal_at, in_range, items_under,
-    text_under, text_or_empty, decimal_under}
-use Rattle.source_values.specs.Asking.{fails, whole_failures, text_failures, name_failures, each,
-    dictionary, required, optional}
+use Rattle.source_values.specs.Values.{items_at, is_list, decimal_at, in_range, items_under}
+use Rattle.source_values.specs.Values.{text_under, text_or_empty, decimal_under}
+use Rattle.source_values.specs.Asking.{fails, whole_failures, text_failures, name_failures, each}
+use Rattle.source_values.specs.Asking.{dictionary, required, optional}
 use Rattle.glyphs_source.specs.declared.entries.IndexEntry.{IndexEntry}
 
 -- ---- local rules
@@ -131,7 +131,7 @@ index_of t =
     let names_again = foremost (repeated_names t [] (glyph_numbers t)) in
     let codes_again = foremost (repeated_codes t [] (map (λ entry. entry.1) entries)) in
     judged (refusal_of INDEX []) (first_of (index_failures t)) (or_next names_again codes_again)
-        entries
+    entries
 
 -- ---- what each index that is read fulfils
 

@@ -53,8 +53,8 @@ read_header_is_whole h read = by h.masters (λ m e. whole m e) one_there
     whole m e =
         let numbers = read.numbers in
         one_master_header h m (numbers.units_from, numbers.units)
-            (numbers.family_from, numbers.family) numbers.major numbers.minor read.no_axes e
-            (one_master h read m e) read.origin read.no_instances read.no_kerning
+        (numbers.family_from, numbers.family) numbers.major numbers.minor read.no_axes e
+        (one_master h read m e) read.origin read.no_instances read.no_kerning
 
     by : (masters : List Master) → ((m : Master) → masters ≡ m ∷ [] → IsHeader h)
         → length masters ≡ 1 → IsHeader h

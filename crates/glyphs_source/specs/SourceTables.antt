@@ -5,15 +5,16 @@
 use Rattle.std.specs.Prelude.{◌≡◌, ℕ, Bool, true, false, not, List, [], ◌∷◌, ◌++◌, codes, ◌⊎◌, ◌↔◌}
 use Rattle.plist_reader.specs.declared.tree.Tree.{Tree}
 use Rattle.refusal_codes.specs.declared.rule.Rule.{Rule}
-use Rattle.refusal_codes.specs.declared.rule.Rule.TheVariants.{WrongShape, MissingKey, WrongVersion,
-    OutOfRange}
+use Rattle.refusal_codes.specs.declared.rule.Rule.TheVariants.{WrongShape, MissingKey, WrongVersion}
+use Rattle.refusal_codes.specs.declared.rule.Rule.TheVariants.{OutOfRange}
 use Rattle.source_values.specs.declared.kinds.Range.TheVariants.{Any, Natural, Code}
 use Rattle.source_values.specs.Values.{place_at, is_list, is_dictionary}
-use Rattle.source_values.specs.Ways.{IsOneOf, Step, under, each_item, item, when, Reaches, Row,
-    Fails, rows_of, here, behind, has}
-use Rattle.source_values.specs.Tables.{decimal_passes, whole_table, decimal_table, text_table,
-    name_table, dictionary_table, empty_list_table, empty_dictionary_table, required_table,
-    optional_table, each_table, inside_table}
+use Rattle.source_values.specs.Ways.{IsOneOf, Step, under, each_item, item, when, Reaches, Row}
+use Rattle.source_values.specs.Ways.{Fails, rows_of, here, behind, has}
+use Rattle.source_values.specs.Tables.{decimal_passes, whole_table, decimal_table, text_table}
+use Rattle.source_values.specs.Tables.{name_table, dictionary_table, empty_list_table}
+use Rattle.source_values.specs.Tables.{empty_dictionary_table, required_table, optional_table}
+use Rattle.source_values.specs.Tables.{each_table, inside_table}
 use Rattle.glyphs_source.specs.HeaderReading.{is_version, is_axis_value, header_failures}
 use Rattle.glyphs_source.specs.IndexReading.{index_failures}
 

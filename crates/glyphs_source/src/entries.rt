@@ -1,7 +1,7 @@
 ghost use Rattle.std.specs.Prelude.{◌≡◌, map, IfOk};
 ghost use Rattle.source_values.specs.Values.{text_under, decimal_under};
-ghost use Rattle.glyphs_source.specs.IndexReading.{code_at, codes_at, glyph_codes, glyph_name,
-    is_zero, is_exported, entry_of};
+ghost use Rattle.glyphs_source.specs.IndexReading.{code_at, codes_at, glyph_codes, glyph_name};
+ghost use Rattle.glyphs_source.specs.IndexReading.{is_zero, is_exported, entry_of};
 
 use font_ir::Name;
 use plain_lists::Sequence;

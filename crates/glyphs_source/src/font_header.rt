@@ -5,8 +5,9 @@ ghost use Rattle.font_ir.specs.declared.header.Header.{Header as SeenHeader};
 ghost use Rattle.font_ir.specs.Headers.{IsHeader};
 ghost use Rattle.refusal_codes.specs.Gives.{Gives};
 ghost use Rattle.source_values.specs.Values.{natural_or};
-ghost use Rattle.glyphs_source.specs.HeaderReading.{units_per_em, master_record, first_master,
-    master_numbers, place_under, header_record, header_of, IsReadHeader};
+ghost use Rattle.glyphs_source.specs.HeaderReading.{units_per_em, master_record, first_master};
+ghost use Rattle.glyphs_source.specs.HeaderReading.{master_numbers, place_under, header_record};
+ghost use Rattle.glyphs_source.specs.HeaderReading.{header_of, IsReadHeader};
 
 use crate::header_rules::{Numbers, read_numbers, whole_failure};
 use font_ir::{Header, Master};

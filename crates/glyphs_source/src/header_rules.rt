@@ -3,10 +3,13 @@ ghost use Rattle.std.specs.Option.{option_map_or};
 ghost use Rattle.refusal_codes.specs.First.{noted, foremost};
 ghost use Rattle.source_values.specs.Asking.{fails};
 ghost use Rattle.source_values.specs.Values.{natural_or};
-ghost use Rattle.glyphs_source.specs.HeaderReading.{version_failures, axis_value_failures,
-    master_parts_failures, master_failures, masters_failures, name_and_numbers_failures,
-    design_forms_failures, feature_forms_failures, top_failures, header_failures,
-    axis_count_failures, header_whole_failures, units_per_em};
+ghost use Rattle.glyphs_source.specs.HeaderReading.{version_failures, axis_value_failures};
+ghost use Rattle.glyphs_source.specs.HeaderReading.{master_parts_failures, master_failures};
+ghost use Rattle.glyphs_source.specs.HeaderReading.{masters_failures, name_and_numbers_failures};
+ghost use Rattle.glyphs_source.specs.HeaderReading.{design_forms_failures, feature_forms_failures};
+ghost use Rattle.glyphs_source.specs.HeaderReading.{top_failures, header_failures};
+ghost use Rattle.glyphs_source.specs.HeaderReading.{axis_count_failures, header_whole_failures};
+ghost use Rattle.glyphs_source.specs.HeaderReading.{units_per_em};
 
 use plist_reader::Tree;
 use refusal_codes::{Failure, FirstFailure, Rule};
@@ -51,8 +54,7 @@ pub fn read_numbers(tree: &Tree, first: &mut FirstFailure) -> Numbers
 }
 
 /// What the top dictionary says of the whole font.
-#[tactic(auto, using(refusal_codes::specs::FirstLaws::noting),
-    unfolding(crate::specs::HeaderReading::top_failures))]
+#[tactic(auto, using(refusal_codes::specs::FirstLaws::noting), unfolding(crate::specs::HeaderReading::top_failures))]
 fn read_top(tree: &Tree, top: u32, first: &mut FirstFailure) -> Numbers
     ensures units { result.units ≡ natural_or 16 16384 16 tree.now top (codes "unitsPerEm") }
     ensures small { result.units ≤ 16384 }
@@ -67,8 +69,7 @@ fn read_top(tree: &Tree, top: u32, first: &mut FirstFailure) -> Numbers
     numbers
 }
 
-#[tactic(auto, using(refusal_codes::specs::FirstLaws::noting),
-    unfolding(crate::specs::HeaderReading::name_and_numbers_failures))]
+#[tactic(auto, using(refusal_codes::specs::FirstLaws::noting), unfolding(crate::specs::HeaderReading::name_and_numbers_failures))]
 fn read_name_and_numbers(tree: &Tree, top: u32, first: &mut FirstFailure) -> Numbers
     ensures units { result.units ≡ natural_or 16 16384 16 tree.now top (codes "unitsPerEm") }
     ensures small { result.units ≤ 16384 }
@@ -103,8 +104,7 @@ fn read_name_and_numbers(tree: &Tree, top: u32, first: &mut FirstFailure) -> Num
     }
 }
 
-#[tactic(auto, using(refusal_codes::specs::FirstLaws::noting),
-    unfolding(crate::specs::HeaderReading::design_forms_failures))]
+#[tactic(auto, using(refusal_codes::specs::FirstLaws::noting), unfolding(crate::specs::HeaderReading::design_forms_failures))]
 fn note_design_forms(tree: &Tree, top: u32, first: &mut FirstFailure)
     ensures { first.new ≡ noted first.old (design_forms_failures tree.now top) }
 {
@@ -114,8 +114,7 @@ fn note_design_forms(tree: &Tree, top: u32, first: &mut FirstFailure)
     optional(tree, top, b"customParameters", &EmptyList, first);
 }
 
-#[tactic(auto, using(refusal_codes::specs::FirstLaws::noting),
-    unfolding(crate::specs::HeaderReading::feature_forms_failures))]
+#[tactic(auto, using(refusal_codes::specs::FirstLaws::noting), unfolding(crate::specs::HeaderReading::feature_forms_failures))]
 fn note_feature_forms(tree: &Tree, top: u32, first: &mut FirstFailure)
     ensures { first.new ≡ noted first.old (feature_forms_failures tree.now top) }
 {
@@ -152,8 +151,7 @@ struct Masters;
 impl Asked for Masters {
     ghost failures = { λ asked. masters_failures };
 
-    #[tactic(auto, using(refusal_codes::specs::FirstLaws::noting),
-        unfolding(crate::specs::HeaderReading::masters_failures))]
+    #[tactic(auto, using(refusal_codes::specs::FirstLaws::noting), unfolding(crate::specs::HeaderReading::masters_failures))]
     fn note(&self, tree: &Tree, number: u32, first: &mut FirstFailure) {
         match items_at(tree, number) {
             None => note_at(tree, number, Rule::WrongShape, first),
@@ -191,8 +189,7 @@ struct MasterParts;
 impl Asked for MasterParts {
     ghost failures = { λ asked. master_parts_failures };
 
-    #[tactic(auto, using(refusal_codes::specs::FirstLaws::noting),
-        unfolding(crate::specs::HeaderReading::master_parts_failures))]
+    #[tactic(auto, using(refusal_codes::specs::FirstLaws::noting), unfolding(crate::specs::HeaderReading::master_parts_failures))]
     fn note(&self, tree: &Tree, master: u32, first: &mut FirstFailure) {
         required(tree, master, b"id", &PlainText, first);
         optional(tree, master, b"axesValues", &Each(AxisValue), first);

@@ -1,5 +1,6 @@
-ghost use Rattle.std.specs.Prelude.{◌≡◌, ◌<◌, ◌^◌, ◌++◌, [], length, map, option_copied, option_map,
-    slice_get, nat_eq, IfOk, IfErr, None, false, ◌==◌, ◌∷◌};
+ghost use Rattle.std.specs.Prelude.{◌≡◌, ◌<◌, ◌^◌, ◌++◌, [], length, map, option_copied};
+ghost use Rattle.std.specs.Prelude.{option_map, slice_get, nat_eq, IfOk, IfErr, None, false, ◌==◌};
+ghost use Rattle.std.specs.Prelude.{◌∷◌};
 ghost use Rattle.std.specs.Cmp.Lexicographic.{pointwise};
 ghost use Rattle.std.specs.Cmp.{partial_equiv_from_equiv};
 ghost use Rattle.plist_reader.specs.Tree.{IsTree};
@@ -11,8 +12,9 @@ ghost use Rattle.refusal_codes.specs.declared.job.TheConstants.{INDEX};
 ghost use Rattle.refusal_codes.specs.Gives.{Gives};
 ghost use Rattle.glyphs_source.specs.Repeats.{IsWithoutRepeats, TellsRepeatOf};
 ghost use Rattle.glyphs_source.specs.Same.{same_index, same_index_equiv};
-ghost use Rattle.glyphs_source.specs.IndexReading.{entries_from, glyph_numbers, glyph_name,
-    entry_of, repeated_names, repeats, counting, repeated_codes, index_of, AreNamed};
+ghost use Rattle.glyphs_source.specs.IndexReading.{entries_from, glyph_numbers, glyph_name};
+ghost use Rattle.glyphs_source.specs.IndexReading.{entry_of, repeated_names, repeats, counting};
+ghost use Rattle.glyphs_source.specs.IndexReading.{repeated_codes, index_of, AreNamed};
 
 use crate::entries::{IndexEntry, read_entry, read_name};
 use crate::index_rules::note_index;
@@ -108,8 +110,7 @@ pub fn glyph_index(alloc: Global, tree: &Tree) -> Result<GlyphIndex, ReadError>
 }
 
 /// What `glyph_index` answers.
-#[tactic(auto, using(crate::proofs::IndexLaws::entries_from_length),
-    unfolding(crate::specs::IndexReading::index_of))]
+#[tactic(auto, using(crate::proofs::IndexLaws::entries_from_length), unfolding(crate::specs::IndexReading::index_of))]
 fn read_index(alloc: Global, tree: &Tree) -> Result<GlyphIndex, ReadError>
     requires { IsTree tree.now }
     ensures entries { Gives (λ index. index) result (index_of tree.now) }
@@ -146,7 +147,7 @@ fn collect(
     requires { length glyphs.now < 2 ^ 32 }
     ensures { Gives (λ map. map.entries) result
         (judged (refusal_of INDEX []) None (foremost (repeated_names tree.now [] glyphs.now))
-            (entries_from tree.now 0 glyphs.now)) }
+        (entries_from tree.now 0 glyphs.now)) }
 {
     let mut entries = IndexMap::with_capacity(alloc, glyphs.len())?;
     for (number, glyph) in glyphs.iter().enumerate() {
@@ -173,7 +174,7 @@ fn add_glyph(
         ≡ is_among (glyph_name tree.now glyph) (keys_of entries.old.entries)) }
     ensures added { IfOk result (λ again. again ≡ false →
         entries.new.entries ≡ entries.old.entries
-            ++ (glyph_name tree.now glyph, entry_of tree.now number glyph) ∷ []) }
+        ++ (glyph_name tree.now glyph, entry_of tree.now number glyph) ∷ []) }
 {
     let name = read_name(alloc, tree, glyph)?;
     let entry = read_entry(alloc, tree, number, glyph, &name)?;

@@ -1,7 +1,7 @@
 ghost use Rattle.std.specs.Prelude.{◌≡◌};
 ghost use Rattle.refusal_codes.specs.First.{noted};
-ghost use Rattle.glyphs_source.specs.IndexReading.{codes_failures, glyph_parts_failures,
-    glyph_list_failures, index_failures};
+ghost use Rattle.glyphs_source.specs.IndexReading.{codes_failures, glyph_parts_failures};
+ghost use Rattle.glyphs_source.specs.IndexReading.{glyph_list_failures, index_failures};
 
 use plist_reader::Tree;
 use refusal_codes::FirstFailure;
@@ -36,8 +36,7 @@ struct GlyphParts;
 impl Asked for GlyphParts {
     ghost failures = { λ asked. glyph_parts_failures };
 
-    #[tactic(auto, using(refusal_codes::specs::FirstLaws::noting),
-        unfolding(crate::specs::IndexReading::glyph_parts_failures))]
+    #[tactic(auto, using(refusal_codes::specs::FirstLaws::noting), unfolding(crate::specs::IndexReading::glyph_parts_failures))]
     fn note(&self, tree: &Tree, glyph: u32, first: &mut FirstFailure) {
         required(tree, glyph, b"glyphname", &NameText, first);
         optional(tree, glyph, b"unicode", &Codes, first);

@@ -1,5 +1,6 @@
-ghost use Rattle.glyphs_source.specs.SourceTables.{HeaderIsTabled, IndexIsTabled,
-    MissingKeysOfTheHeader, WrongVersions, MissingKeysOfTheIndex};
+ghost use Rattle.glyphs_source.specs.SourceTables.{HeaderIsTabled, IndexIsTabled};
+ghost use Rattle.glyphs_source.specs.SourceTables.{MissingKeysOfTheHeader, WrongVersions};
+ghost use Rattle.glyphs_source.specs.SourceTables.{MissingKeysOfTheIndex};
 
 /// A local rule of the header fails at a place exactly where the table of what is asked of a header
 /// says so. A law: the function does nothing.

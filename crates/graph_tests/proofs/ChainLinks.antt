@@ -1,6 +1,6 @@
 -- Past the end of a chain there is no link.
-use Rattle.std.proofs.Common.{◌≡◌, ℕ, ◌≤◌, ◌<◌, nat_lt, Bool, true, false, cond, inl, inr, List, [],
-    ◌∷◌, sym, ap, arith}
+use Rattle.std.proofs.Common.{◌≡◌, ℕ, ◌≤◌, ◌<◌, nat_lt, Bool, true, false, cond, inl, inr, List, []}
+use Rattle.std.proofs.Common.{◌∷◌, sym, ap, arith}
 use Rattle.std.proofs.lemmas.Bool.{ltb-true, cases_Bool}
 use Rattle.access_context.specs.declared.access.Spec.{Spec}
 use Rattle.graph_tests.specs.Chains.{link, link_in}

@@ -1,12 +1,13 @@
 -- What workers hold follows the board's events.
-use Rattle.std.proofs.Common.{◌≡◌, ℕ, zero, suc, ◌<◌, Bool, true, false, cond, List, [], ◌∷◌, ◌++◌,
-    map, length, replicate, get_or, Option, Some, None, refl, sym, ap, ◌∙◌, subst, arith}
+use Rattle.std.proofs.Common.{◌≡◌, ℕ, zero, suc, ◌<◌, Bool, true, false, cond, List, [], ◌∷◌, ◌++◌}
+use Rattle.std.proofs.Common.{map, length, replicate, get_or, Option, Some, None, refl, sym, ap}
+use Rattle.std.proofs.Common.{◌∙◌, subst, arith}
 use Rattle.std.specs.Prelude.{slice_get, slice_set, fold, option_map, IfSome, All}
 use Rattle.std.proofs.lemmas.List.{map-set, length-map, length-replicate, length-set}
 use Rattle.std.proofs.lemmas.List.Sums.{fold-append}
 use Rattle.std.proofs.lemmas.List.Elements.{All-set}
-use Rattle.std.proofs.lemmas.Option.{slice_get-map, slice_get-get_or, slice_get_within,
-    get_or_from_slice_get}
+use Rattle.std.proofs.lemmas.Option.{slice_get-map, slice_get-get_or, slice_get_within}
+use Rattle.std.proofs.lemmas.Option.{get_or_from_slice_get}
 use Rattle.access_context.specs.Plain.{Plain}
 use Rattle.job_graph.specs.declared.event.Event.{Event}
 use Rattle.job_graph.specs.declared.event.Event.TheVariants as event
@@ -68,14 +69,17 @@ map-nothing f (suc n) = ap (λ ys. None ∷ ys) (map-nothing f n)
 All-nothing : {X : Type 0} (P : X → Type 0) (n : ℕ) → All (λ hand. IfSome hand P) (replicate n None)
 All-nothing {X} P n k d lt =
     let e : get_or (replicate {A = Option X} n None) k d
-        ≡ None = get_or_from_slice_get (replicate n None) k None d
-        (nothing n k (subst (λ m. k < m) (length-replicate {A = Option X} n None) lt)) in
+    ≡ None = get_or_from_slice_get (replicate n None) k None d
+    (nothing n k (subst (λ m. k < m) (length-replicate {A = Option X} n None) lt)) in
     subst (λ hand. IfSome hand P) (sym e) tt
 
 module _ {Id V : Type 0} (same : Id → Id → Bool) (plan : Meaning Id V) (workers : ℕ) where
   pub held_new : IsHeld same plan workers [] (replicate workers None)
-  held_new = record { outs = map-nothing (λ hand. hand.0) workers; due
-      = All-nothing (λ h. IsDue same plan h.0 h.1) workers }
+  held_new = record {
+    outs = map-nothing (λ hand. hand.0) workers;
+    due
+        = All-nothing (λ h. IsDue same plan h.0 h.1) workers;
+  }
 
   module _ (events : List (Event Id)) (hands : List (Option (Id × List (Id × Plain V))))
       (held : IsHeld same plan workers events hands) where

@@ -1,6 +1,7 @@
 -- A job of a table that is due has a value for each item that its row reads.
-use Rattle.std.proofs.Common.{◌≡◌, ℕ, zero, suc, ◌<◌, nat_eq, true, false, List, [], ◌∷◌, map,
-    length, get_or, inl, inr, Some, is_some, refl, sym, ap, ◌∙◌, subst, cond, unwrap_or, arith}
+use Rattle.std.proofs.Common.{◌≡◌, ℕ, zero, suc, ◌<◌, nat_eq, true, false, List, [], ◌∷◌, map}
+use Rattle.std.proofs.Common.{length, get_or, inl, inr, Some, is_some, refl, sym, ap, ◌∙◌, subst}
+use Rattle.std.proofs.Common.{cond, unwrap_or, arith}
 use Rattle.std.specs.Prelude.{All, IsSome, slice_get, option_and_then}
 use Rattle.std.proofs.lemmas.Bool.{and_parts, eqb-true, eq-eqb, false≢true}
 use Rattle.access_context.specs.declared.access.Spec.{Spec}
@@ -27,7 +28,7 @@ module _ (f : ℕ → Plain ℕ) where
   read_there [] k h = absurd h
   read_there (x ∷ ids) k h =
       elim (nat_eq x k) as (λ b. nat_eq x k ≡ b
-          → cond b (Some (f x)) (read_of nat_eq (map (λ id. (id, f id)) ids) k) ≡ Some (f k)) [
+      → cond b (Some (f x)) (read_of nat_eq (map (λ id. (id, f id)) ids) k) ≡ Some (f k)) [
         | true ↦ λ e. ap (λ j. Some (f j)) (eqb-true x k e)
         | false ↦ λ e. elim h [
           | inl is ↦ absurd (false≢true (sym e ∙ eq-eqb x k is))
@@ -58,15 +59,15 @@ due_values opening rows id reads d all =
     let plan = table opening rows in
     let last = limit nat_eq plan in
     let job = known opening rows (length plan.universe) d.job
-        (In-from_Contains last.jobs d.job d.added) in
+    (In-from_Contains last.jobs d.job d.added) in
     let ids : d.job.access.reads ≡ (row_access (slice_get rows id)).reads
-        = ap (λ (t : Spec ℕ). t.access.reads) job.is
-        ∙ ap (λ k. (row_access (slice_get rows k)).reads) d.named in
+    = ap (λ (t : Spec ℕ). t.access.reads) job.is
+    ∙ ap (λ k. (row_access (slice_get rows k)).reads) d.named in
     let is : reads ≡ reads_in nat_eq last (row_access (slice_get rows id)).reads = d.reads_are
-        ∙ ap (reads_in nat_eq last) ids in
+    ∙ ap (reads_in nat_eq last) ids in
     λ k e lt.
     subst (λ rs. IsSome (value_read nat_eq rs (get_or (row_access (slice_get rows id)).reads k e)))
-        (sym is)
+    (sym is)
     (value_there (λ j. unwrap_or (value_in nat_eq last j) Blocked)
-        (row_access (slice_get rows id)).reads _ (subst (λ rs. all_done rs ≡ true) is all)
-        (In-index (row_access (slice_get rows id)).reads k e lt))
+    (row_access (slice_get rows id)).reads _ (subst (λ rs. all_done rs ≡ true) is all)
+    (In-index (row_access (slice_get rows id)).reads k e lt))

@@ -1,7 +1,8 @@
 -- The plan of a chain of jobs: each reads the one before it and adds the one after it. Its solution
 -- shows how a plan is shown to be lawful. Plans of chains are fontc's own, for the tests.
-use Rattle.std.proofs.Common.{◌≡◌, ℕ, zero, suc, ◌+◌, ◌<◌, ◌≤◌, nat_eq, nat_lt, Bool, true, false,
-    cond, ◌⊎◌, inl, inr, List, [], ◌∷◌, map, Option, Some, None, refl, sym, ap, ◌∙◌, subst, arith}
+use Rattle.std.proofs.Common.{◌≡◌, ℕ, zero, suc, ◌+◌, ◌<◌, ◌≤◌, nat_eq, nat_lt, Bool, true, false}
+use Rattle.std.proofs.Common.{cond, ◌⊎◌, inl, inr, List, [], ◌∷◌, map, Option, Some, None, refl}
+use Rattle.std.proofs.Common.{sym, ap, ◌∙◌, subst, arith}
 use Rattle.std.specs.Prelude.{Contains}
 use Rattle.std.proofs.lemmas.Bool.{eqb-true, eq-eqb, ltb-true, lt-ltb, false≢true, cases_Bool}
 use Rattle.access_context.specs.declared.access.Spec.{Spec}
@@ -57,7 +58,7 @@ link-In : (length id : ℕ) (job : Spec ℕ) → In job (link_in length id)
     → (id < length) × (link id ≡ job)
 link-In length id job =
     elim (nat_lt id length) as (λ b. nat_lt id length ≡ b → In job (cond b (link id ∷ []) [])
-        → (id < length) × (link id ≡ job)) [
+    → (id < length) × (link id ≡ job)) [
       | true ↦ λ e i. elim i [ inl is ↦ (ltb-true id length e, is) | inr none ↦ absurd none ]
       | false ↦ λ e i. absurd i
     ] refl
@@ -77,8 +78,8 @@ module _ (length : ℕ) where
   adds_next id lt =
       let at : id + 1 ≡ suc id = omega arith in
       Contains-from_In _ (link (suc id)) (subst
-          (λ (o : PlainOutcome ℕ ℕ). In (link (suc id)) o.added) (sym (link_outcome length id))
-          (subst (λ k. In (link k) (link_in length (id + 1))) at (In-link length (id + 1) lt)))
+      (λ (o : PlainOutcome ℕ ℕ). In (link (suc id)) o.added) (sym (link_outcome length id))
+      (subst (λ k. In (link k) (link_in length (id + 1))) at (In-link length (id + 1) lt)))
 
   -- each link is founded, since the one before it is
   chain_founded : (id : ℕ) → id < length → Founded nat_eq (chain length) link (λ id. id < length)
@@ -90,23 +91,29 @@ module _ (length : ℕ) where
   chain_founded (suc id) lt =
       let maker = chain_founded id (omega arith) in
       added (suc id) id maker (adds_next id (omega arith))
-      (λ read c. elim (In-from_Contains (id ∷ []) read c)
-          [ inl is ↦ subst (λ k. Founded nat_eq (chain length) link (λ id. id < length) Done k) is
-          maker | inr none ↦ absurd none ])
+      (λ read c. elim (In-from_Contains (id ∷ []) read c) [
+        | inl is ↦ subst (λ k. Founded nat_eq (chain length) link (λ id. id < length) Done k) is
+            maker
+        | inr none ↦ absurd none
+      ])
       (λ k other e there low. absurd (no_wait k e))
 
   least : (id : ℕ) → id < length → Contains (link_in length 0) (link id)
       ⊎ IsMade nat_eq (chain length) link (λ id. id < length) Done id
   least zero lt = inl (Contains-from_In (link_in length 0) (link 0) (In-link length 0 lt))
-  least (suc id) lt = inr (record { maker = id; founded = chain_founded id (omega arith); adds
-      = adds_next id (omega arith) })
+  least (suc id) lt = inr (record {
+    maker = id;
+    founded = chain_founded id (omega arith);
+    adds
+        = adds_next id (omega arith);
+  })
 
   made : (id : ℕ) (job : Spec ℕ) → Contains
       (solved_outcome nat_eq (chain length) link (λ id. id < length) Done id).added job
       → (job.id < length) × (job ≡ link job.id)
   made id job c =
       let i = link-In length (id + 1) job (subst (λ (o : PlainOutcome ℕ ℕ). In job o.added)
-          (link_outcome length id) (In-from_Contains _ job c)) in
+      (link_outcome length id) (In-from_Contains _ job c)) in
       (subst (λ (j : Spec ℕ). j.id < length) i.1 i.0, sym i.1 ∙ ap (λ (j : Spec ℕ). link j.id) i.1)
 
   pub chain_solution : IsSolution nat_eq (chain length) link (λ id. id < length) Done
@@ -115,8 +122,11 @@ module _ (length : ℕ) where
     quiet = λ id reads e. absurd (false≢true (sym e));
     named = λ id. refl;
     opening = λ job c. (let i = link-In length 0 job (In-from_Contains (link_in length 0) job c)
-        in (subst (λ (j : Spec ℕ). j.id < length) i.1 i.0, sym i.1
-        ∙ ap (λ (j : Spec ℕ). link j.id) i.1));
+        in (
+          subst (λ (j : Spec ℕ). j.id < length) i.1 i.0,
+          sym i.1
+              ∙ ap (λ (j : Spec ℕ). link j.id) i.1,
+        ));
     value = λ id f. ap (λ (o : PlainOutcome ℕ ℕ). o.value) (link_outcome length id);
     adds = λ id job f c. made id job c;
     least = least;

@@ -1,8 +1,9 @@
 -- Plans that a finite table gives, as the tests use them: the row of a job has its stratum, what it
 -- waits for, the ids of the jobs that it adds, and whether it is refused. Else what comes of a job
 -- is the sum of its id and of the values that it reads. fontc's own.
-use Rattle.std.specs.Prelude.{ℕ, ◌+◌, ◌%◌, ◌^◌, nat_eq, nat_le, nat_lt, fold, unwrap_or, Bool, true,
-    false, ◌&&◌, List, [], ◌++◌, map, Option, Some, None, slice_get, if◌then◌else◌}
+use Rattle.std.specs.Prelude.{ℕ, ◌+◌, ◌%◌, ◌^◌, nat_eq, nat_le, nat_lt, fold, unwrap_or, Bool, true}
+use Rattle.std.specs.Prelude.{false, ◌&&◌, List, [], ◌++◌, map, Option, Some, None, slice_get}
+use Rattle.std.specs.Prelude.{if◌then◌else◌}
 use Rattle.std.specs.List.{list_all, flat_map}
 use Rattle.refusal_codes.specs.declared.refusal.Refusal.{Refusal}
 use Rattle.refusal_codes.specs.declared.rule.Rule.TheVariants.{OpenContour}
@@ -58,16 +59,24 @@ module _ (rows : List Row) where
 
   -- the refusal of a job
   abbrev pub refusal_at : ℕ → Refusal
-  refusal_at id = record { stratum = stratum_at id; kind = 0; name = []; rule = OpenContour; place
-      = id }
+  refusal_at id = record {
+    stratum = stratum_at id;
+    kind = 0;
+    name = [];
+    rule = OpenContour;
+    place
+        = id;
+  }
 
   -- a refused job adds nothing
   abbrev pub outcome_at : ℕ → List (ℕ × Plain ℕ) → PlainOutcome ℕ ℕ
   outcome_at id reads =
       if row_refuses (slice_get rows id)
       then record { value = Refused (refusal_at id); added = [] }
-      else record { value = Done (fold (add_read reads) id (row_access (slice_get rows id)).reads);
-          added = map job_at (row_added (slice_get rows id)) }
+      else record {
+        value = Done (fold (add_read reads) id (row_access (slice_get rows id)).reads);
+        added = map job_at (row_added (slice_get rows id));
+      }
 
 -- the plan of a table that begins with the jobs of these ids
 abbrev pub table : List ℕ → List Row → Meaning ℕ ℕ

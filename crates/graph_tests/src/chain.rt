@@ -1,8 +1,8 @@
 // A plan of a chain of jobs, which its solution shows to be lawful.
 ghost use Rattle.std.specs.Prelude.{◌≡◌, ◌+◌, ◌<◌, IfOk};
 ghost use Rattle.access_context.specs.Plain.{Done};
-ghost use Rattle.graph_tests.specs.Chains.{before, link, link_in, chain, chain_solution,
-    chain_lawful};
+ghost use Rattle.graph_tests.specs.Chains.{before, link, link_in, chain, chain_solution};
+ghost use Rattle.graph_tests.specs.Chains.{chain_lawful};
 
 use access_context::{Access, Outcome, Reads, Settled, Spec};
 use job_graph::{Plan, Solved};

@@ -1,7 +1,7 @@
 // Workers at a board: at each of its calls a worker finishes the job that it has, or else claims
 // one.
-ghost use Rattle.std.specs.Prelude.{◌≡◌, ◌<◌, [], ◌∷◌, ◌++◌, OnOk, IfOk, Some, None, slice_get,
-    replicate};
+ghost use Rattle.std.specs.Prelude.{◌≡◌, ◌<◌, [], ◌∷◌, ◌++◌, OnOk, IfOk, Some, None, slice_get};
+ghost use Rattle.std.specs.Prelude.{replicate};
 ghost use Rattle.job_graph.specs.Rounds.{IsDue};
 ghost use Rattle.job_graph.specs.Histories.{out_of};
 ghost use Rattle.graph_tests.specs.Held.{IsHeld};

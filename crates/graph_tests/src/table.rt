@@ -1,10 +1,11 @@
 // Plans that a table gives: a row for each job, which its place names.
-ghost use Rattle.std.specs.Prelude.{◌≡◌, map, fold, All, IsSome, IfOk, true, nat_eq, nat_le,
-    slice_get};
+ghost use Rattle.std.specs.Prelude.{◌≡◌, map, fold, All, IsSome, IfOk, true, nat_eq, nat_le};
+ghost use Rattle.std.specs.Prelude.{slice_get};
 ghost use Rattle.std.specs.List.{list_all};
 ghost use Rattle.access_context.specs.Read.{value_read};
-ghost use Rattle.graph_tests.specs.Tables.{row_access, row_added, row_refuses, is_above, stratum_at,
-    job_at, is_sound_row, is_sound, add_read, refusal_at, table};
+ghost use Rattle.graph_tests.specs.Tables.{row_access, row_added, row_refuses, is_above};
+ghost use Rattle.graph_tests.specs.Tables.{stratum_at, job_at, is_sound_row, is_sound, add_read};
+ghost use Rattle.graph_tests.specs.Tables.{refusal_at, table};
 ghost use Rattle.graph_tests.specs.TableLaws.{table_lawful};
 
 use access_context::{Access, Outcome, Reads, Settled, Spec};

@@ -1,14 +1,15 @@
 -- The parts of a board follow its events.
-use Rattle.std.proofs.Common.{◌≡◌, ℕ, zero, suc, ◌+◌, ◌<◌, ◌≤◌, Bool, true, false, not, ◌&&◌, ◌||◌,
-    nat_eq, inl, inr, List, [], ◌∷◌, ◌++◌, map, length, replicate, get_or, Option, Some, None,
-    is_some, refl, sym, ap, ◌∙◌, subst, cond, arith}
+use Rattle.std.proofs.Common.{◌≡◌, ℕ, zero, suc, ◌+◌, ◌<◌, ◌≤◌, Bool, true, false, not, ◌&&◌, ◌||◌}
+use Rattle.std.proofs.Common.{nat_eq, inl, inr, List, [], ◌∷◌, ◌++◌, map, length, replicate, get_or}
+use Rattle.std.proofs.Common.{Option, Some, None, is_some, refl, sym, ap, ◌∙◌, subst, cond, arith}
 use Rattle.std.specs.Prelude.{IfSome, slice_get, slice_set, count_by, fold, option_map}
 use Rattle.std.specs.List.{list_any, find}
 use Rattle.std.specs.Vec.{vec_len, vec_capacity}
 use Rattle.std.specs.declared.vec.Vec.{Vec}
 use Rattle.std.specs.declared.alloc.Global.{Global}
-use Rattle.std.proofs.lemmas.Bool.{and_parts, and_from, or_right, false≢true, cases_Bool,
-    false_from_ne_true, lt-ltb, eqb-true, eq-eqb, not_from_false, not-true}
+use Rattle.std.proofs.lemmas.Bool.{and_parts, and_from, or_right, false≢true, cases_Bool}
+use Rattle.std.proofs.lemmas.Bool.{false_from_ne_true, lt-ltb, eqb-true, eq-eqb, not_from_false}
+use Rattle.std.proofs.lemmas.Bool.{not-true}
 use Rattle.std.proofs.lemmas.List.{length-set, length-replicate, map-append}
 use Rattle.std.proofs.lemmas.List.Sums.{fold-append, count_by-le-length, sum_by-set}
 use Rattle.std.proofs.lemmas.Option.{slice_get_within, get_or_from_slice_get, slice_get-get_or}
@@ -20,24 +21,25 @@ use Rattle.job_graph.specs.declared.event.Event.{Event}
 use Rattle.job_graph.specs.declared.event.Event.TheVariants as event
 use Rattle.job_graph.specs.declared.event.End.TheVariants.{Running, Ended, Halted}
 use Rattle.job_graph.specs.Meaning.{Meaning}
-use Rattle.job_graph.specs.Rounds.{State, state_from, value_in, is_unsettled_job, is_ready,
-    reads_in, outcome_in, limit, IsOutcomeOf}
+use Rattle.job_graph.specs.Rounds.{State, state_from, value_in, is_unsettled_job, is_ready}
+use Rattle.job_graph.specs.Rounds.{reads_in, outcome_in, limit, IsOutcomeOf}
 use Rattle.job_graph.specs.Laws.{IsLawful}
-use Rattle.job_graph.specs.Histories.{is_halt, is_halt_of, has_halted, out_after, out_of, running,
-    was_claimed, has_out, state_of, is_ready_id, is_allowed, is_run, some_ready, is_claimable,
-    end_of}
+use Rattle.job_graph.specs.Histories.{is_halt, is_halt_of, has_halted, out_after, out_of, running}
+use Rattle.job_graph.specs.Histories.{was_claimed, has_out, state_of, is_ready_id, is_allowed}
+use Rattle.job_graph.specs.Histories.{is_run, some_ready, is_claimable, end_of}
 use Rattle.job_graph.specs.Scan.{next_of, IsNext}
 use Rattle.job_graph.specs.Promises.{IsHistory}
 use Rattle.job_graph.specs.BoardView.{BoardView, IsBoard, halted_after, halted_of}
 use Rattle.job_graph.specs.Answers.{HandsOut, some_claimable}
-use Rattle.job_graph.specs.Members.{In, In-from_Contains, Contains-from_In, find-some, find-In,
-    list_any-In, list_any-found}
-use Rattle.job_graph.specs.Growth.{none≢some, Within, reads_agree, all_settled_within,
-    outcome_within, ready_reads, ready_unsettled, settle}
+use Rattle.job_graph.specs.Members.{In, In-from_Contains, Contains-from_In, find-some, find-In}
+use Rattle.job_graph.specs.Members.{list_any-In, list_any-found}
+use Rattle.job_graph.specs.Growth.{none≢some, Within, reads_agree, all_settled_within}
+use Rattle.job_graph.specs.Growth.{outcome_within, ready_reads, ready_unsettled, settle}
 use Rattle.job_graph.specs.Confluence.{nil_append}
 use Rattle.job_graph.specs.Limit.{limit_orderly, below_limit}
-use Rattle.job_graph.proofs.Run.{get_set_same, get_set_other, is_run-push, run_induction,
-    state_of-push, out_of-push, claim_allowed, IsOut, Grows, grows, finish_is}
+use Rattle.job_graph.proofs.Run.{get_set_same, get_set_other, is_run-push, run_induction}
+use Rattle.job_graph.proofs.Run.{state_of-push, out_of-push, claim_allowed, IsOut, Grows, grows}
+use Rattle.job_graph.proofs.Run.{finish_is}
 use Rattle.job_graph.proofs.Owned.{or_false, list_any-push}
 use Rattle.job_graph.proofs.Halts.{length-out_of, halts-set, halted_of-push, halted_flag}
 use Rattle.job_graph.proofs.Kept.{claimed_runs, within_limit, history_of, complete_of_end}
@@ -101,9 +103,9 @@ module _ {Id V : Type 0} (same : Id → Id → Bool) (plan : Meaning Id V) (work
         × (was_claimed same events.items job.id ≡ false)
     next_is job e =
         let f = find-some _ (state_of same plan events.items).jobs job
-            (subst (λ s. next_of same plan s events.items s.jobs ≡ Some job) b.state_is e) in
+        (subst (λ s. next_of same plan s events.items s.jobs ≡ Some job) b.state_is e) in
         let p = and_parts (is_ready same plan (state_of same plan events.items) job)
-            (not (was_claimed same events.items job.id)) f.1 in
+        (not (was_claimed same events.items job.id)) f.1 in
         (f.0, p.0, not-true _ p.1)
 
     pub board_claim : (w : ℕ) (id : Id) → w < workers
@@ -116,12 +118,18 @@ module _ {Id V : Type 0} (same : Id → Id → Bool) (plan : Meaning Id V) (work
         let n = next_is job e in
         let now = state_of same plan events.items in
         let ready : is_ready_id same plan now id
-            ≡ true = list_any-In _ now.jobs job n.0
-            (and_from _ _ ((lawful.identity job.id id).1 named) n.1) in
+        ≡ true = list_any-In _ now.jobs job n.0
+        (and_from _ _ ((lawful.identity job.id id).1 named) n.1) in
         let allowed = claim_allowed same plan workers events.items w id
-            (record { below = lt-ltb w workers lt; ready = ready; new
-            = subst (λ k. was_claimed same events.items k ≡ false) named n.2; free = free; no_halt
-            = sym b.any_is ∙ no_halt }) in
+        (record {
+          below = lt-ltb w workers lt;
+          ready = ready;
+          new
+              = subst (λ k. was_claimed same events.items k ≡ false) named n.2;
+          free = free;
+          no_halt
+              = sym b.any_is ∙ no_halt;
+        }) in
         record {
           legal = ap (is_run same plan workers) items
               ∙ is_run-push same plan workers events.items (event.Claim w id) b.legal allowed;
@@ -148,29 +156,29 @@ module _ {Id V : Type 0} (same : Id → Id → Bool) (plan : Meaning Id V) (work
     board_finish w id out value added o after items room =
         let now = state_of same plan events.items in
         let g : Grows same plan workers lawful now (out_of workers events.items)
-            = grows same plan workers lawful events.items b.legal in
+        = grows same plan workers lawful events.items b.legal in
         let it : IsOut same plan workers lawful now id = g.out w id out in
         let last = limit same plan in
         let w_by : Within same plan it.by last = below_limit same plan lawful it.by it.by_grown in
         let is_job : o.job ≡ it.job = (limit_orderly same plan lawful).one o.job it.job
-            (In-from_Contains last.jobs o.job o.added) (w_by.jobs it.job it.there)
-            (o.named ∙ sym it.named) in
+        (In-from_Contains last.jobs o.job o.added) (w_by.jobs it.job it.there)
+        (o.named ∙ sym it.named) in
         let agree : ◌≡◌ {A = PlainOutcome V Id} (record { value = value; added = added })
-            (outcome_in same plan it.by it.job) = o.is ∙ ap (outcome_in same plan last) is_job
-            ∙ sym (outcome_within same plan it.by last w_by it.job
-            (ready_reads same plan it.by it.job it.ready)) in
+        (outcome_in same plan it.by it.job) = o.is ∙ ap (outcome_in same plan last) is_job
+        ∙ sym (outcome_within same plan it.by last w_by it.job
+        (ready_reads same plan it.by it.job it.ready)) in
         let jobs : state.jobs ++ added ≡ now.jobs
-            ++ ((outcome_in same plan it.by it.job).added ++ []) = λ i. (b.state_is i).jobs
-            ++ (ap (λ u. u.added) agree ∙ sym (nil_append _)) i in
+        ++ ((outcome_in same plan it.by it.job).added ++ []) = λ i. (b.state_is i).jobs
+        ++ (ap (λ u. u.added) agree ∙ sym (nil_append _)) i in
         let values : state.values ++ (id, value) ∷ []
-            ≡ now.values ++ (it.job.id, (outcome_in same plan it.by it.job).value)
-            ∷ [] = λ i. (b.state_is i).values ++ (sym it.named i, (agree i).value) ∷ [] in
+        ≡ now.values ++ (it.job.id, (outcome_in same plan it.by it.job).value)
+        ∷ [] = λ i. (b.state_is i).values ++ (sym it.named i, (agree i).value) ∷ [] in
         let settled : ◌≡◌ {A = State Id V} (record
-            { jobs = state.jobs ++ added; values = state.values ++ (id, value) ∷ [] })
-            (settle same plan it.by now it.job) = λ i. record { jobs = jobs i; values = values i }
-            in
+        { jobs = state.jobs ++ added; values = state.values ++ (id, value) ∷ [] })
+        (settle same plan it.by now it.job) = λ i. record { jobs = jobs i; values = values i }
+        in
         let allowed : is_allowed same plan workers events.items (event.Finish w id)
-            ≡ true = ap (has_out same id) out ∙ (lawful.identity id id).1 refl in
+        ≡ true = ap (has_out same id) out ∙ (lawful.identity id id).1 refl in
         record {
           legal = ap (is_run same plan workers) items
               ∙ is_run-push same plan workers events.items (event.Finish w id) b.legal allowed;
@@ -237,7 +245,7 @@ module _ {Id V : Type 0} (same : Id → Id → Bool) (plan : Meaning Id V) (work
         true
     board_halt w lt e after items len cap =
         let flag : list_any (is_halt_of w) events.items
-            ≡ false = same_flag _ _ (sym (flag_is w lt) ∙ e) in
+        ≡ false = same_flag _ _ (sym (flag_is w lt) ∙ e) in
         record {
           legal = ap (is_run same plan workers) items
               ∙ is_run-push same plan workers events.items (event.Halt w) b.legal
@@ -265,10 +273,10 @@ module _ {Id V : Type 0} (same : Id → Id → Bool) (plan : Meaning Id V) (work
         let now = state_of same plan events.items in
         let last = limit same plan in
         let w : Within same plan now last = within_limit same plan workers lawful events.items
-            b.legal in
+        b.legal in
         let settled = ready_reads same plan now job n.1 in
         let here : reads ≡ reads_in same now job.access.reads = is
-            ∙ ap (λ s. reads_in same s job.access.reads) b.state_is in
+        ∙ ap (λ s. reads_in same s job.access.reads) b.state_is in
         record {
           job = job;
           added = Contains-from_In now.jobs job n.0;
@@ -298,7 +306,7 @@ module _ {Id V : Type 0} (same : Id → Id → Bool) (plan : Meaning Id V) (work
         let now = state_of same plan events.items in
         let nobody : has_halted events.items ≡ false = sym b.any_is ∙ no_halt in
         let stands : running workers events.items ≡ 0 = sym (ap (count_by is_some) b.outs_are)
-            ∙ none in
+        ∙ none in
         let over : some_ready same plan now ≡ false = false_from_ne_true _ (λ t.
         let f = list_any-found (is_ready same plan now) now.jobs t in
         let unclaimed = none_claimable e in
@@ -356,15 +364,18 @@ pub board_finish_lists : {Id V : Type 0} (same : Id → Id → Bool) (plan : Mea
 board_finish_lists {Id} {V} same plan workers lawful events jobs values outs halted any b w id out
     value added o k named after items room jobs' values' js vs =
     let now : map plain_item values' ≡ map plain_item values ++ (id, plain value)
-        ∷ [] = ap (map plain_item) vs ∙ map-append plain_item values ((k, value) ∷ [])
-        ∙ ap (λ (j : Id). map plain_item values ++ (j, plain value) ∷ []) named in
-    let is : ◌≡◌ {A = State Id V} (record { jobs = jobs ++ added; values = map plain_item values
-        ++ (id, plain value) ∷ [] }) (state_from jobs' values')
-        = λ i. record { jobs = sym js i; values = sym now i } in
+    ∷ [] = ap (map plain_item) vs ∙ map-append plain_item values ((k, value) ∷ [])
+    ∙ ap (λ (j : Id). map plain_item values ++ (j, plain value) ∷ []) named in
+    let is : ◌≡◌ {A = State Id V} (record {
+      jobs = jobs ++ added;
+      values = map plain_item values
+          ++ (id, plain value) ∷ [];
+    }) (state_from jobs' values')
+    = λ i. record { jobs = sym js i; values = sym now i } in
     subst (λ s. IsBoard same plan workers after s (slice_set outs w None) halted any) is
     (board_finish same plan workers lawful events (state_from jobs values) outs halted any b w id
-        out (plain value) added o after (items
-        ∙ ap (λ (j : Id). events.items ++ event.Finish w j ∷ []) named) room)
+    out (plain value) added o after (items
+    ∙ ap (λ (j : Id). events.items ++ event.Finish w j ∷ []) named) room)
 
 -- the same board, by its lists
 pub board_kept : {Id V : Type 0} (same : Id → Id → Bool) (plan : Meaning Id V) (workers : ℕ)
@@ -378,9 +389,9 @@ pub board_kept : {Id V : Type 0} (same : Id → Id → Bool) (plan : Meaning Id 
 board_kept {Id} {V} same plan workers events jobs values outs halted any b after items room jobs'
     values' js vs =
     let is : ◌≡◌ {A = State Id V} (state_from jobs values) (state_from jobs' values')
-        = λ i. state_from (sym js i) (sym vs i) in
+    = λ i. state_from (sym js i) (sym vs i) in
     board_same same plan workers events after (state_from jobs' values') outs halted any
-        (subst (λ s. IsBoard same plan workers events s outs halted any) is b) items room
+    (subst (λ s. IsBoard same plan workers events s outs halted any) is b) items room
 
 -- views of one board
 pub same_workers : {P Id : Type 0} (x y : BoardView P Id) → x ≡ y → x.workers ≡ y.workers
@@ -396,7 +407,7 @@ pub view_push : {P Id : Type 0} (x v : BoardView P Id) (e : Event Id) (new : Lis
     (record { plan = v.plan; workers = v.workers; events = v.events ++ e ∷ [] })
 view_push {P} {Id} x v e new is n =
     let events : new ≡ v.events ++ e ∷ [] = n ∙ ap (λ (u : BoardView P Id). u.events ++ e ∷ []) is
-        in
+    in
     λ i. record { plan = (is i).plan; workers = (is i).workers; events = events i }
 
 pub view_same : {P Id : Type 0} (x v : BoardView P Id) (new : List (Event Id)) → x ≡ v
@@ -427,8 +438,8 @@ pub next_moved : {Id V : Type 0} (same : Id → Id → Bool) (plan : Meaning Id 
     → IsNext same plan (state_from js vs) es o → IsNext same plan (state_from jobs values) events o
 next_moved same plan js jobs vs values es events a b c o n =
     subst (λ x. IsNext same plan (state_from x values) events o) a
-        (subst (λ y. IsNext same plan (state_from js y) events o) b
-        (subst (λ z. IsNext same plan (state_from js vs) z o) c n))
+    (subst (λ y. IsNext same plan (state_from js y) events o) b
+    (subst (λ z. IsNext same plan (state_from js vs) z o) c n))
 
 pub next_none : {Id V : Type 0} (same : Id → Id → Bool) (plan : Meaning Id V) (state : State Id V)
     (events : List (Event Id)) (o : Option (Id × List (Id × Plain V)))

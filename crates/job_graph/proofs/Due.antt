@@ -4,8 +4,8 @@ use Rattle.std.specs.Prelude.{IfOk}
 use Rattle.access_context.specs.Plain.{Plain, PlainOutcome}
 use Rattle.access_context.specs.Read.{all_done}
 use Rattle.job_graph.specs.Meaning.{Meaning}
-use Rattle.job_graph.specs.Rounds.{blocked, reads_in, outcome_of, outcome_in, limit, IsDue,
-    IsOutcomeOf}
+use Rattle.job_graph.specs.Rounds.{blocked, reads_in, outcome_of, outcome_in, limit, IsDue}
+use Rattle.job_graph.specs.Rounds.{IsOutcomeOf}
 
 pub if_ok : {T E : Type 0} (r : Result T E) (P Q : T → Type 0) → ((x : T) → P x → Q x) → IfOk r P
     → IfOk r Q
@@ -29,11 +29,21 @@ module _ {Id V : Type 0} (same : Id → Id → Bool) (plan : Meaning Id V) where
 
   pub due_blocked : (id : Id) (reads : List (Id × Plain V)) → IsDue same plan id reads
       → all_done reads ≡ false → IsOutcomeOf same plan id blocked
-  due_blocked id reads d e = record { job = d.job; added = d.added; named = d.named; is
-      = sym (outcome_due id reads d ∙ outcome_blocked id reads e) }
+  due_blocked id reads d e = record {
+    job = d.job;
+    added = d.added;
+    named = d.named;
+    is
+        = sym (outcome_due id reads d ∙ outcome_blocked id reads e);
+  }
 
   pub due_done : (id : Id) (reads : List (Id × Plain V)) → IsDue same plan id reads
       → all_done reads ≡ true → (o : PlainOutcome V Id) → o ≡ plan.outcome id reads
       → IsOutcomeOf same plan id o
-  due_done id reads d e o is = record { job = d.job; added = d.added; named = d.named; is = is
-      ∙ sym (outcome_due id reads d ∙ outcome_done id reads e) }
+  due_done id reads d e o is = record {
+    job = d.job;
+    added = d.added;
+    named = d.named;
+    is = is
+        ∙ sym (outcome_due id reads d ∙ outcome_done id reads e);
+  }

@@ -1,7 +1,7 @@
 -- Which workers halted, and what each has out, one event after another.
-use Rattle.std.proofs.Common.{◌≡◌, ◌≢◌, ℕ, zero, suc, ◌+◌, ◌<◌, Bool, true, false, not, ◌||◌, ◌⊎◌,
-    nat_eq, inl, inr, List, [], ◌∷◌, ◌++◌, length, replicate, get_or, Option, Some, None, refl, sym,
-    ap, ◌∙◌, subst, cond, arith}
+use Rattle.std.proofs.Common.{◌≡◌, ◌≢◌, ℕ, zero, suc, ◌+◌, ◌<◌, Bool, true, false, not, ◌||◌, ◌⊎◌}
+use Rattle.std.proofs.Common.{nat_eq, inl, inr, List, [], ◌∷◌, ◌++◌, length, replicate, get_or}
+use Rattle.std.proofs.Common.{Option, Some, None, refl, sym, ap, ◌∙◌, subst, cond, arith}
 use Rattle.std.specs.Prelude.{slice_get, slice_set, count_by, fold, filter}
 use Rattle.std.specs.List.{list_any}
 use Rattle.std.proofs.lemmas.Bool.{or_cases, or_right, false≢true, cases_Bool, eqb-true, eq-eqb}
@@ -11,8 +11,8 @@ use Rattle.std.proofs.lemmas.Option.{slice_get_within, get_or_from_slice_get, sl
 use Rattle.job_graph.specs.declared.event.Event.{Event}
 use Rattle.job_graph.specs.declared.event.Event.TheVariants as event
 use Rattle.job_graph.specs.Meaning.{Meaning}
-use Rattle.job_graph.specs.Histories.{is_halt, is_halt_of, has_halted, out_after, out_of, out_at,
-    worker_of, events_of, is_allowed, is_run}
+use Rattle.job_graph.specs.Histories.{is_halt, is_halt_of, has_halted, out_after, out_of, out_at}
+use Rattle.job_graph.specs.Histories.{worker_of, events_of, is_allowed, is_run}
 use Rattle.job_graph.specs.BoardView.{BoardView, NowHas, halted_after, halted_of}
 use Rattle.job_graph.specs.Members.{list_any-In, list_any-found}
 use Rattle.job_graph.proofs.Run.{get_set_same, get_set_other, run_induction, may_claim}
@@ -44,11 +44,11 @@ pub halts-set : (halted : List Bool) (w : ℕ) → slice_get halted w ≡ Some f
     → count_by not (slice_set halted w true) + 1 ≡ count_by not halted
 halts-set halted w e =
     let s = sum_by-set (λ b. cond (not b) 1 0) halted w true false
-        (slice_get_within halted w false e) in
+    (slice_get_within halted w false e) in
     let g : get_or halted w false ≡ false = get_or_from_slice_get halted w false false e in
     let t : count_by not (slice_set halted w true) + 1
-        ≡ count_by not halted + 0 = subst (λ b. count_by not (slice_set halted w true)
-        + cond (not b) 1 0 ≡ count_by not halted + 0) g s in
+    ≡ count_by not halted + 0 = subst (λ b. count_by not (slice_set halted w true)
+    + cond (not b) 1 0 ≡ count_by not halted + 0) g s in
     omega arith
 
 pub outs-push : {Id : Type 0} (workers : ℕ) (events : List (Event Id)) (e : Event Id)
@@ -62,8 +62,8 @@ pub now_has : {P Id : Type 0} (old new : BoardView P Id) (e : Event Id) (w : ℕ
     → out_at old.workers old.events w ≡ Some had → NowHas old new w out
 now_has {P} {Id} old new e w out is sets had at =
     let after : out_of old.workers (old.events ++ e ∷ [])
-        ≡ slice_set (out_of old.workers old.events) w out = outs-push old.workers old.events e
-        ∙ sets (out_of old.workers old.events) in
+    ≡ slice_set (out_of old.workers old.events) w out = outs-push old.workers old.events e
+    ∙ sets (out_of old.workers old.events) in
     subst (λ (v : BoardView P Id). NowHas old v w out) (sym is) (record {
       here = ap (λ os. slice_get os w) after
           ∙ get_set_same (out_of old.workers old.events) w out had at;
@@ -83,8 +83,11 @@ none_at_first {Id} workers w lt events e = ap (λ es. out_at workers es w) e
 
 pub some_out : {Id : Type 0} (workers w : ℕ) → w < workers → (events : List (Event Id))
     → (x : Option Id) × (out_at workers events w ≡ Some x)
-some_out workers w lt events = (get_or (out_of workers events) w None, slice_get-get_or
-    (out_of workers events) w None (let n = length-out_of workers events in omega arith))
+some_out workers w lt events = (
+  get_or (out_of workers events) w None,
+  slice_get-get_or
+      (out_of workers events) w None (let n = length-out_of workers events in omega arith),
+)
 
 -- what an event leaves its worker with, and it leaves every other as before
 abbrev own_event : {Id : Type 0} → Event Id → Option Id
@@ -118,8 +121,8 @@ own_alone : {Id : Type 0} (w : ℕ) (events : List (Event Id)) (outs alone : Lis
 own_alone w [] outs alone x at alike = at ∙ sym alike
 own_alone {Id} w (e ∷ events) outs alone x at alike =
     let P : Bool → Type 0 = λ b. slice_get (fold out_after (out_after outs e) events) w
-        ≡ slice_get (fold out_after alone (cond b (e ∷ events_of w events) (events_of w events))) w
-        in
+    ≡ slice_get (fold out_after alone (cond b (e ∷ events_of w events) (events_of w events))) w
+    in
     elim (cases_Bool (nat_eq (worker_of e) w)) [
       | inl own ↦ (let s = eqb-true (worker_of e) w own
           in subst P (sym own) (own_alone w events (out_after outs e) (out_after alone e)
@@ -162,11 +165,11 @@ module _ {Id V : Type 0} (same : Id → Id → Bool) (plan : Meaning Id V) (work
       → slice_get (halted_of workers events) w ≡ Some (list_any (is_halt_of w) events)
   halted_flag w lt =
       run_induction same plan workers (λ events. slice_get (halted_of workers events) w
-          ≡ Some (list_any (is_halt_of w) events))
+      ≡ Some (list_any (is_halt_of w) events))
       (slice_get-replicate workers w false lt)
       (λ events e r a h. ap (λ hs. slice_get hs w) (halted_of-push events e)
-          ∙ flag_after w (halted_of workers events) events e h
-          ∙ ap Some (sym (list_any-push (is_halt_of w) events e)))
+      ∙ flag_after w (halted_of workers events) events e h
+      ∙ ap Some (sym (list_any-push (is_halt_of w) events e)))
 
   halt_is : (w : ℕ) (e : Event Id) → is_halt_of w e ≡ true → is_halt e ≡ true
   halt_is w (event.Claim v id) h = absurd (false≢true h)
@@ -220,8 +223,8 @@ module _ {Id V : Type 0} (same : Id → Id → Bool) (plan : Meaning Id V) (work
       → slice_get (out_of workers events) w ≡ Some None
   out_halted w lt =
       run_induction same plan workers (λ events. list_any (is_halt_of w) events ≡ true
-          → slice_get (out_of workers events) w ≡ Some None)
+      → slice_get (out_of workers events) w ≡ Some None)
       (λ h. absurd (false≢true h))
       (λ events e r a old h. ap (λ os. slice_get os w) (outs-push workers events e)
-          ∙ halted_step w lt events e a old (or_cases _ _
-          (sym (list_any-push (is_halt_of w) events e) ∙ h)))
+      ∙ halted_step w lt events e a old (or_cases _ _
+      (sym (list_any-push (is_halt_of w) events e) ∙ h)))

@@ -1,30 +1,31 @@
 -- What legal histories keep, and what they come to.
-use Rattle.std.proofs.Common.{◌≡◌, ℕ, ◌<◌, ◌≤◌, Bool, true, false, not, ◌&&◌, inl, inr, List, [],
-    ◌∷◌, ◌++◌, length, Option, Some, is_some, refl, sym, ap, ◌∙◌, subst, cond, arith, nat_eq}
+use Rattle.std.proofs.Common.{◌≡◌, ℕ, ◌<◌, ◌≤◌, Bool, true, false, not, ◌&&◌, inl, inr, List, []}
+use Rattle.std.proofs.Common.{◌∷◌, ◌++◌, length, Option, Some, is_some, refl, sym, ap, ◌∙◌, subst}
+use Rattle.std.proofs.Common.{cond, arith, nat_eq}
 use Rattle.std.specs.Prelude.{Contains, slice_get, count_by}
 use Rattle.std.specs.List.{list_any, filter}
-use Rattle.std.proofs.lemmas.Bool.{and_parts, and_from, false≢true, cases_Bool, eqb-true,
-    false_from_ne_true}
+use Rattle.std.proofs.lemmas.Bool.{and_parts, and_from, false≢true, cases_Bool, eqb-true}
+use Rattle.std.proofs.lemmas.Bool.{false_from_ne_true}
 use Rattle.std.proofs.lemmas.List.Sums.{length-filter}
 use Rattle.access_context.specs.declared.access.Spec.{Spec}
 use Rattle.job_graph.specs.declared.event.Event.{Event}
 use Rattle.job_graph.specs.declared.event.Event.TheVariants as event
 use Rattle.job_graph.specs.declared.event.End.TheVariants.{Running, Ended, Halted}
 use Rattle.job_graph.specs.Meaning.{Meaning}
-use Rattle.job_graph.specs.Rounds.{State, value_in, is_settled, has_id, is_ready, awaits_nothing,
-    is_done_up_to, limit}
+use Rattle.job_graph.specs.Rounds.{State, value_in, is_settled, has_id, is_ready, awaits_nothing}
+use Rattle.job_graph.specs.Rounds.{is_done_up_to, limit}
 use Rattle.job_graph.specs.Laws.{IsLawful}
-use Rattle.job_graph.specs.Histories.{has_halted, out_of, running, was_claimed, state_of,
-    is_allowed, goes_on, is_run, some_ready, end_of}
-use Rattle.job_graph.specs.Promises.{IsReadSettled, IsHistory, IsComplete, AddsNoneBelow,
-    IsFirstOver}
-use Rattle.job_graph.specs.Members.{In, slice_get-In, list_all-In, In-from_Contains,
-    Contains-from_In, list_any-In, list_any-found}
-use Rattle.job_graph.specs.Growth.{none_of, some_of, Within, settled_within, ready_reads,
-    ready_awaits}
+use Rattle.job_graph.specs.Histories.{has_halted, out_of, running, was_claimed, state_of}
+use Rattle.job_graph.specs.Histories.{is_allowed, goes_on, is_run, some_ready, end_of}
+use Rattle.job_graph.specs.Promises.{IsReadSettled, IsHistory, IsComplete, AddsNoneBelow}
+use Rattle.job_graph.specs.Promises.{IsFirstOver}
+use Rattle.job_graph.specs.Members.{In, slice_get-In, list_all-In, In-from_Contains}
+use Rattle.job_graph.specs.Members.{Contains-from_In, list_any-In, list_any-found}
+use Rattle.job_graph.specs.Growth.{none_of, some_of, Within, settled_within, ready_reads}
+use Rattle.job_graph.specs.Growth.{ready_awaits}
 use Rattle.job_graph.specs.Confluence.{central, settled_up_to}
-use Rattle.job_graph.specs.Limit.{filter-from, below_limit, limit_below, limit_orderly, limit_over,
-    limit_first}
+use Rattle.job_graph.specs.Limit.{filter-from, below_limit, limit_below, limit_orderly, limit_over}
+use Rattle.job_graph.specs.Limit.{limit_first}
 use Rattle.job_graph.proofs.Run.{is_run-parts, may_claim, grows}
 use Rattle.job_graph.proofs.Owned.{Owned, owned}
 use Rattle.job_graph.proofs.Short.{short_of}
@@ -38,7 +39,7 @@ pub one_runs : {X : Type 0} (outs : List (Option X)) (w : ℕ) (x : X)
     → slice_get outs w ≡ Some (Some x) → 0 < count_by is_some outs
 one_runs outs w x e =
     let i = In-length (filter is_some outs) (Some x)
-        (filter-from is_some outs (Some x) (slice_get-In outs w (Some x) e) refl) in
+    (filter-from is_some outs (Some x) (slice_get-In outs w (Some x) e) refl) in
     subst (λ n. 0 < n) (length-filter is_some outs) i
 
 module _ {Id V : Type 0} (same : Id → Id → Bool) (plan : Meaning Id V) (workers : ℕ) where
@@ -48,7 +49,7 @@ module _ {Id V : Type 0} (same : Id → Id → Bool) (plan : Meaning Id V) (work
   prefix_goes_on before [] more g = refl
   prefix_goes_on before (e ∷ events) more g =
       let p = and_parts (is_allowed same plan workers before e)
-          (goes_on same plan workers (before ++ e ∷ []) (events ++ more)) g in
+      (goes_on same plan workers (before ++ e ∷ []) (events ++ more)) g in
       and_from _ _ p.0 (prefix_goes_on (before ++ e ∷ []) events more p.1)
 
   module _ (lawful : IsLawful same plan) where
@@ -64,10 +65,10 @@ module _ {Id V : Type 0} (same : Id → Id → Bool) (plan : Meaning Id V) (work
         → In other (state_of same plan events).jobs
     none_added events more r m k done other i low =
         (central same plan lawful.identity (limit same plan) (limit_orderly same plan lawful) k
-            (state_of same plan events) (grows same plan workers lawful events r).grown_state
-            (within_limit events r) done (state_of same plan more)
-            (grows same plan workers lawful more m).grown_state (within_limit more m)).jobs other i
-            low
+        (state_of same plan events) (grows same plan workers lawful events r).grown_state
+        (within_limit events r) done (state_of same plan more)
+        (grows same plan workers lawful more m).grown_state (within_limit more m)).jobs other i
+        low
 
     awaited_done : (state : State Id V) (awaits : Option ℕ) (k : ℕ)
         → awaits_nothing same plan state awaits ≡ true → awaits ≡ Some k
@@ -81,8 +82,8 @@ module _ {Id V : Type 0} (same : Id → Id → Bool) (plan : Meaning Id V) (work
           let state = state_of same plan events in
           let before = prefix_goes_on [] events more r in
           Contains-from_In state.jobs other (none_added events (events ++ more) before r k
-              (awaited_done state job.access.awaits k (ready_awaits same plan state job ready) is)
-              other (In-from_Contains _ other j) low);
+          (awaited_done state job.access.awaits k (ready_awaits same plan state job ready) is)
+          other (In-from_Contains _ other j) low);
     }
 
     at_most : (n : ℕ) (b : Bool) → n ≡ cond b 1 0 → n ≤ 1
@@ -96,29 +97,29 @@ module _ {Id V : Type 0} (same : Id → Id → Bool) (plan : Meaning Id V) (work
     read_settled events r before after w job e i =
         let state = state_of same plan before in
         let parts = is_run-parts same plan workers before after (event.Claim w job.id)
-            (subst (λ es. is_run same plan workers es ≡ true) e r) in
+        (subst (λ es. is_run same plan workers es ≡ true) e r) in
         let o : Owned same plan workers lawful state (out_of workers before) before
-            = owned same plan workers lawful before parts.0 in
+        = owned same plan workers lawful before parts.0 in
         let f = list_any-found (λ j. has_id same job.id j && is_ready same plan state j) state.jobs
-            (may_claim same plan workers before w job.id parts.1).ready in
+        (may_claim same plan workers before w job.id parts.1).ready in
         let p = and_parts (has_id same job.id f.0) (is_ready same plan state f.0) f.2 in
         let w_limit = within_limit before parts.0 in
         let is_job : f.0 ≡ job = (limit_orderly same plan lawful).one f.0 job (w_limit.jobs f.0 f.1)
-            (w_limit.jobs job (In-from_Contains state.jobs job i))
-            ((lawful.identity (f.0).id job.id).0 p.0) in
+        (w_limit.jobs job (In-from_Contains state.jobs job i))
+        ((lawful.identity (f.0).id job.id).0 p.0) in
         let ready : is_ready same plan state job
-            ≡ true = subst (λ j. is_ready same plan state j ≡ true) is_job p.1 in
+        ≡ true = subst (λ j. is_ready same plan state j ≡ true) is_job p.1 in
         record {
           reads = λ read c. sym (o.finished read)
               ∙ list_all-In (is_settled same state) job.access.reads read
               (ready_reads same plan state job ready) (In-from_Contains job.access.reads read c);
           awaited = λ k other is c low.
               let done = awaited_done state job.access.awaits k
-                  (ready_awaits same plan state job ready) is in
+              (ready_awaits same plan state job ready) is in
               let there = none_added before events parts.0 r k done other
-                  (In-from_Contains _ other c) low in
+              (In-from_Contains _ other c) low in
               sym (o.finished other.id) ∙ settled_up_to same plan lawful.identity state k done other
-                  there low;
+              there low;
         }
 
     -- EVERY HISTORY: what is settled is settled so in the limit, once, and read only then
@@ -169,12 +170,12 @@ module _ {Id V : Type 0} (same : Id → Id → Bool) (plan : Meaning Id V) (work
         let last = limit same plan in
         let f : Within same plan state last = within_limit events r in
         let g : Within same plan last state = limit_below same plan lawful state
-            (grows same plan workers lawful events r).grown_state over in
+        (grows same plan workers lawful events r).grown_state over in
         let o : Owned same plan workers lawful state (out_of workers events) events
-            = owned same plan workers lawful events r in
+        = owned same plan workers lawful events r in
         let values = same_values state last f g in
         let settled : (id : Id) → is_settled same state id
-            ≡ is_settled same last id = λ id. ap is_some (values id) in
+        ≡ is_settled same last id = λ id. ap is_some (values id) in
         let claimed : (id : Id) → was_claimed same events id ≡ is_settled same last id = λ id.
         same_test _ _
         (λ c. elim (o.live no_halt id c) [
@@ -184,9 +185,12 @@ module _ {Id V : Type 0} (same : Id → Id → Bool) (plan : Meaning Id V) (work
         (λ s. o.settled_claimed id (settled id ∙ s)) in
         record {
           values = values;
-          jobs = λ job. (λ c. Contains-from_In last.jobs job
-              (f.jobs job (In-from_Contains state.jobs job c)), λ c. Contains-from_In state.jobs job
-              (g.jobs job (In-from_Contains last.jobs job c)));
+          jobs = λ job. (
+            λ c. Contains-from_In last.jobs job
+                (f.jobs job (In-from_Contains state.jobs job c)),
+            λ c. Contains-from_In state.jobs job
+                (g.jobs job (In-from_Contains last.jobs job c)),
+          );
           stuck = λ id. λ i. (same_test _ _ (has_job state last f id) (has_job last state g id) i)
               && not (settled id i);
           claims = λ id. o.claims id ∙ ap (λ b. cond b 1 0) (claimed id);
@@ -220,5 +224,5 @@ module _ {Id V : Type 0} (same : Id → Id → Bool) (plan : Meaning Id V) (work
       → IsComplete same plan events
   complete_of_end lawful events r e =
       let p = ended_parts (has_halted events) (some_ready same plan (state_of same plan events))
-          (nat_eq (running workers events) 0) e in
+      (nat_eq (running workers events) 0) e in
       complete_of lawful events r p.0 p.1 (eqb-true _ _ p.2)

@@ -1,10 +1,11 @@
 -- Who has which job in a legal history: each job is claimed once and finished once.
-use Rattle.std.proofs.Common.{◌≡◌, ℕ, ◌+◌, Bool, true, false, ◌||◌, ◌⊎◌, inl, inr, List, [], ◌∷◌,
-    ◌++◌, Option, Some, None, is_some, refl, sym, ap, ◌∙◌, subst, cond, arith}
+use Rattle.std.proofs.Common.{◌≡◌, ℕ, ◌+◌, Bool, true, false, ◌||◌, ◌⊎◌, inl, inr, List, [], ◌∷◌}
+use Rattle.std.proofs.Common.{◌++◌, Option, Some, None, is_some, refl, sym, ap, ◌∙◌, subst, cond}
+use Rattle.std.proofs.Common.{arith}
 use Rattle.std.specs.Prelude.{slice_get, slice_set, count_by}
 use Rattle.std.specs.List.{list_any}
-use Rattle.std.proofs.lemmas.Bool.{or_cases, or_left, or_right, or_from, false≢true, cases_Bool,
-    false_from_ne_true}
+use Rattle.std.proofs.lemmas.Bool.{or_cases, or_left, or_right, or_from, false≢true, cases_Bool}
+use Rattle.std.proofs.lemmas.Bool.{false_from_ne_true}
 use Rattle.std.proofs.lemmas.List.Sums.{fold-append}
 use Rattle.access_context.specs.declared.access.Spec.{Spec}
 use Rattle.access_context.specs.Read.{read_of}
@@ -13,11 +14,13 @@ use Rattle.job_graph.specs.declared.event.Event.TheVariants as event
 use Rattle.job_graph.specs.Meaning.{Meaning}
 use Rattle.job_graph.specs.Rounds.{State, is_settled, outcome_in}
 use Rattle.job_graph.specs.Laws.{IsLawful}
-use Rattle.job_graph.specs.Histories.{is_halt, has_halted, out_after, out_of, is_claim_of,
-    is_finish_of, was_claimed, was_finished, state_after, state_of, is_allowed, is_run}
+use Rattle.job_graph.specs.Histories.{is_halt, has_halted, out_after, out_of, is_claim_of}
+use Rattle.job_graph.specs.Histories.{is_finish_of, was_claimed, was_finished, state_after}
+use Rattle.job_graph.specs.Histories.{state_of, is_allowed, is_run}
 use Rattle.job_graph.specs.Growth.{none≢some, settle}
-use Rattle.job_graph.proofs.Run.{get_set_cases, get_set_same, get_set_other, may_claim, has_out_is,
-    run_induction, state_of-push, out_of-push, IsOut, Grows, grows, finish_is, none_out}
+use Rattle.job_graph.proofs.Run.{get_set_cases, get_set_same, get_set_other, may_claim, has_out_is}
+use Rattle.job_graph.proofs.Run.{run_induction, state_of-push, out_of-push, IsOut, Grows, grows}
+use Rattle.job_graph.proofs.Run.{finish_is, none_out}
 
 pub or_false : (b : Bool) → (b || false) ≡ b
 or_false true = refl
@@ -43,7 +46,7 @@ settled-push same [] k v id = elim (same k id) as (λ b. is_some (cond b (Some v
     [ true ↦ refl | false ↦ refl ]
 settled-push same (x ∷ xs) k v id =
     elim (same x.0 id) as (λ b. is_some (cond b (Some x.1) (read_of same (xs ++ (k, v) ∷ []) id))
-        ≡ (is_some (cond b (Some x.1) (read_of same xs id)) || same k id)) [
+    ≡ (is_some (cond b (Some x.1) (read_of same xs id)) || same k id)) [
       | true ↦ refl
       | false ↦ settled-push same xs k v id
     ]
@@ -140,10 +143,10 @@ module _ {Id V : Type 0} (same : Id → Id → Bool) (plan : Meaning Id V) (work
   owned_claim events w id a state outs free o =
       let e = event.Claim w id in
       let new : was_claimed same events id ≡ false = (may_claim same plan workers events w id a).new
-          in
+      in
       let not_claimed : (j : Id) → id ≡ j → was_claimed same events j ≡ true
-          → ⊥ = λ j same_id c. false≢true (sym new
-          ∙ subst (λ k. was_claimed same events k ≡ true) (sym same_id) c) in
+      → ⊥ = λ j same_id c. false≢true (sym new
+      ∙ subst (λ k. was_claimed same events k ≡ true) (sym same_id) c) in
       record {
         unsettled = λ v j i. elim (get_set_cases outs w v (Some id) (Some j) i) [
           | inr other ↦ o.unsettled v j other.1
@@ -171,12 +174,18 @@ module _ {Id V : Type 0} (same : Id → Id → Bool) (plan : Meaning Id V) (work
             (λ s. false_from_ne_true _ (λ c. not_claimed j (is_id id j s) c));
         finishes = λ j. finishes-push events e j (o.finishes j) (λ s. absurd (false≢true s));
         live = λ h j c. elim (or_cases _ _ (sym (claimed-push events e j) ∙ c)) [
-          | inr now ↦ inr (w, subst (λ k. slice_get (slice_set outs w (Some id)) w ≡ Some (Some k))
-              (is_id id j now) (get_set_same outs w (Some id) None free))
+          | inr now ↦ inr (
+            w,
+            subst (λ k. slice_get (slice_set outs w (Some id)) w ≡ Some (Some k))
+                (is_id id j now) (get_set_same outs w (Some id) None free),
+          )
           | inl old ↦ elim (o.live (halted_not events e h) j old) [
             | inl s ↦ inl s
-            | inr r ↦ inr (r.0, get_set_other outs w r.0 (Some id)
-                (λ at. free_not_out outs w r.0 j free r.1 at) ∙ r.1)
+            | inr r ↦ inr (
+              r.0,
+              get_set_other outs w r.0 (Some id)
+                  (λ at. free_not_out outs w r.0 j free r.1 at) ∙ r.1,
+            )
           ]
         ];
       }
@@ -190,11 +199,11 @@ module _ {Id V : Type 0} (same : Id → Id → Bool) (plan : Meaning Id V) (work
       let e = event.Finish w id in
       let after = settle same plan by state job in
       let settled-after : (j : Id) → is_settled same after j
-          ≡ (is_settled same state j || same id j)
-          = λ j. settled-push same state.values job.id (outcome_in same plan by job).value j
-          ∙ ap (λ k. is_settled same state j || same k j) named in
+      ≡ (is_settled same state j || same id j)
+      = λ j. settled-push same state.values job.id (outcome_in same plan by job).value j
+      ∙ ap (λ k. is_settled same state j || same k j) named in
       let only_w : (v : ℕ) (j : Id) → slice_get outs v ≡ Some (Some j) → same id j ≡ true
-          → w ≡ v = λ v j i s. o.one w v j (out ∙ ap (λ k. Some (Some k)) (is_id id j s)) i in
+      → w ≡ v = λ v j i s. o.one w v j (out ∙ ap (λ k. Some (Some k)) (is_id id j s)) i in
       record {
         unsettled = λ v j i. elim (get_set_cases outs w v None (Some j) i) [
           | inr other ↦ settled-after j ∙ or_from _ _ (o.unsettled v j other.1)
@@ -225,14 +234,17 @@ module _ {Id V : Type 0} (same : Id → Id → Bool) (plan : Meaning Id V) (work
             (out ∙ ap (λ k. Some (Some k)) (is_id id j s)));
         live = λ h j c. elim (o.live (halted_not events e h) j
             (sym (or_false _) ∙ sym (claimed-push events e j) ∙ c)) [
-          | inl s ↦ inl (settled-after j ∙ or_left _ _ s)
-          | inr r ↦ elim (cases_Bool (same id j)) [
-            | inl now ↦ inl (settled-after j ∙ or_right _ _ now)
-            | inr other ↦ inr (r.0, get_set_other outs w r.0 None
-                (λ at. false≢true (sym other ∙ (lawful.identity id j).1
-                (same_out outs w r.0 id j out r.1 at))) ∙ r.1)
-          ]
-        ];
+              | inl s ↦ inl (settled-after j ∙ or_left _ _ s)
+              | inr r ↦ elim (cases_Bool (same id j)) [
+                | inl now ↦ inl (settled-after j ∙ or_right _ _ now)
+                | inr other ↦ inr (
+                  r.0,
+                  get_set_other outs w r.0 None
+                      (λ at. false≢true (sym other ∙ (lawful.identity id j).1
+                      (same_out outs w r.0 id j out r.1 at))) ∙ r.1,
+                )
+              ]
+            ];
       }
 
   owned_halt : (events : List (Event Id)) (w : ℕ) (state : State Id V) (outs : List (Option Id))
@@ -270,18 +282,18 @@ module _ {Id V : Type 0} (same : Id → Id → Bool) (plan : Meaning Id V) (work
       (out_after (out_of workers events) e) (events ++ e ∷ [])
   owned_after events (event.Claim w id) r a o =
       owned_claim events w id a (state_of same plan events) (out_of workers events)
-          (may_claim same plan workers events w id a).free o
+      (may_claim same plan workers events w id a).free o
   owned_after events (event.Finish w id) r a o =
       let state = state_of same plan events in
       let outs = out_of workers events in
       let g : Grows same plan workers lawful state outs = grows same plan workers lawful events r in
       let h = has_out_is same id (slice_get outs w) a in
       let out : slice_get outs w ≡ Some (Some id) = h.1 ∙ ap (λ k. Some (Some k)) (is_id h.0 id h.2)
-          in
+      in
       let it : IsOut same plan workers lawful state id = g.out w id out in
       let e = finish_is same plan workers lawful state g.grown_state id it in
       subst (λ s. Owned s (slice_set outs w None) (events ++ event.Finish w id ∷ [])) (sym e)
-          (owned_finish events w id state outs out it.by it.job it.named o)
+      (owned_finish events w id state outs out it.by it.job it.named o)
   owned_after events (event.Halt w) r a o
       = owned_halt events w (state_of same plan events) (out_of workers events) o
 
@@ -290,7 +302,7 @@ module _ {Id V : Type 0} (same : Id → Id → Bool) (plan : Meaning Id V) (work
       → Owned (state_of same plan events) (out_of workers events) events
   owned =
       run_induction same plan workers (λ events. Owned (state_of same plan events)
-          (out_of workers events) events)
+      (out_of workers events) events)
       record {
         unsettled = λ w id e. absurd (none_out same plan workers lawful workers w id e);
         one = λ v w id e f. absurd (none_out same plan workers lawful workers v id e);
@@ -302,7 +314,7 @@ module _ {Id V : Type 0} (same : Id → Id → Bool) (plan : Meaning Id V) (work
         live = λ h id e. absurd (false≢true e);
       }
       (λ events e r a o. subst (λ s. Owned s (out_of workers (events ++ e ∷ [])) (events ++ e ∷ []))
-          (sym (state_of-push same plan workers events e))
-          (subst (λ outs. Owned (state_after same plan (state_of same plan events) e) outs
-          (events ++ e ∷ [])) (sym (out_of-push same plan workers events e))
-          (owned_after events e r a o)))
+      (sym (state_of-push same plan workers events e))
+      (subst (λ outs. Owned (state_after same plan (state_of same plan events) e) outs
+      (events ++ e ∷ [])) (sym (out_of-push same plan workers events e))
+      (owned_after events e r a o)))

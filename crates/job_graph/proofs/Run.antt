@@ -1,7 +1,7 @@
 -- Legal histories, one event after another.
-use Rattle.std.proofs.Common.{◌≡◌, ℕ, zero, suc, Bool, true, false, not, ◌&&◌, nat_lt, ◌⊎◌, inl,
-    inr, List, [], ◌∷◌, ◌++◌, replicate, Option, Some, None, refl, sym, ap, ◌∙◌, subst, arith,
-    append_assoc}
+use Rattle.std.proofs.Common.{◌≡◌, ℕ, zero, suc, Bool, true, false, not, ◌&&◌, nat_lt, ◌⊎◌, inl}
+use Rattle.std.proofs.Common.{inr, List, [], ◌∷◌, ◌++◌, replicate, Option, Some, None, refl, sym}
+use Rattle.std.proofs.Common.{ap, ◌∙◌, subst, arith, append_assoc}
 use Rattle.std.specs.Prelude.{slice_get, slice_set}
 use Rattle.std.specs.List.{find}
 use Rattle.std.proofs.lemmas.Bool.{and_parts, and_from, false≢true, not-true, not_from_false}
@@ -12,11 +12,12 @@ use Rattle.job_graph.specs.declared.event.Event.TheVariants as event
 use Rattle.job_graph.specs.Meaning.{Meaning}
 use Rattle.job_graph.specs.Rounds.{State, has_id, start, is_ready, limit}
 use Rattle.job_graph.specs.Laws.{IsLawful}
-use Rattle.job_graph.specs.Histories.{out_after, out_of, is_free, has_halted, was_claimed, has_out,
-    finished, state_after, state_of, is_ready_id, is_allowed, goes_on, is_run}
+use Rattle.job_graph.specs.Histories.{out_after, out_of, is_free, has_halted, was_claimed, has_out}
+use Rattle.job_graph.specs.Histories.{finished, state_after, state_of, is_ready_id, is_allowed}
+use Rattle.job_graph.specs.Histories.{goes_on, is_run}
 use Rattle.job_graph.specs.Members.{In, find-some, find-In, list_any-found}
-use Rattle.job_graph.specs.Growth.{none≢some, Within, within_itself, within_through, settle,
-    within_settle, outcome_within, ready_reads, Grown, begun, grown}
+use Rattle.job_graph.specs.Growth.{none≢some, Within, within_itself, within_through, settle}
+use Rattle.job_graph.specs.Growth.{within_settle, outcome_within, ready_reads, Grown, begun, grown}
 use Rattle.job_graph.specs.Confluence.{nil_append, orderly_within}
 use Rattle.job_graph.specs.Limit.{below_limit, limit_orderly}
 
@@ -80,15 +81,21 @@ module _ {Id V : Type 0} (same : Id → Id → Bool) (plan : Meaning Id V) (work
       let q = and_parts ready (new && (free && halted)) p.1 in
       let r = and_parts new (free && halted) q.1 in
       let s = and_parts free halted r.1 in
-      record { below = p.0; ready = q.0; new = not-true _ r.0; free = free_is _ s.0; no_halt
-          = not-true _ s.1 }
+      record {
+        below = p.0;
+        ready = q.0;
+        new = not-true _ r.0;
+        free = free_is _ s.0;
+        no_halt
+            = not-true _ s.1;
+      }
 
   pub claim_allowed : (events : List (Event Id)) (w : ℕ) (id : Id) → MayClaim events w id
       → is_allowed same plan workers events (event.Claim w id) ≡ true
   claim_allowed events w id m =
       and_from _ _ m.below (and_from _ _ m.ready
-          (and_from _ _ (not_from_false _ m.new)
-          (and_from _ _ (ap is_free m.free) (not_from_false _ m.no_halt))))
+      (and_from _ _ (not_from_false _ m.new)
+      (and_from _ _ (ap is_free m.free) (not_from_false _ m.no_halt))))
 
   -- one more event at the end
   run_push : (before events : List (Event Id)) (e : Event Id)
@@ -100,8 +107,8 @@ module _ {Id V : Type 0} (same : Id → Id → Bool) (plan : Meaning Id V) (work
   run_push before (f ∷ events) e g a =
       let p = and_parts _ _ g in
       and_from _ _ p.0 (run_push (before ++ f ∷ []) events e p.1
-          (subst (λ b. is_allowed same plan workers b e ≡ true)
-          (sym (append_assoc before (f ∷ []) events)) a))
+      (subst (λ b. is_allowed same plan workers b e ≡ true)
+      (sym (append_assoc before (f ∷ []) events)) a))
 
   pub is_run-push : (events : List (Event Id)) (e : Event Id)
       → is_run same plan workers events ≡ true → is_allowed same plan workers events e ≡ true
@@ -113,13 +120,18 @@ module _ {Id V : Type 0} (same : Id → Id → Bool) (plan : Meaning Id V) (work
       → goes_on same plan workers before (events ++ e ∷ after) ≡ true
       → (goes_on same plan workers before events ≡ true)
       × (is_allowed same plan workers (before ++ events) e ≡ true)
-  run_parts before [] after e g = (refl, subst (λ b. is_allowed same plan workers b e ≡ true)
-      (sym (nil_append before)) (and_parts _ _ g).0)
+  run_parts before [] after e g = (
+    refl,
+    subst (λ b. is_allowed same plan workers b e ≡ true)
+        (sym (nil_append before)) (and_parts _ _ g).0,
+  )
   run_parts before (f ∷ events) after e g =
       let p = and_parts _ _ g in
-      let q = run_parts (before ++ f ∷ []) events after e p.1 in
-      (and_from _ _ p.0 q.0, subst (λ b. is_allowed same plan workers b e ≡ true)
-          (append_assoc before (f ∷ []) events) q.1)
+      let q = run_parts (before ++ f ∷ []) events after e p.1 in (
+        and_from _ _ p.0 q.0,
+        subst (λ b. is_allowed same plan workers b e ≡ true)
+            (append_assoc before (f ∷ []) events) q.1,
+      )
 
   pub is_run-parts : (events after : List (Event Id)) (e : Event Id)
       → is_run same plan workers (events ++ e ∷ after) ≡ true
@@ -136,8 +148,8 @@ module _ {Id V : Type 0} (same : Id → Id → Bool) (plan : Meaning Id V) (work
   through_run P step before (e ∷ events) r p g =
       let a = and_parts _ _ g in
       subst P (append_assoc before (e ∷ []) events)
-          (through_run P step (before ++ e ∷ []) events (is_run-push before e r a.0)
-          (step before e r a.0 p) a.1)
+      (through_run P step (before ++ e ∷ []) events (is_run-push before e r a.0)
+      (step before e r a.0 p) a.1)
 
   pub run_induction : (P : List (Event Id) → Type 0) → P []
       → ((events : List (Event Id)) (e : Event Id) → is_run same plan workers events ≡ true
@@ -165,9 +177,17 @@ module _ {Id V : Type 0} (same : Id → Id → Bool) (plan : Meaning Id V) (work
       pub ready : is_ready same plan by job ≡ true
 
     out_within : (a b : State Id V) (id : Id) → Within same plan a b → IsOut a id → IsOut b id
-    out_within a b id w o = record { by = o.by; by_grown = o.by_grown; within
-        = within_through same plan o.by a b o.within w; job = o.job; there = o.there; named
-        = o.named; ready = o.ready }
+    out_within a b id w o = record {
+      by = o.by;
+      by_grown = o.by_grown;
+      within
+          = within_through same plan o.by a b o.within w;
+      job = o.job;
+      there = o.there;
+      named
+          = o.named;
+      ready = o.ready;
+    }
 
     pub record Grows (state : State Id V) (outs : List (Option Id)) : Type 0 where
       pub grown_state : Grown same plan state
@@ -180,17 +200,20 @@ module _ {Id V : Type 0} (same : Id → Id → Bool) (plan : Meaning Id V) (work
     finish_is state g id o =
         let in_state : In o.job state.jobs = o.within.jobs o.job o.there in
         let orderly = orderly_within same plan lawful.identity state (limit same plan)
-            (below_limit same plan lawful state g) (limit_orderly same plan lawful) in
+        (below_limit same plan lawful state g) (limit_orderly same plan lawful) in
         let f = find-In (has_id same id) state.jobs o.job in_state
-            ((lawful.identity o.job.id id).1 o.named) in
+        ((lawful.identity o.job.id id).1 o.named) in
         let s = find-some (has_id same id) state.jobs f.0 f.1 in
         let is_job : f.0 ≡ o.job = orderly.one f.0 o.job s.0 in_state
-            ((lawful.identity (f.0).id id).0 s.1 ∙ sym o.named) in
+        ((lawful.identity (f.0).id id).0 s.1 ∙ sym o.named) in
         let agree = outcome_within same plan o.by state o.within o.job
-            (ready_reads same plan o.by o.job o.ready) in
+        (ready_reads same plan o.by o.job o.ready) in
         ap (finished same plan state) f.1 ∙ ap (λ j. settle same plan state state j) is_job
-            ∙ (λ i. record { jobs = state.jobs ++ ((sym agree i).added ++ []); values = state.values
-            ++ (o.job.id, (sym agree i).value) ∷ [] })
+        ∙ (λ i. record {
+          jobs = state.jobs ++ ((sym agree i).added ++ []);
+          values = state.values
+              ++ (o.job.id, (sym agree i).value) ∷ [];
+        })
 
     grows_after : (events : List (Event Id)) (e : Event Id)
         → is_allowed same plan workers events e ≡ true
@@ -257,6 +280,6 @@ module _ {Id V : Type 0} (same : Id → Id → Bool) (plan : Meaning Id V) (work
         run_induction (λ events. Grows (state_of same plan events) (out_of workers events))
         (record { grown_state = begun; out = λ w id e. absurd (none_out workers w id e) })
         (λ events e r a g. subst (λ s. Grows s (out_of workers (events ++ e ∷ [])))
-            (sym (state_of-push events e)) (subst
-            (Grows (state_after same plan (state_of same plan events) e))
-            (sym (out_of-push events e)) (grows_after events e a g)))
+        (sym (state_of-push events e)) (subst
+        (Grows (state_after same plan (state_of same plan events) e))
+        (sym (out_of-push events e)) (grows_after events e a g)))

@@ -1,7 +1,7 @@
 -- A history is short: at most a claim and a finish for each id of the universe, and a halt for each
 -- worker.
-use Rattle.std.proofs.Common.{◌≡◌, ℕ, ◌+◌, ◌*◌, ◌<◌, ◌≤◌, Bool, true, false, not, ◌||◌, List, [],
-    ◌∷◌, ◌++◌, length, replicate, Some, refl, sym, ap, ◌∙◌, subst, arith}
+use Rattle.std.proofs.Common.{◌≡◌, ℕ, ◌+◌, ◌*◌, ◌<◌, ◌≤◌, Bool, true, false, not, ◌||◌, List, []}
+use Rattle.std.proofs.Common.{◌∷◌, ◌++◌, length, replicate, Some, refl, sym, ap, ◌∙◌, subst, arith}
 use Rattle.std.specs.Prelude.{slice_get, slice_set, count_by}
 use Rattle.std.specs.List.{list_any}
 use Rattle.std.proofs.lemmas.Bool.{and_parts, or_left, or_right, not-true, ltb-true}
@@ -13,8 +13,8 @@ use Rattle.job_graph.specs.declared.event.Event.TheVariants as event
 use Rattle.job_graph.specs.Meaning.{Meaning}
 use Rattle.job_graph.specs.Rounds.{limit}
 use Rattle.job_graph.specs.Laws.{IsLawful}
-use Rattle.job_graph.specs.Histories.{is_halt_of, is_claim_of, is_finish_of, was_claimed,
-    was_finished, has_out, out_of, state_of, is_allowed, is_run}
+use Rattle.job_graph.specs.Histories.{is_halt_of, is_claim_of, is_finish_of, was_claimed}
+use Rattle.job_graph.specs.Histories.{was_finished, has_out, out_of, state_of, is_allowed, is_run}
 use Rattle.job_graph.specs.BoardView.{halted_of}
 use Rattle.job_graph.specs.Members.{In, In-from_Contains, Contains-from_In, list_any-found}
 use Rattle.job_graph.specs.Limit.{counted, count_more, count_one_more, count_all, below_limit}
@@ -79,17 +79,17 @@ module _ {Id V : Type 0} (same : Id → Id → Bool) (plan : Meaning Id V) (work
       let f = list_any-found _ state.jobs m.ready in
       let named : (f.0).id ≡ id = (lawful.identity (f.0).id id).0 (and_parts _ _ f.2).0 in
       let g : Grows same plan workers lawful state (out_of workers events)
-          = grows same plan workers lawful events r in
+      = grows same plan workers lawful events r in
       let known : In id plan.universe = subst (λ k. In k plan.universe) named
-          (in_universe f.0 ((below_limit same plan lawful state g.grown_state).jobs f.0 f.1)) in
+      (in_universe f.0 ((below_limit same plan lawful state g.grown_state).jobs f.0 f.1)) in
       let more : claims events < claims (events ++ e ∷ [])
-          = count_one_more (λ k. was_claimed same events k)
-          (λ k. was_claimed same (events ++ e ∷ []) k) plan.universe
-          (λ k h. still (is_claim_of same) events e k h) id known m.new
-          (now (is_claim_of same) events e id ((lawful.identity id id).1 refl)) in
+      = count_one_more (λ k. was_claimed same events k)
+      (λ k. was_claimed same (events ++ e ∷ []) k) plan.universe
+      (λ k h. still (is_claim_of same) events e k h) id known m.new
+      (now (is_claim_of same) events e id ((lawful.identity id id).1 refl)) in
       let no_less = finishes_grow events e in
       let halts : left (events ++ e ∷ []) ≡ left events
-          = ap (count_by not) (halted_of-push same plan workers events e) in
+      = ap (count_by not) (halted_of-push same plan workers events e) in
       let longer = one_longer events e in
       omega arith
   short_after events (event.Finish w id) r a old =
@@ -101,31 +101,31 @@ module _ {Id V : Type 0} (same : Id → Id → Bool) (plan : Meaning Id V) (work
       let out : slice_get outs w ≡ Some (Some id) = h.1 ∙ ap (λ k. Some (Some k)) is_id in
       let g : Grows same plan workers lawful state outs = grows same plan workers lawful events r in
       let o : Owned same plan workers lawful state outs events
-          = owned same plan workers lawful events r in
+      = owned same plan workers lawful events r in
       let it : IsOut same plan workers lawful state id = g.out w id out in
       let known : In id plan.universe = subst (λ k. In k plan.universe) it.named
-          (in_universe it.job ((below_limit same plan lawful it.by it.by_grown).jobs it.job
-          it.there)) in
+      (in_universe it.job ((below_limit same plan lawful it.by it.by_grown).jobs it.job
+      it.there)) in
       let new : was_finished same events id ≡ false = sym (o.finished id) ∙ o.unsettled w id out in
       let more : finishes events < finishes (events ++ e ∷ [])
-          = count_one_more (λ k. was_finished same events k)
-          (λ k. was_finished same (events ++ e ∷ []) k) plan.universe
-          (λ k h. still (is_finish_of same) events e k h) id known new
-          (now (is_finish_of same) events e id ((lawful.identity id id).1 refl)) in
+      = count_one_more (λ k. was_finished same events k)
+      (λ k. was_finished same (events ++ e ∷ []) k) plan.universe
+      (λ k h. still (is_finish_of same) events e k h) id known new
+      (now (is_finish_of same) events e id ((lawful.identity id id).1 refl)) in
       let no_less = claims_grow events e in
       let halts : left (events ++ e ∷ []) ≡ left events
-          = ap (count_by not) (halted_of-push same plan workers events e) in
+      = ap (count_by not) (halted_of-push same plan workers events e) in
       let longer = one_longer events e in
       omega arith
   short_after events (event.Halt w) r a old =
       let e = event.Halt w in
       let p = and_parts _ _ a in
       let flag : slice_get (halted_of workers events) w
-          ≡ Some false = halted_flag same plan workers w (ltb-true _ _ p.0) events r
-          ∙ ap Some (not-true _ p.1) in
+      ≡ Some false = halted_flag same plan workers w (ltb-true _ _ p.0) events r
+      ∙ ap Some (not-true _ p.1) in
       let halts : left (events ++ e ∷ []) ≡ count_by not
-          (slice_set (halted_of workers events) w true)
-          = ap (count_by not) (halted_of-push same plan workers events e) in
+      (slice_set (halted_of workers events) w true)
+      = ap (count_by not) (halted_of-push same plan workers events e) in
       let fewer = halts-set (halted_of workers events) w flag in
       let claimed = claims_grow events e in
       let finished = finishes_grow events e in
@@ -144,8 +144,8 @@ module _ {Id V : Type 0} (same : Id → Id → Bool) (plan : Meaning Id V) (work
   unfolding IsShort
   short_of events r =
       let s : length events + left events ≤ claims events
-          + (finishes events + workers) = run_induction same plan workers IsShort short_first
-          short_after events r in
+      + (finishes events + workers) = run_induction same plan workers IsShort short_first
+      short_after events r in
       let c = count_all (λ id. was_claimed same events id) plan.universe in
       let f = count_all (λ id. was_finished same events id) plan.universe in
       omega arith

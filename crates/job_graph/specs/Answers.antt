@@ -10,8 +10,8 @@ use Rattle.job_graph.specs.declared.claim.Claim.{Claim}
 use Rattle.job_graph.specs.declared.claim.Claim.TheVariants as claim
 use Rattle.job_graph.specs.Meaning.{Meaning}
 use Rattle.job_graph.specs.Rounds.{is_ready, reads_in, IsDue}
-use Rattle.job_graph.specs.Histories.{has_halted, running, was_claimed, state_of, is_claimable,
-    end_of}
+use Rattle.job_graph.specs.Histories.{has_halted, running, was_claimed, state_of, is_claimable}
+use Rattle.job_graph.specs.Histories.{end_of}
 use Rattle.job_graph.specs.BoardView.{BoardView, NowHas}
 
 module _ {Id V : Type 0} (same : Id → Id → Bool) (plan : Meaning Id V) where

@@ -1,6 +1,6 @@
 -- A board, as its callers see it, and what it keeps. fontc's own.
-use Rattle.std.specs.Prelude.{◌≡◌, ℕ, ◌+◌, ◌≤◌, ◌≢◌, not, true, false, Bool, List, Option, Some,
-    fold, replicate, count_by, slice_get, slice_set, slice_range, length}
+use Rattle.std.specs.Prelude.{◌≡◌, ℕ, ◌+◌, ◌≤◌, ◌≢◌, not, true, false, Bool, List, Option, Some}
+use Rattle.std.specs.Prelude.{fold, replicate, count_by, slice_get, slice_set, slice_range, length}
 use Rattle.std.specs.Vec.{vec_len, vec_capacity}
 use Rattle.std.specs.declared.vec.Vec.{Vec}
 use Rattle.std.specs.declared.alloc.Global.{Global}
@@ -55,4 +55,4 @@ AreRanges {Id} {V} same plan state ranges =
     → slice_get state.values place ≡ Some value
     → slice_get ranges place ≡ Some range
     → (range.0 ≤ range.1) × (range.1 ≤ length state.jobs)
-        × IsAddedOf same plan value.0 (slice_range state.jobs range.0 range.1))
+    × IsAddedOf same plan value.0 (slice_range state.jobs range.0 range.1))

@@ -1,20 +1,21 @@
 -- Two growths of one graph come to the same.
-use Rattle.std.proofs.Common.{◌≡◌, ℕ, ◌≤◌, Bool, true, false, not, ◌||◌, nat_le, inl, inr, List, [],
-    ◌∷◌, ◌++◌, Option, Some, None, refl, sym, ap, ◌∙◌, subst, arith}
+use Rattle.std.proofs.Common.{◌≡◌, ℕ, ◌≤◌, Bool, true, false, not, ◌||◌, nat_le, inl, inr, List, []}
+use Rattle.std.proofs.Common.{◌∷◌, ◌++◌, Option, Some, None, refl, sym, ap, ◌∙◌, subst, arith}
 use Rattle.std.specs.Prelude.{IsTrue, ◌↔◌}
 use Rattle.std.specs.List.{list_all}
-use Rattle.std.proofs.lemmas.Bool.{and_from, or_cases, or_left, or_right, false≢true, not-true,
-    not_from_false, leb-true, le-leb, cases_Bool}
+use Rattle.std.proofs.lemmas.Bool.{and_from, or_cases, or_left, or_right, false≢true, not-true}
+use Rattle.std.proofs.lemmas.Bool.{not_from_false, leb-true, le-leb, cases_Bool}
 use Rattle.access_context.specs.declared.access.Spec.{Spec}
 use Rattle.access_context.specs.Plain.{Plain}
 use Rattle.job_graph.specs.Meaning.{Meaning}
-use Rattle.job_graph.specs.Rounds.{State, value_in, is_settled, is_done_up_to, awaits_nothing,
-    is_ready, outcome_of, outcome_in}
-use Rattle.job_graph.specs.Members.{In, In-append_right, In-append_cases, list_all-In,
-    list_all-from}
-use Rattle.job_graph.specs.Growth.{none≢some, some_of, read_of-push_cases, Within, within_itself,
-    within_through, settled_within, all_settled_within, reads_agree, outcome_within, ready_reads,
-    ready_awaits, settle, within_settle, Grown, begun, grown, opening_in}
+use Rattle.job_graph.specs.Rounds.{State, value_in, is_settled, is_done_up_to, awaits_nothing}
+use Rattle.job_graph.specs.Rounds.{is_ready, outcome_of, outcome_in}
+use Rattle.job_graph.specs.Members.{In, In-append_right, In-append_cases, list_all-In}
+use Rattle.job_graph.specs.Members.{list_all-from}
+use Rattle.job_graph.specs.Growth.{none≢some, some_of, read_of-push_cases, Within, within_itself}
+use Rattle.job_graph.specs.Growth.{within_through, settled_within, all_settled_within, reads_agree}
+use Rattle.job_graph.specs.Growth.{outcome_within, ready_reads, ready_awaits, settle, within_settle}
+use Rattle.job_graph.specs.Growth.{Grown, begun, grown, opening_in}
 
 pub nil_append : {X : Type 0} (xs : List X) → xs ++ [] ≡ xs
 nil_append [] = refl
@@ -56,7 +57,7 @@ module _ {Id V : Type 0} (same : Id → Id → Bool) (plan : Meaning Id V) where
           | inl old ↦ comes_within a after up id x (comes a ga id x old)
           | inr new ↦
               let same_outcome = outcome_within same plan by after from job
-                  (ready_reads same plan by job ready) in
+              (ready_reads same plan by job ready) in
               record {
                 job = job;
                 there = from.jobs job here;
@@ -106,7 +107,7 @@ module _ {Id V : Type 0} (same : Id → Id → Bool) (plan : Meaning Id V) where
         → is_settled same a job.id ≡ true
     settled_up_to a k done job i low =
         elim (or_cases _ _ (list_all-In (λ job. not (nat_le (plan.stratum job.id) k)
-            || is_settled same a job.id) a.jobs job done i)) [
+        || is_settled same a job.id) a.jobs job done i)) [
           | inl high ↦ absurd (false≢true (sym (not-true _ high) ∙ le-leb _ _ low))
           | inr s ↦ s
         ]
@@ -122,13 +123,13 @@ module _ {Id V : Type 0} (same : Id → Id → Bool) (plan : Meaning Id V) where
           let s = some_of (value_in same a job.id) (settled_up_to a k done job there low) in
           let it : Comes a job.id s.0 = comes a ga job.id s.0 s.1 in
           let is_job : it.job ≡ job = orderly.one it.job job (wa.jobs it.job it.there)
-              (w.jobs job here) it.named in
+          (w.jobs job here) it.named in
           let reads_low : (read : Id) → In read job.access.reads
-              → plan.stratum read ≤ k = λ read i.
-              (let h = orderly.reads job read (w.jobs job here) i in omega arith) in
+          → plan.stratum read ≤ k = λ read i.
+          (let h = orderly.reads job read (w.jobs job here) i in omega arith) in
           let agree = ap (outcome_of same plan job.id)
-              (reads_agree same plan by a job.access.reads reads
-              (λ id x i e. up.values id x (reads_low id i) e)) in
+          (reads_agree same plan by a job.access.reads reads
+          (λ id x i e. up.values id x (reads_low id i) e)) in
           record {
             value = s.1 ∙ ap Some (it.is ∙ ap (λ j. (outcome_in same plan a j).value) is_job
                 ∙ ap (λ o. o.value) (sym agree));
@@ -138,12 +139,15 @@ module _ {Id V : Type 0} (same : Id → Id → Bool) (plan : Meaning Id V) where
 
       -- THE CENTRAL STEP: once no job up to a stratum is without a value, no growth has more there
       pub central : (b : State Id V) → Grown same plan b → Within same plan b c → WithinUpTo k b a
-      central _ begun w = record { jobs = λ job i low. opening_in same plan a ga job i; values
-          = λ id x low e. absurd (none≢some x None refl e) }
+      central _ begun w = record {
+        jobs = λ job i low. opening_in same plan a ga job i;
+        values
+            = λ id x low e. absurd (none≢some x None refl e);
+      }
       central _ (grown {a = old} {by} job gold gby win here ready) w =
           let up = within_settle same plan by old job in
           let w_old : Within same plan old c = within_through same plan old
-              (settle same plan by old job) c up w in
+          (settle same plan by old job) c up w in
           let w_by : Within same plan by c = within_through same plan by old c win w_old in
           let old_up : WithinUpTo k old a = central old gold w_old in
           let by_up : WithinUpTo k by a = central by gby w_by in
@@ -153,32 +157,34 @@ module _ {Id V : Type 0} (same : Id → Id → Bool) (plan : Meaning Id V) where
               | inl o ↦ old_up.jobs t o low
               | inr n ↦
                   let new : In t (outcome_in same plan by job).added
-                      = subst (λ ts. In t ts) (nil_append _) n in
+                  = subst (λ ts. In t ts) (nil_append _) n in
                   let above = orderly.maker job t (w_by.jobs job here)
-                      (all_settled_within same plan by c w_by job.access.reads reads)
-                      (subst (λ o. In t o.added) (outcome_within same plan by c w_by job reads) new)
-                      in
+                  (all_settled_within same plan by c w_by job.access.reads reads)
+                  (subst (λ o. In t o.added) (outcome_within same plan by c w_by job reads) new)
+                  in
                   (already by w_by by_up job here reads (omega arith)).added t new
             ];
             values = λ id x low e. elim (read_of-push_cases same old.values job.id id
                 (outcome_in same plan by job).value x e) [
-              | inl o ↦ old_up.values id x low o
-              | inr n ↦
-                  let is_id : job.id ≡ id = (identity job.id id).0 n.0 in
-                  let low' : plan.stratum job.id ≤ k
+                  | inl o ↦ old_up.values id x low o
+                  | inr n ↦
+                      let is_id : job.id ≡ id = (identity job.id id).0 n.0 in
+                      let low' : plan.stratum job.id ≤ k
                       = subst (λ j. plan.stratum j ≤ k) (sym is_id) low in
-                  subst (λ j. value_in same a j ≡ Some x) is_id
+                      subst (λ j. value_in same a j ≡ Some x) is_id
                       ((already by w_by by_up job here reads low').value ∙ ap Some n.1)
-            ];
+                ];
           }
 
     -- CONFLUENCE: a growth that cannot go on has all that any growth has
     pub below : (c : State Id V) → IsOrderly c → Grown same plan c
         → ((job : Spec Id) → In job c.jobs → is_ready same plan c job ≡ false) → (b : State Id V)
         → Grown same plan b → Within same plan b c
-    below c orderly gc over _ begun = record
-        { jobs = λ job i. opening_in same plan c gc job i; values
-        = λ id x e. absurd (none≢some x None refl e) }
+    below c orderly gc over _ begun = record {
+      jobs = λ job i. opening_in same plan c gc job i;
+      values
+          = λ id x e. absurd (none≢some x None refl e);
+    }
     below c orderly gc over _ (grown {a} {by} job ga gby win here ready) =
         let w_a : Within same plan a c = below c orderly gc over a ga in
         let w_by : Within same plan by c = below c orderly gc over by gby in
@@ -199,7 +205,7 @@ module _ {Id V : Type 0} (same : Id → Id → Bool) (plan : Meaning Id V) where
         let agree = outcome_within same plan by c w_by job reads in
         let value : value_in same c job.id ≡ Some (outcome_in same plan by job).value =
         s.1 ∙ ap Some (it.is ∙ ap (λ j. (outcome_in same plan c j).value) is_job
-            ∙ ap (λ o. o.value) (sym agree)) in
+        ∙ ap (λ o. o.value) (sym agree)) in
         record {
           jobs = λ t i. elim (In-append_cases a.jobs _ t i) [
             | inl o ↦ w_a.jobs t o
@@ -208,10 +214,10 @@ module _ {Id V : Type 0} (same : Id → Id → Bool) (plan : Meaning Id V) where
           ];
           values = λ id x e. elim (read_of-push_cases same a.values job.id id
               (outcome_in same plan by job).value x e) [
-            | inl o ↦ w_a.values id x o
-            | inr n ↦ subst (λ j. value_in same c j ≡ Some x) ((identity job.id id).0 n.0)
-                (value ∙ ap Some n.1)
-          ];
+                | inl o ↦ w_a.values id x o
+                | inr n ↦ subst (λ j. value_in same c j ≡ Some x) ((identity job.id id).0 n.0)
+                    (value ∙ ap Some n.1)
+              ];
         }
       where
         awaits_too : (c : State Id V) → IsOrderly c → Grown same plan c → (by : State Id V)
@@ -226,5 +232,5 @@ module _ {Id V : Type 0} (same : Id → Id → Bool) (plan : Meaning Id V) where
                   let low' : plan.stratum job.id ≤ k = leb-true _ _ low in
                   let up = central c orderly k by gby w e c gc (within_itself same plan c) in
                   or_right _ _ (settled_within same plan by c w job.id
-                      (settled_up_to by k e job (up.jobs job i low') low'))
+                  (settled_up_to by k e job (up.jobs job i low') low'))
             ])

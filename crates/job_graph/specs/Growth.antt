@@ -1,15 +1,15 @@
 -- States that grow by one job at a time, each job being ready in an earlier one: rounds and
 -- histories alike.
-use Rattle.std.proofs.Common.{◌≡◌, Bool, true, false, ◌⊎◌, inl, inr, List, [], ◌∷◌, ◌++◌, Option,
-    Some, None, is_some, refl, sym, ap, ◌∙◌, subst, cond, unwrap_or}
+use Rattle.std.proofs.Common.{◌≡◌, Bool, true, false, ◌⊎◌, inl, inr, List, [], ◌∷◌, ◌++◌, Option}
+use Rattle.std.proofs.Common.{Some, None, is_some, refl, sym, ap, ◌∙◌, subst, cond, unwrap_or}
 use Rattle.std.specs.List.{list_all}
 use Rattle.std.proofs.lemmas.Bool.{and_parts, false≢true, not-true}
 use Rattle.access_context.specs.declared.access.Spec.{Spec}
 use Rattle.access_context.specs.Plain.{Plain, Blocked}
 use Rattle.access_context.specs.Read.{read_of}
 use Rattle.job_graph.specs.Meaning.{Meaning}
-use Rattle.job_graph.specs.Rounds.{State, value_in, is_settled, item_in, reads_in, start,
-    awaits_nothing, is_ready, outcome_of, outcome_in, with_outcomes}
+use Rattle.job_graph.specs.Rounds.{State, value_in, is_settled, item_in, reads_in, start}
+use Rattle.job_graph.specs.Rounds.{awaits_nothing, is_ready, outcome_of, outcome_in, with_outcomes}
 use Rattle.job_graph.specs.Members.{In, In-append_left, list_all-In, list_all-from, map_agree}
 
 pub none≢some : {X : Type 0} (x : X) (o : Option X) → o ≡ None → o ≡ Some x → ⊥
@@ -33,7 +33,7 @@ module _ {Id X : Type 0} (same : Id → Id → Bool) where
   read_of-append_left [] ys id x e = absurd (none≢some x None refl e)
   read_of-append_left (y ∷ xs) ys id x e =
       elim (same y.0 id) as (λ b. cond b (Some y.1) (read_of same xs id) ≡ Some x
-          → cond b (Some y.1) (read_of same (xs ++ ys) id) ≡ Some x) [
+      → cond b (Some y.1) (read_of same (xs ++ ys) id) ≡ Some x) [
         | true ↦ λ e. e
         | false ↦ λ e. read_of-append_left xs ys id x e
       ] e
@@ -43,7 +43,7 @@ module _ {Id X : Type 0} (same : Id → Id → Bool) where
   read_of-append_right [] ys id e = refl
   read_of-append_right (y ∷ xs) ys id e =
       elim (same y.0 id) as (λ b. cond b (Some y.1) (read_of same xs id) ≡ None
-          → cond b (Some y.1) (read_of same (xs ++ ys) id) ≡ read_of same ys id) [
+      → cond b (Some y.1) (read_of same (xs ++ ys) id) ≡ read_of same ys id) [
         | true ↦ λ e. absurd (none≢some y.1 (Some y.1) e refl)
         | false ↦ λ e. read_of-append_right xs ys id e
       ] e
@@ -54,13 +54,13 @@ module _ {Id X : Type 0} (same : Id → Id → Bool) where
       → (read_of same xs id ≡ Some x) ⊎ ((same k id ≡ true) × (v ≡ x))
   read_of-push_cases [] k id v x e =
       elim (same k id) as (λ b. cond b (Some v) None ≡ Some x
-          → (None ≡ Some x) ⊎ ((b ≡ true) × (v ≡ x))) [
+      → (None ≡ Some x) ⊎ ((b ≡ true) × (v ≡ x))) [
         | true ↦ λ e. let is : v ≡ x = cc in inr (refl, is)
         | false ↦ λ e. absurd (none≢some x None refl e)
       ] e
   read_of-push_cases (y ∷ xs) k id v x e =
       elim (same y.0 id) as (λ b. cond b (Some y.1) (read_of same (xs ++ (k, v) ∷ []) id) ≡ Some x
-          → (cond b (Some y.1) (read_of same xs id) ≡ Some x) ⊎ ((same k id ≡ true) × (v ≡ x))) [
+      → (cond b (Some y.1) (read_of same xs id) ≡ Some x) ⊎ ((same k id ≡ true) × (v ≡ x))) [
         | true ↦ λ e. inl e
         | false ↦ λ e. read_of-push_cases xs k id v x e
       ] e
@@ -70,7 +70,7 @@ module _ {Id X : Type 0} (same : Id → Id → Bool) where
   read_of-push_last [] k id v e = subst (λ b. is_some (cond b (Some v) None) ≡ true) (sym e) refl
   read_of-push_last (y ∷ xs) k id v e =
       elim (same y.0 id) as (λ b. is_some (cond b (Some y.1) (read_of same (xs ++ (k, v) ∷ []) id))
-          ≡ true) [
+      ≡ true) [
         | true ↦ refl
         | false ↦ read_of-push_last xs k id v e
       ]
@@ -85,8 +85,11 @@ module _ {Id V : Type 0} (same : Id → Id → Bool) (plan : Meaning Id V) where
   within_itself a = record { jobs = λ job i. i; values = λ id x e. e }
 
   pub within_through : (a b c : State Id V) → Within a b → Within b c → Within a c
-  within_through a b c f g = record { jobs = λ job i. g.jobs job (f.jobs job i); values
-      = λ id x e. g.values id x (f.values id x e) }
+  within_through a b c f g = record {
+    jobs = λ job i. g.jobs job (f.jobs job i);
+    values
+        = λ id x e. g.values id x (f.values id x e);
+  }
 
   pub settled_within : (a b : State Id V) → Within a b → (id : Id) → is_settled same a id ≡ true
       → is_settled same b id ≡ true

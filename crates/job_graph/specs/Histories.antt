@@ -1,8 +1,8 @@
 -- Histories of workers that claim jobs, finish them and halt: which are legal, and what each comes
 -- to. fontc's own.
-use Rattle.std.specs.Prelude.{ℕ, nat_eq, nat_lt, Bool, true, false, not, ◌&&◌, List, [], ◌∷◌, ◌++◌,
-    fold, filter, find, count_by, replicate, Option, Some, None, is_some, slice_get, slice_set,
-    if◌then◌else◌}
+use Rattle.std.specs.Prelude.{ℕ, nat_eq, nat_lt, Bool, true, false, not, ◌&&◌, List, [], ◌∷◌, ◌++◌}
+use Rattle.std.specs.Prelude.{fold, filter, find, count_by, replicate, Option, Some, None, is_some}
+use Rattle.std.specs.Prelude.{slice_get, slice_set, if◌then◌else◌}
 use Rattle.std.specs.List.{list_any}
 use Rattle.access_context.specs.declared.access.Spec.{Spec}
 use Rattle.job_graph.specs.Meaning.{Meaning}
@@ -133,7 +133,7 @@ module _ {Id V : Type 0} (same : Id → Id → Bool) (plan : Meaning Id V) where
       if has_halted events
       then Halted
       else (if some_ready (state_of events) then Running else
-          (if nat_eq (running workers events) 0 then Ended else Running))
+      (if nat_eq (running workers events) 0 then Ended else Running))
 
   -- a job is ready and wasn't claimed
   abbrev pub is_claimable : State Id V → List (Event Id) → Spec Id → Bool

@@ -1,20 +1,20 @@
 -- The rounds are a growth, and end in a state without a ready job.
-use Rattle.std.proofs.Common.{◌≡◌, ℕ, zero, suc, ◌+◌, ◌<◌, ◌≤◌, Bool, true, false, ◌⊎◌, inl, inr,
-    List, [], ◌∷◌, ◌++◌, map, length, Some, is_some, refl, sym, ap, ◌∙◌, subst, cond, arith,
-    append_assoc}
+use Rattle.std.proofs.Common.{◌≡◌, ℕ, zero, suc, ◌+◌, ◌<◌, ◌≤◌, Bool, true, false, ◌⊎◌, inl, inr}
+use Rattle.std.proofs.Common.{List, [], ◌∷◌, ◌++◌, map, length, Some, is_some, refl, sym, ap, ◌∙◌}
+use Rattle.std.proofs.Common.{subst, cond, arith, append_assoc}
 use Rattle.std.specs.List.{list_any, flat_map, filter}
 use Rattle.std.proofs.lemmas.Bool.{or_parts, false≢true, cases_Bool, false_from_ne_true}
 use Rattle.access_context.specs.declared.access.Spec.{Spec}
 use Rattle.access_context.specs.Read.{read_of}
 use Rattle.job_graph.specs.Meaning.{Meaning}
-use Rattle.job_graph.specs.Rounds.{State, is_settled, is_ready, outcome_in, with_outcomes, round,
-    rounds, limit}
+use Rattle.job_graph.specs.Rounds.{State, is_settled, is_ready, outcome_in, with_outcomes, round}
+use Rattle.job_graph.specs.Rounds.{rounds, limit}
 use Rattle.job_graph.specs.Laws.{IsLawful}
 use Rattle.job_graph.specs.Histories.{some_ready}
-use Rattle.job_graph.specs.Members.{In, In-from_Contains, Contains-from_In, In-filter, list_any-In,
-    list_any-found}
-use Rattle.job_graph.specs.Growth.{Within, within_itself, within_through, settled_within,
-    ready_unsettled, settle, within_settle, Grown, begun, grown}
+use Rattle.job_graph.specs.Members.{In, In-from_Contains, Contains-from_In, In-filter, list_any-In}
+use Rattle.job_graph.specs.Members.{list_any-found}
+use Rattle.job_graph.specs.Growth.{Within, within_itself, within_through, settled_within}
+use Rattle.job_graph.specs.Growth.{ready_unsettled, settle, within_settle, Grown, begun, grown}
 use Rattle.job_graph.specs.Confluence.{nil_append, IsOrderly, orderly_within, below}
 
 -- how many elements pass a test
@@ -45,7 +45,7 @@ count_one_more p q (y ∷ ys) more x i not_p so =
           let py : p y ≡ false = ap p here ∙ not_p in
           let qy : q y ≡ true = ap q here ∙ so in
           subst (λ b. cond b 1 0 + counted p ys < cond (q y) 1 0 + counted q ys) (sym py)
-              (subst (λ b. 0 + counted p ys < cond b 1 0 + counted q ys) (sym qy) (omega arith))
+          (subst (λ b. 0 + counted p ys < cond b 1 0 + counted q ys) (sym qy) (omega arith))
       | inr there ↦
           let rest = count_one_more p q ys more x there not_p so in
           elim (p y) as (λ b. p y ≡ b → cond b 1 0 + counted p ys < cond (q y) 1 0 + counted q ys) [
@@ -60,14 +60,14 @@ count_all p [] = omega arith
 count_all p (x ∷ xs) =
     let rest = count_all p xs in
     elim (p x) as (λ b. cond b 1 0 + counted p xs ≤ length (x ∷ xs))
-        [ true ↦ omega arith | false ↦ omega arith ]
+    [ true ↦ omega arith | false ↦ omega arith ]
 
 filter_none : {X : Type 0} (p : X → Bool) (xs : List X) → list_any p xs ≡ false → filter p xs ≡ []
 filter_none p [] e = refl
 filter_none p (x ∷ xs) e =
     subst (λ b. cond b (x ∷ filter p xs) (filter p xs) ≡ [])
-        (sym (or_parts (p x) (list_any p xs) e).0)
-        (filter_none p xs (or_parts (p x) (list_any p xs) e).1)
+    (sym (or_parts (p x) (list_any p xs) e).0)
+    (filter_none p xs (or_parts (p x) (list_any p xs) e).1)
 
 pub filter-from : {X : Type 0} (p : X → Bool) (xs : List X) (x : X) → In x xs → p x ≡ true
     → In x (filter p xs)
@@ -97,8 +97,8 @@ module _ {Id X : Type 0} (same : Id → Id → Bool) where
   read_of-map value [] job e i = absurd i
   read_of-map value (j ∷ jobs) job e i =
       elim (same j.id job.id) as (λ b. same j.id job.id ≡ b
-          → is_some (cond b (Some (value j)) (read_of same (map (λ j. (j.id, value j)) jobs)
-          job.id)) ≡ true) [
+      → is_some (cond b (Some (value j)) (read_of same (map (λ j. (j.id, value j)) jobs)
+      job.id)) ≡ true) [
         | true ↦ λ is. refl
         | false ↦ λ is. elim i [
           | inl here ↦ absurd (false≢true (sym is ∙ (ap (λ k. same k.id job.id) here ∙ e)))
@@ -117,12 +117,12 @@ module _ {Id V : Type 0} (same : Id → Id → Bool) (plan : Meaning Id V) where
       let new = (outcome_in same plan by job).added in
       let more = flat_map (λ j. (outcome_in same plan by j).added) jobs in
       let e : (a.jobs ++ (new ++ [])) ++ more
-          ≡ a.jobs ++ (new ++ more) = ap (λ n. (a.jobs ++ n) ++ more) (nil_append new)
-          ∙ append_assoc a.jobs new more in
+      ≡ a.jobs ++ (new ++ more) = ap (λ n. (a.jobs ++ n) ++ more) (nil_append new)
+      ∙ append_assoc a.jobs new more in
       let f : (a.values ++ (job.id, (outcome_in same plan by job).value) ∷ [])
-          ++ map (λ j. (j.id, (outcome_in same plan by j).value)) jobs
-          ≡ a.values ++ (job.id, (outcome_in same plan by job).value)
-          ∷ map (λ j. (j.id, (outcome_in same plan by j).value)) jobs = append_assoc a.values _ _ in
+      ++ map (λ j. (j.id, (outcome_in same plan by j).value)) jobs
+      ≡ a.values ++ (job.id, (outcome_in same plan by job).value)
+      ∷ map (λ j. (j.id, (outcome_in same plan by j).value)) jobs = append_assoc a.values _ _ in
       λ i. record { jobs = e i; values = f i }
 
   all_grown : (by : State Id V) → Grown same plan by → (jobs : List (Spec Id))
@@ -134,16 +134,16 @@ module _ {Id V : Type 0} (same : Id → Id → Bool) (plan : Meaning Id V) where
       let r = ready job (inl refl) in
       subst (Grown same plan) (one_and_more by a job jobs)
       (all_grown by gby jobs (λ j i. ready j (inr i)) (settle same plan by a job)
-          (grown job ga gby w r.0 r.1) (within_through same plan by a (settle same plan by a job) w
-          (within_settle same plan by a job)))
+      (grown job ga gby w r.0 r.1) (within_through same plan by a (settle same plan by a job) w
+      (within_settle same plan by a job)))
 
   pub rounds_grown : (n : ℕ) → Grown same plan (rounds same plan n)
   rounds_grown zero = begun
   rounds_grown (suc n) =
       let before = rounds same plan n in
       all_grown before (rounds_grown n) (filter (is_ready same plan before) before.jobs)
-          (λ job i. In-filter (is_ready same plan before) before.jobs job i) before (rounds_grown n)
-          (within_itself same plan before)
+      (λ job i. In-filter (is_ready same plan before) before.jobs job i) before (rounds_grown n)
+      (within_itself same plan before)
 
   within_round : (by a : State Id V) (jobs : List (Spec Id))
       → Within same plan a (with_outcomes same plan by a jobs)
@@ -152,7 +152,7 @@ module _ {Id V : Type 0} (same : Id → Id → Bool) (plan : Meaning Id V) where
   within_round by a (job ∷ jobs) =
       subst (Within same plan a) (one_and_more by a job jobs)
       (within_through same plan a (settle same plan by a job) _ (within_settle same plan by a job)
-          (within_round by (settle same plan by a job) jobs))
+      (within_round by (settle same plan by a job) jobs))
 
   -- a round without a ready job changes nothing
   pub round_stalled : (a : State Id V) → some_ready same plan a ≡ false → round same plan a ≡ a
@@ -182,18 +182,18 @@ module _ {Id V : Type 0} (same : Id → Id → Bool) (plan : Meaning Id V) where
         let f = list_any-found (is_ready same plan before) before.jobs e in
         let job = f.0 in
         let w : Within same plan before (round same plan before)
-            = within_round before before (filter (is_ready same plan before) before.jobs) in
+        = within_round before before (filter (is_ready same plan before) before.jobs) in
         let in_u : In job.id plan.universe = In-from_Contains plan.universe job.id
-            (lawful.in_universe n job (Contains-from_In before.jobs job f.1)) in
+        (lawful.in_universe n job (Contains-from_In before.jobs job f.1)) in
         let itself : same job.id job.id ≡ true = (lawful.identity job.id job.id).1 refl in
         let now : is_settled same (round same plan before) job.id ≡ true =
         read_of-append_some same before.values _ job.id
-            (read_of-map same (λ j. (outcome_in same plan before j).value)
-            (filter (is_ready same plan before) before.jobs) job itself
-            (filter-from (is_ready same plan before) before.jobs job f.1 f.2)) in
+        (read_of-map same (λ j. (outcome_in same plan before j).value)
+        (filter (is_ready same plan before) before.jobs) job itself
+        (filter-from (is_ready same plan before) before.jobs job f.1 f.2)) in
         count_one_more (is_settled same before) (is_settled same (round same plan before))
-            plan.universe (λ id s. settled_within same plan before (round same plan before) w id s)
-            job.id in_u (ready_unsettled same plan before job f.2) now
+        plan.universe (λ id s. settled_within same plan before (round same plan before) w id s)
+        job.id in_u (ready_unsettled same plan before job f.2) now
 
     rounds_go : (n : ℕ) → (some_ready same plan (rounds same plan n) ≡ false)
         ⊎ (n ≤ counted (is_settled same (rounds same plan n)) plan.universe)
@@ -261,5 +261,5 @@ module _ {Id V : Type 0} (same : Id → Id → Bool) (plan : Meaning Id V) where
         → Within same plan (limit same plan) a
     limit_below a ga e =
         below same plan lawful.identity a (orderly_within same plan lawful.identity a
-            (limit same plan) (below_limit a ga) limit_orderly) ga (λ job i. none_ready a e job i)
-            (limit same plan) limit_grown
+        (limit same plan) (below_limit a ga) limit_orderly) ga (λ job i. none_ready a e job i)
+        (limit same plan) limit_grown

@@ -1,6 +1,7 @@
 -- What stands in a list: lemmas that serve the laws of plans, and no contract. fontc's own.
-use Rattle.std.proofs.Common.{◌≡◌, ℕ, zero, suc, ◌+◌, ◌<◌, Bool, true, false, cond, ◌⊎◌, inl, inr,
-    List, [], ◌∷◌, ◌++◌, map, length, get_or, drop, Some, refl, sym, ap, ◌∙◌, subst, arith}
+use Rattle.std.proofs.Common.{◌≡◌, ℕ, zero, suc, ◌+◌, ◌<◌, Bool, true, false, cond, ◌⊎◌, inl, inr}
+use Rattle.std.proofs.Common.{List, [], ◌∷◌, ◌++◌, map, length, get_or, drop, Some, refl, sym, ap}
+use Rattle.std.proofs.Common.{◌∙◌, subst, arith}
 use Rattle.std.specs.List.{list_all, list_any, flat_map, filter, find, Contains, slice_get}
 use Rattle.std.proofs.Math.Seq.{drop-cons}
 use Rattle.std.proofs.lemmas.Bool.{and_parts, and_from, or_cases, or_left, or_right, false≢true}
@@ -71,7 +72,7 @@ module _ {X : Type 0} where
   In-filter p [] x h = absurd h
   In-filter p (y ∷ ys) x h =
       elim (p y) as (λ b. p y ≡ b → In x (cond b (y ∷ filter p ys) (filter p ys))
-          → In x (y ∷ ys) × (p x ≡ true)) [
+      → In x (y ∷ ys) × (p x ≡ true)) [
         | true ↦ λ is h. elim h [
           | inl e ↦ (inl e, sym (ap p e) ∙ is)
           | inr i ↦ (inr (In-filter p ys x i).0, (In-filter p ys x i).1)
@@ -107,7 +108,7 @@ module _ {X : Type 0} where
   find-some p [] x e = cc
   find-some p (y ∷ ys) x e =
       elim (p y) as (λ b. p y ≡ b → cond b (Some y) (find p ys) ≡ Some x
-          → In x (y ∷ ys) × (p x ≡ true)) [
+      → In x (y ∷ ys) × (p x ≡ true)) [
         | true ↦ λ is e. let same : y ≡ x = cc in (inl same, sym (ap p same) ∙ is)
         | false ↦ λ is e. (inr (find-some p ys x e).0, (find-some p ys x e).1)
       ] refl e
@@ -158,4 +159,4 @@ pub find_drop-passed : {X : Type 0} (p : X → Bool) (xs : List X) (i : ℕ) (x 
 find_drop-passed p xs i x lt at is =
     let s : i + 1 ≡ suc i = omega arith in
     ap (λ n. find p (drop n xs)) s ∙ sym (ap (find p) (drop-cons xs i x lt)
-        ∙ find_later p (get_or xs i x) x (drop (suc i) xs) (sym at) is)
+    ∙ find_later p (get_or xs i x) x (drop (suc i) xs) (sym at) is)

@@ -1,16 +1,16 @@
 -- What holds of every legal history, and of one that has ended. fontc's own.
-use Rattle.std.specs.Prelude.{◌≡◌, ◌↔◌, ℕ, ◌+◌, ◌*◌, ◌≤◌, ◌⊎◌, Bool, true, false, List, ◌∷◌, ◌++◌,
-    length, count_by, Some, Contains, if◌then◌else◌}
+use Rattle.std.specs.Prelude.{◌≡◌, ◌↔◌, ℕ, ◌+◌, ◌*◌, ◌≤◌, ◌⊎◌, Bool, true, false, List, ◌∷◌, ◌++◌}
+use Rattle.std.specs.Prelude.{length, count_by, Some, Contains, if◌then◌else◌}
 use Rattle.std.specs.List.{list_all}
 use Rattle.access_context.specs.declared.access.Spec.{Spec}
 use Rattle.access_context.specs.Plain.{Plain, is_done}
 use Rattle.job_graph.specs.declared.event.Event.{Event}
 use Rattle.job_graph.specs.declared.event.Event.TheVariants as event
 use Rattle.job_graph.specs.Meaning.{Meaning}
-use Rattle.job_graph.specs.Rounds.{value_in, is_settled, is_unsettled_job, awaits_nothing, is_ready,
-    outcome_in, rounds, limit}
-use Rattle.job_graph.specs.Histories.{has_halted, is_claim_of, is_finish_of, was_finished, state_of,
-    is_run, some_ready}
+use Rattle.job_graph.specs.Rounds.{value_in, is_settled, is_unsettled_job, awaits_nothing, is_ready}
+use Rattle.job_graph.specs.Rounds.{outcome_in, rounds, limit}
+use Rattle.job_graph.specs.Histories.{has_halted, is_claim_of, is_finish_of, was_finished, state_of}
+use Rattle.job_graph.specs.Histories.{is_run, some_ready}
 
 module _ {Id V : Type 0} (same : Id → Id → Bool) (plan : Meaning Id V) where
   -- before a job was claimed, all that it reads was finished, and every job that it awaits of all

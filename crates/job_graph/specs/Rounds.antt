@@ -1,8 +1,8 @@
 -- The growth of a graph of jobs in rounds, up to its limit. No worker, no order and no count is in
 -- it. fontc's own.
-use Rattle.std.specs.Prelude.{◌≡◌, Contains, ℕ, zero, suc, Bool, true, not, ◌&&◌, ◌||◌, nat_le,
-    List, [], ◌++◌, map, filter, length, Option, Some, None, is_some, unwrap_or, option_map, find,
-    if◌then◌else◌}
+use Rattle.std.specs.Prelude.{◌≡◌, Contains, ℕ, zero, suc, Bool, true, not, ◌&&◌, ◌||◌, nat_le}
+use Rattle.std.specs.Prelude.{List, [], ◌++◌, map, filter, length, Option, Some, None, is_some}
+use Rattle.std.specs.Prelude.{unwrap_or, option_map, find, if◌then◌else◌}
 use Rattle.std.specs.List.{list_all, list_any, flat_map}
 use Rattle.access_context.specs.declared.access.Access.{Access}
 use Rattle.access_context.specs.declared.access.Spec.{Spec}

@@ -1,7 +1,7 @@
 -- A plan that is solved: what each of its jobs is, which of them are ever added and what comes of
 -- each, all told by their ids alone, with no word on rounds, workers or an order. fontc's own.
-use Rattle.std.specs.Prelude.{◌≡◌, ◌↔◌, ◌⊎◌, ℕ, ◌<◌, ◌≤◌, Bool, false, IsTrue, List, [], map, Some,
-    Contains}
+use Rattle.std.specs.Prelude.{◌≡◌, ◌↔◌, ◌⊎◌, ℕ, ◌<◌, ◌≤◌, Bool, false, IsTrue, List, [], map, Some}
+use Rattle.std.specs.Prelude.{Contains}
 use Rattle.access_context.specs.declared.access.Spec.{Spec}
 use Rattle.access_context.specs.Plain.{Plain, PlainOutcome, is_done}
 use Rattle.job_graph.specs.Meaning.{Meaning}
@@ -24,7 +24,7 @@ module _ {Id V : Type 0} (same : Id → Id → Bool) (plan : Meaning Id V) (spec
         → Contains plan.opening (spec_of id)
         → ((read : Id) → Contains (spec_of id).access.reads read → Founded read)
         → ((stratum : ℕ) (other : Id) → (spec_of id).access.awaits ≡ Some stratum → There other
-            → plan.stratum other ≤ stratum → Founded other)
+        → plan.stratum other ≤ stratum → Founded other)
         → Founded id
     added :
         (id maker : Id)
@@ -32,7 +32,7 @@ module _ {Id V : Type 0} (same : Id → Id → Bool) (plan : Meaning Id V) (spec
         → Contains (solved_outcome maker).added (spec_of id)
         → ((read : Id) → Contains (spec_of id).access.reads read → Founded read)
         → ((stratum : ℕ) (other : Id) → (spec_of id).access.awaits ≡ Some stratum → There other
-            → plan.stratum other ≤ stratum → Founded other)
+        → plan.stratum other ≤ stratum → Founded other)
         → Founded id
 
   -- a founded job adds this one

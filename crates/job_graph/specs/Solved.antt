@@ -1,26 +1,28 @@
 -- A solved plan keeps the laws of plans, and its limit is what the solution says. Lemmas for the
 -- plans of crates above.
-use Rattle.std.proofs.Common.{◌≡◌, ℕ, suc, ◌<◌, ◌≤◌, Bool, true, false, not, ◌||◌, nat_le, ◌⊎◌, inl,
-    inr, List, [], ◌∷◌, ◌++◌, map, Option, Some, None, is_some, unwrap_or, refl, sym, ap, ◌∙◌,
-    subst, cond, arith}
+use Rattle.std.proofs.Common.{◌≡◌, ℕ, suc, ◌<◌, ◌≤◌, Bool, true, false, not, ◌||◌, nat_le, ◌⊎◌, inl}
+use Rattle.std.proofs.Common.{inr, List, [], ◌∷◌, ◌++◌, map, Option, Some, None, is_some, unwrap_or}
+use Rattle.std.proofs.Common.{refl, sym, ap, ◌∙◌, subst, cond, arith}
 use Rattle.std.specs.Prelude.{Contains}
 use Rattle.std.specs.List.{list_all}
-use Rattle.std.proofs.lemmas.Bool.{and_parts, and_from, or_left, or_right, false≢true, cases_Bool,
-    not_from_false, leb-true}
+use Rattle.std.proofs.lemmas.Bool.{and_parts, and_from, or_left, or_right, false≢true, cases_Bool}
+use Rattle.std.proofs.lemmas.Bool.{not_from_false, leb-true}
 use Rattle.access_context.specs.declared.access.Spec.{Spec}
 use Rattle.access_context.specs.Plain.{Plain, Blocked, PlainOutcome, is_done}
 use Rattle.access_context.specs.Read.{all_done}
 use Rattle.job_graph.specs.Meaning.{Meaning}
-use Rattle.job_graph.specs.Rounds.{State, value_in, is_settled, item_in, reads_in, is_done_up_to,
-    awaits_nothing, is_ready, blocked, outcome_of, outcome_in, rounds, limit}
+use Rattle.job_graph.specs.Rounds.{State, value_in, is_settled, item_in, reads_in, is_done_up_to}
+use Rattle.job_graph.specs.Rounds.{awaits_nothing, is_ready, blocked, outcome_of, outcome_in}
+use Rattle.job_graph.specs.Rounds.{rounds, limit}
 use Rattle.job_graph.specs.Laws.{IsLawful}
-use Rattle.job_graph.specs.Solutions.{solved_outcome, Founded, opened, added, IsMade, IsSolution,
-    IsSolved}
-use Rattle.job_graph.specs.Members.{In, In-append_cases, In-from_Contains, Contains-from_In,
-    list_all-In, list_all-from, map_agree}
-use Rattle.job_graph.specs.Growth.{none≢some, some_of, read_of-push_cases, Within, within_itself,
-    within_through, all_settled_within, outcome_within, ready_reads, ready_awaits, settle,
-    within_settle, Grown, begun, grown, opening_in}
+use Rattle.job_graph.specs.Solutions.{solved_outcome, Founded, opened, added, IsMade, IsSolution}
+use Rattle.job_graph.specs.Solutions.{IsSolved}
+use Rattle.job_graph.specs.Members.{In, In-append_cases, In-from_Contains, Contains-from_In}
+use Rattle.job_graph.specs.Members.{list_all-In, list_all-from, map_agree}
+use Rattle.job_graph.specs.Growth.{none≢some, some_of, read_of-push_cases, Within, within_itself}
+use Rattle.job_graph.specs.Growth.{within_through, all_settled_within, outcome_within, ready_reads}
+use Rattle.job_graph.specs.Growth.{ready_awaits, settle, within_settle, Grown, begun, grown}
+use Rattle.job_graph.specs.Growth.{opening_in}
 use Rattle.job_graph.specs.Confluence.{nil_append, Comes, comes, settled_up_to}
 use Rattle.job_graph.specs.Limit.{rounds_grown, limit_grown, limit_over, none_ready}
 
@@ -64,13 +66,13 @@ module _ {Id V : Type 0} (same : Id → Id → Bool) (plan : Meaning Id V) (spec
       → outcome_in same plan a (spec_of id) ≡ outcome id
   outcome_is a s id settled =
       let items : reads_in same a (spec_of id).access.reads
-          ≡ map (λ read. (read, value_of read)) (spec_of id).access.reads =
+      ≡ map (λ read. (read, value_of read)) (spec_of id).access.reads =
       map_agree (item_in same a) (λ read. (read, value_of read)) (spec_of id).access.reads
-          (λ read i. ap (λ o. (read, unwrap_or o Blocked))
-          (settled_founded a s read (list_all-In (is_settled same a) (spec_of id).access.reads read
-          settled i)).1) in
+      (λ read i. ap (λ o. (read, unwrap_or o Blocked))
+      (settled_founded a s read (list_all-In (is_settled same a) (spec_of id).access.reads read
+      settled i)).1) in
       ap (λ k. outcome_of same plan k (reads_in same a (spec_of id).access.reads))
-          (solution.named id) ∙ ap (outcome_of same plan id) items
+      (solution.named id) ∙ ap (outcome_of same plan id) items
 
   job_outcome_is : (a : State Id V) → Sound a → (job : Spec Id) → In job a.jobs
       → list_all (is_settled same a) job.access.reads ≡ true
@@ -78,7 +80,7 @@ module _ {Id V : Type 0} (same : Id → Id → Bool) (plan : Meaning Id V) (spec
   job_outcome_is a s job here settled =
       let is : job ≡ spec_of job.id = (s.jobs job here).1 in
       ap (outcome_in same plan a) is ∙ outcome_is a s job.id
-          (subst (λ (j : Spec Id). list_all (is_settled same a) j.access.reads ≡ true) is settled)
+      (subst (λ (j : Spec Id). list_all (is_settled same a) j.access.reads ≡ true) is settled)
 
   -- what a settled job adds is there
   settled_adds : (a : State Id V) → Grown same plan a → Sound a → (id : Id)
@@ -88,9 +90,9 @@ module _ {Id V : Type 0} (same : Id → Id → Bool) (plan : Meaning Id V) (spec
       let v = some_of (value_in same a id) e in
       let it : Comes same plan a id v.0 = comes same plan solution.identity a ga id v.0 v.1 in
       let is : outcome_in same plan a it.job
-          ≡ outcome id = job_outcome_is a s it.job it.there it.reads ∙ ap outcome it.named in
+      ≡ outcome id = job_outcome_is a s it.job it.there it.reads ∙ ap outcome it.named in
       it.added job (subst (λ (o : PlainOutcome V Id). In job o.added) (sym is)
-          (In-from_Contains (outcome id).added job c))
+      (In-from_Contains (outcome id).added job c))
 
   -- all that is there and founded of the strata that are done has been added
   founded_in : (a : State Id V) → Grown same plan a → Sound a → (k : ℕ)
@@ -100,15 +102,15 @@ module _ {Id V : Type 0} (same : Id → Id → Bool) (plan : Meaning Id V) (spec
       = opening_in same plan a ga (spec_of id) (In-from_Contains plan.opening (spec_of id) first)
   founded_in a ga s k done id (added _ maker founded adds reads awaited) low =
       let above : plan.stratum maker ≤ plan.stratum id
-          = subst (λ j. plan.stratum maker ≤ plan.stratum j) (solution.named id)
-          (solution.above_maker maker (spec_of id) (there_of maker founded) (reads_of maker founded)
-          adds) in
+      = subst (λ j. plan.stratum maker ≤ plan.stratum j) (solution.named id)
+      (solution.above_maker maker (spec_of id) (there_of maker founded) (reads_of maker founded)
+      adds) in
       let low_maker : plan.stratum maker ≤ k = omega arith in
       let here : In (spec_of maker) a.jobs = founded_in a ga s k done maker founded low_maker in
       let settled : is_settled same a maker
-          ≡ true = subst (λ j. is_settled same a j ≡ true) (solution.named maker)
-          (settled_up_to same plan solution.identity a k done (spec_of maker) here
-          (subst (λ j. plan.stratum j ≤ k) (sym (solution.named maker)) low_maker)) in
+      ≡ true = subst (λ j. is_settled same a j ≡ true) (solution.named maker)
+      (settled_up_to same plan solution.identity a k done (spec_of maker) here
+      (subst (λ j. plan.stratum j ≤ k) (sym (solution.named maker)) low_maker)) in
       settled_adds a ga s maker settled (spec_of id) adds
 
   there_founded : (a : State Id V) → Grown same plan a → Sound a → (k : ℕ)
@@ -120,21 +122,21 @@ module _ {Id V : Type 0} (same : Id → Id → Bool) (plan : Meaning Id V) (spec
             (In-from_Contains plan.opening (spec_of id) first)
         | inr made ↦
             let above : plan.stratum made.maker ≤ plan.stratum id
-                = subst (λ j. plan.stratum made.maker ≤ plan.stratum j) (solution.named id)
-                (solution.above_maker made.maker (spec_of id) (there_of made.maker made.founded)
-                (reads_of made.maker made.founded) made.adds) in
+            = subst (λ j. plan.stratum made.maker ≤ plan.stratum j) (solution.named id)
+            (solution.above_maker made.maker (spec_of id) (there_of made.maker made.founded)
+            (reads_of made.maker made.founded) made.adds) in
             let low_maker : plan.stratum made.maker ≤ k = omega arith in
             let at : In (spec_of made.maker) a.jobs
-                = founded_in a ga s k done made.maker made.founded low_maker in
+            = founded_in a ga s k done made.maker made.founded low_maker in
             let settled : is_settled same a made.maker
-                ≡ true = subst (λ j. is_settled same a j ≡ true) (solution.named made.maker)
-                (settled_up_to same plan solution.identity a k done (spec_of made.maker) at
-                (subst (λ j. plan.stratum j ≤ k) (sym (solution.named made.maker)) low_maker)) in
+            ≡ true = subst (λ j. is_settled same a j ≡ true) (solution.named made.maker)
+            (settled_up_to same plan solution.identity a k done (spec_of made.maker) at
+            (subst (λ j. plan.stratum j ≤ k) (sym (solution.named made.maker)) low_maker)) in
             settled_adds a ga s made.maker settled (spec_of id) made.adds
       ] in
       (settled_founded a s id (subst (λ j. is_settled same a j ≡ true) (solution.named id)
-          (settled_up_to same plan solution.identity a k done (spec_of id) here
-          (subst (λ j. plan.stratum j ≤ k) (sym (solution.named id)) low)))).0
+      (settled_up_to same plan solution.identity a k done (spec_of id) here
+      (subst (λ j. plan.stratum j ≤ k) (sym (solution.named id)) low)))).0
 
   -- a ready job is founded
   ready_founded : (by : State Id V) → Grown same plan by → Sound by → (job : Spec Id)
@@ -144,31 +146,34 @@ module _ {Id V : Type 0} (same : Id → Id → Bool) (plan : Meaning Id V) (spec
       let known = s.jobs job here in
       let id = job.id in
       let reads : (read : Id) → Contains (spec_of job.id).access.reads read
-          → Founded same plan spec_of There value_of read = λ read c.
+      → Founded same plan spec_of There value_of read = λ read c.
       (settled_founded by s read (list_all-In (is_settled same by) job.access.reads read
-          (ready_reads same plan by job ready)
-          (subst (λ (j : Spec Id). In read j.access.reads) (sym known.1)
-          (In-from_Contains (spec_of job.id).access.reads read c)))).0 in
+      (ready_reads same plan by job ready)
+      (subst (λ (j : Spec Id). In read j.access.reads) (sym known.1)
+      (In-from_Contains (spec_of job.id).access.reads read c)))).0 in
       let awaited : (k : ℕ) (other : Id) → (spec_of job.id).access.awaits ≡ Some k → There other
-          → plan.stratum other ≤ k → Founded same plan spec_of There value_of other
-          = λ k other e there low.
+      → plan.stratum other ≤ k → Founded same plan spec_of There value_of other
+      = λ k other e there low.
       there_founded by gb s k (subst (λ o. awaits_nothing same plan by o ≡ true)
-          (ap (λ (j : Spec Id). j.access.awaits) known.1 ∙ e) (ready_awaits same plan by job ready))
-          other there low in
+      (ap (λ (j : Spec Id). j.access.awaits) known.1 ∙ e) (ready_awaits same plan by job ready))
+      other there low in
       elim (solution.least job.id known.0) [
         | inl first ↦ opened job.id first reads awaited
         | inr made ↦ added job.id made.maker made.founded made.adds reads awaited
       ]
 
   sound : (a : State Id V) → Grown same plan a → Sound a
-  sound _ begun = record { jobs = λ job i. solution.opening job
-      (Contains-from_In plan.opening job i); values = λ id x e. absurd (none≢some x None refl e) }
+  sound _ begun = record {
+    jobs = λ job i. solution.opening job
+        (Contains-from_In plan.opening job i);
+    values = λ id x e. absurd (none≢some x None refl e);
+  }
   sound _ (grown {a} {by} job ga gb w here ready) =
       let sa = sound a ga in
       let sb = sound by gb in
       let founded = ready_founded by gb sb job here ready in
       let is : outcome_in same plan by job ≡ outcome job.id
-          = job_outcome_is by sb job here (ready_reads same plan by job ready) in
+      = job_outcome_is by sb job here (ready_reads same plan by job ready) in
       record {
         jobs = λ t i. elim (In-append_cases a.jobs _ t i) [
           | inl old ↦ sa.jobs t old
@@ -179,13 +184,15 @@ module _ {Id V : Type 0} (same : Id → Id → Bool) (plan : Meaning Id V) (spec
         ];
         values = λ id x e. elim (read_of-push_cases same a.values job.id id
             (outcome_in same plan by job).value x e) [
-          | inl old ↦ sa.values id x old
-          | inr new ↦
-              let at : job.id ≡ id = (solution.identity job.id id).0 new.0 in
-              (subst (Founded same plan spec_of There value_of) at founded, sym new.1
-                  ∙ ap (λ (o : PlainOutcome V Id). o.value) is ∙ solution.value job.id founded
-                  ∙ ap value_of at)
-        ];
+              | inl old ↦ sa.values id x old
+              | inr new ↦
+                  let at : job.id ≡ id = (solution.identity job.id id).0 new.0 in (
+                    subst (Founded same plan spec_of There value_of) at founded,
+                    sym new.1
+                        ∙ ap (λ (o : PlainOutcome V Id). o.value) is ∙ solution.value job.id founded
+                        ∙ ap value_of at,
+                  )
+            ];
       }
 
   -- items that all have values are settled
@@ -226,25 +233,25 @@ module _ {Id V : Type 0} (same : Id → Id → Bool) (plan : Meaning Id V) (spec
         let is = job_outcome_is a s maker here settled in
         solution.above_maker maker.id job known.0
         (λ read c. (settled_founded a s read
-            (list_all-In (is_settled same a) maker.access.reads read settled
-            (subst (λ (t : Spec Id). In read t.access.reads) (sym known.1)
-            (In-from_Contains (spec_of maker.id).access.reads read c)))).0)
+        (list_all-In (is_settled same a) maker.access.reads read settled
+        (subst (λ (t : Spec Id). In read t.access.reads) (sym known.1)
+        (In-from_Contains (spec_of maker.id).access.reads read c)))).0)
         (Contains-from_In (outcome maker.id).added job
-            (subst (λ (o : PlainOutcome V Id). In job o.added) is adds));
+        (subst (λ (o : PlainOutcome V Id). In job o.added) is adds));
     above_awaited = λ n job k i e.
         let known = (sound (rounds same plan n) (rounds_grown same plan n)).jobs job
-            (In-from_Contains _ job i) in
+        (In-from_Contains _ job i) in
         solution.above_awaited job.id k known.0
-            (sym (ap (λ (t : Spec Id). t.access.awaits) known.1) ∙ e);
+        (sym (ap (λ (t : Spec Id). t.access.awaits) known.1) ∙ e);
     above_reads = λ n job read i j.
         let known = (sound (rounds same plan n) (rounds_grown same plan n)).jobs job
-            (In-from_Contains _ job i) in
+        (In-from_Contains _ job i) in
         solution.above_reads job.id read known.0
-            (subst (λ (t : Spec Id). Contains t.access.reads read) known.1 j);
+        (subst (λ (t : Spec Id). Contains t.access.reads read) known.1 j);
     one_spec = λ n job other i j e.
         let s = sound (rounds same plan n) (rounds_grown same plan n) in
         (s.jobs job (In-from_Contains _ job i)).1 ∙ ap spec_of e
-            ∙ sym (s.jobs other (In-from_Contains _ other j)).1;
+        ∙ sym (s.jobs other (In-from_Contains _ other j)).1;
     in_universe = λ n job i. solution.in_universe job.id
         ((sound (rounds same plan n) (rounds_grown same plan n)).jobs job
         (In-from_Contains _ job i)).0;
@@ -259,7 +266,7 @@ module _ {Id V : Type 0} (same : Id → Id → Bool) (plan : Meaning Id V) (spec
   awaits_done None all = refl
   awaits_done (Some k) all =
       list_all-from (λ job. not (nat_le (plan.stratum job.id) k)
-          || is_settled same (limit same plan) job.id) (limit same plan).jobs (λ job i.
+      || is_settled same (limit same plan) job.id) (limit same plan).jobs (λ job i.
       elim (cases_Bool (nat_le (plan.stratum job.id) k)) [
         | inr high ↦ or_left _ _ (not_from_false _ high)
         | inl low ↦ or_right _ _ (all k job.id refl (last_sound.jobs job i).0 (leb-true _ _ low))
@@ -276,13 +283,13 @@ module _ {Id V : Type 0} (same : Id → Id → Bool) (plan : Meaning Id V) (spec
         | inl s ↦ s
         | inr n ↦
             let unsettled : is_settled same last (spec_of id).id
-                ≡ false = subst (λ k. is_settled same last k ≡ false) (sym (solution.named id)) n in
+            ≡ false = subst (λ k. is_settled same last k ≡ false) (sym (solution.named id)) n in
             let all : list_all (is_settled same last) (spec_of id).access.reads
-                ≡ true = list_all-from (is_settled same last) (spec_of id).access.reads
-                (λ read i. reads read (Contains-from_In (spec_of id).access.reads read i)) in
+            ≡ true = list_all-from (is_settled same last) (spec_of id).access.reads
+            (λ read i. reads read (Contains-from_In (spec_of id).access.reads read i)) in
             absurd (false≢true (sym (none_ready same plan last
-                (limit_over same plan solution_lawful) (spec_of id) here)
-                ∙ and_from _ _ (not_from_false _ unsettled) (and_from _ _ all awaits)))
+            (limit_over same plan solution_lawful) (spec_of id) here)
+            ∙ and_from _ _ (not_from_false _ unsettled) (and_from _ _ all awaits)))
       ]
 
   -- a founded job has a value in the limit
@@ -291,17 +298,17 @@ module _ {Id V : Type 0} (same : Id → Id → Bool) (plan : Meaning Id V) (spec
   founded_settled id (opened _ first reads awaited) =
       settles id
       (opening_in same plan (limit same plan) (limit_grown same plan solution_lawful) (spec_of id)
-          (In-from_Contains plan.opening (spec_of id) first))
+      (In-from_Contains plan.opening (spec_of id) first))
       (λ read c. founded_settled read (reads read c))
       (awaits_done (spec_of id).access.awaits
-          (λ k other e there low. founded_settled other (awaited k other e there low)))
+      (λ k other e there low. founded_settled other (awaited k other e there low)))
   founded_settled id (added _ maker founded adds reads awaited) =
       settles id
       (settled_adds (limit same plan) (limit_grown same plan solution_lawful) last_sound maker
-          (founded_settled maker founded) (spec_of id) adds)
+      (founded_settled maker founded) (spec_of id) adds)
       (λ read c. founded_settled read (reads read c))
       (awaits_done (spec_of id).access.awaits
-          (λ k other e there low. founded_settled other (awaited k other e there low)))
+      (λ k other e there low. founded_settled other (awaited k other e there low)))
 
   -- AND ITS LIMIT IS THE SOLUTION
   pub solution_solved : IsSolved same plan spec_of There value_of
@@ -311,11 +318,11 @@ module _ {Id V : Type 0} (same : Id → Id → Bool) (plan : Meaning Id V) (spec
         jobs = λ job c. last_sound.jobs job (In-from_Contains last.jobs job c);
         all_there = λ id there. Contains-from_In last.jobs (spec_of id)
             (elim (solution.least id there) [
-          | inl first ↦ opening_in same plan last (limit_grown same plan solution_lawful)
-              (spec_of id) (In-from_Contains plan.opening (spec_of id) first)
-          | inr made ↦ settled_adds last (limit_grown same plan solution_lawful) last_sound
-              made.maker (founded_settled made.maker made.founded) (spec_of id) made.adds
-        ]);
+              | inl first ↦ opening_in same plan last (limit_grown same plan solution_lawful)
+                  (spec_of id) (In-from_Contains plan.opening (spec_of id) first)
+              | inr made ↦ settled_adds last (limit_grown same plan solution_lawful) last_sound
+                  made.maker (founded_settled made.maker made.founded) (spec_of id) made.adds
+            ]);
         values = last_sound.values;
         founded = λ id f. (settled_founded last last_sound id (founded_settled id f)).1;
       }

@@ -1,5 +1,5 @@
-ghost use Rattle.std.specs.Prelude.{◌≡◌, ◌<◌, [], ◌∷◌, ◌++◌, option_map, IfSome, IfOk, OnOk, IfErr,
-    OnErr, Some, None, ℕ, if◌then◌else◌};
+ghost use Rattle.std.specs.Prelude.{◌≡◌, ◌<◌, [], ◌∷◌, ◌++◌, option_map, IfSome, IfOk, OnOk, IfErr};
+ghost use Rattle.std.specs.Prelude.{OnErr, Some, None, ℕ, if◌then◌else◌};
 ghost use Rattle.std.specs.List.{list_any};
 ghost use Rattle.access_context.specs.Plain.{plain, plain_outcome};
 ghost use Rattle.job_graph.specs.Rounds.{value_in, is_unsettled_job, limit, IsOutcomeOf};
@@ -56,12 +56,12 @@ impl<P: Plan> Board<P> {
 
     /// A board on which nothing happened yet.
     pub fn new(alloc: Global, plan: P, workers: u32) -> Result<Board<P>, NoMemory>
-        ensures made { IfOk result (λ b. b ≡ record { plan = plan; workers = workers; events = [] })
-            }
+        ensures made { IfOk result (λ b. b
+            ≡ record { plan = plan; workers = workers; events = [] }) }
         ensures free { IfOk result (λ b. (w : ℕ) → w < b.workers
             → out_at b.workers b.events w ≡ Some None) }
-        ensures history { IfOk result (λ b. IsHistory P.Id.eq (P.meaning b.plan) b.workers b.events)
-            }
+        ensures history { IfOk result (λ b. IsHistory P.Id.eq (P.meaning b.plan) b.workers
+            b.events) }
     {
         let jobs = plan.opening(alloc)?;
         let count = workers as usize;
@@ -84,8 +84,8 @@ impl<P: Plan> Board<P> {
     pub fn claim(&mut self, alloc: Global, worker: u32) -> Claim<P>
         requires known { worker < self.old.workers }
         requires free { out_at self.old.workers self.old.events worker ≡ Some None }
-        ensures answer { IsAnswer P.Id.eq (P.meaning self.old.plan) self.old worker result self.new
-            }
+        ensures answer { IsAnswer P.Id.eq (P.meaning self.old.plan) self.old worker result
+            self.new }
         ensures history { IsHistory P.Id.eq (P.meaning self.new.plan) self.new.workers
             self.new.events }
     {
@@ -234,7 +234,7 @@ impl<P: Plan> Board<P> {
         ensures ended { end_of P.Id.eq (P.meaning self.now.plan) self.now.workers self.now.events
             ≡ End.Ended
             → option_map (λ s. plain s.now) result
-                ≡ value_in P.Id.eq (limit P.Id.eq (P.meaning self.now.plan)) id.now }
+            ≡ value_in P.Id.eq (limit P.Id.eq (P.meaning self.now.plan)) id.now }
     {
         scan::value_of(self.values.as_slice(), id)
     }

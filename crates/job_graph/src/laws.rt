@@ -5,8 +5,8 @@ ghost use Rattle.job_graph.specs.declared.event.End.TheVariants.{Ended};
 ghost use Rattle.job_graph.specs.Laws.{IsLawful};
 ghost use Rattle.job_graph.specs.Solutions.{IsSolved};
 ghost use Rattle.job_graph.specs.Histories.{is_run, end_of, out_at, events_of};
-ghost use Rattle.job_graph.specs.Promises.{IsFirstOver, IsLimit, AddsNoneBelow, IsHistory,
-    IsComplete};
+ghost use Rattle.job_graph.specs.Promises.{IsFirstOver, IsLimit, AddsNoneBelow, IsHistory};
+ghost use Rattle.job_graph.specs.Promises.{IsComplete};
 
 use crate::event::Event;
 use crate::plan::{Plan, Solved};

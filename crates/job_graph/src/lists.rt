@@ -1,6 +1,7 @@
 // The lists of a board.
-ghost use Rattle.std.specs.Prelude.{◌≡◌, ◌+◌, ◌<◌, ◌≤◌, ◌^◌, ◌∷◌, [], ◌++◌, length, count_by, not,
-    vec_len, vec_capacity, replicate, None, IfOk, true, false, if◌then◌else◌};
+ghost use Rattle.std.specs.Prelude.{◌≡◌, ◌+◌, ◌<◌, ◌≤◌, ◌^◌, ◌∷◌, [], ◌++◌, length, count_by, not};
+ghost use Rattle.std.specs.Prelude.{vec_len, vec_capacity, replicate, None, IfOk, true, false};
+ghost use Rattle.std.specs.Prelude.{if◌then◌else◌};
 
 use refusal_codes::NoMemory;
 use std::alloc::Global;

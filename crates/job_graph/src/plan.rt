@@ -40,8 +40,8 @@ pub trait Plan: Drop {
     ) -> Result<Outcome<Self::Value, Self::Id>, NoMemory>
         requires due { IsDue Self.Id.eq (meaning self.now) id.now reads.now }
         requires done { IsTrue (all_done reads.now) }
-        ensures { IfOk result (λ o. plain_outcome o ≡ (meaning self.now).outcome id.now reads.now)
-            };
+        ensures { IfOk result (λ o. plain_outcome o
+            ≡ (meaning self.now).outcome id.now reads.now) };
 
     /// What a plan keeps.
     ghost lawful: { (plan : Self) → IsLawful Self.Id.eq (meaning plan) };

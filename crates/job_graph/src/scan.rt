@@ -1,11 +1,11 @@
 // Readiness, found by scanning lists.
-ghost use Rattle.std.specs.Prelude.{◌≡◌, ℕ, option_map, map, is_some, not, ◌&&◌, ◌||◌, nat_le,
-    length, count_by, IfOk, IsTrue, List, true, Some};
+ghost use Rattle.std.specs.Prelude.{◌≡◌, ℕ, option_map, map, is_some, not, ◌&&◌, ◌||◌, nat_le};
+ghost use Rattle.std.specs.Prelude.{length, count_by, IfOk, IsTrue, List, true, Some};
 ghost use Rattle.std.specs.List.{list_all, list_any, find};
 ghost use Rattle.access_context.specs.Plain.{plain};
 ghost use Rattle.access_context.specs.Read.{plain_item, read_of};
-ghost use Rattle.job_graph.specs.Rounds.{state_from, is_settled, is_done_up_to, awaits_nothing,
-    is_ready, item_of, has_id};
+ghost use Rattle.job_graph.specs.Rounds.{state_from, is_settled, is_done_up_to, awaits_nothing};
+ghost use Rattle.job_graph.specs.Rounds.{is_ready, item_of, has_id};
 ghost use Rattle.job_graph.specs.Histories.{is_claim_of, was_claimed, some_ready, is_claimable};
 ghost use Rattle.job_graph.specs.Scan.{next_of, IsNext};
 
@@ -173,8 +173,8 @@ pub fn next_job<'a, P: Plan>(
     events: &[Event<P::Id>],
 ) -> Option<&'a Spec<P::Id>>
     ensures { option_map (λ job. job.now) result
-        ≡ next_of P.Id.eq (P.meaning plan.now) (state_from jobs.now values.now) events.now jobs.now
-        }
+        ≡ next_of P.Id.eq (P.meaning plan.now) (state_from jobs.now values.now) events.now
+        jobs.now }
 {
     for job in jobs {
         if is_claimable(plan, jobs, values, events, job) {

@@ -35,13 +35,25 @@ header = record {
 }
 
 notdef : FlatGlyph
-notdef = record { number = 4294967295; place = 0; places = [] ∷ []; widths = pos 500
-    ∷ []; drawn = [] ∷ []; kept = []; anchors = [] }
+notdef = record {
+  number = 4294967295;
+  place = 0;
+  places = [] ∷ [];
+  widths = pos 500
+      ∷ [];
+  drawn = [] ∷ [];
+  kept = [];
+  anchors = [];
+}
 
 -- a corner at whole units
 corner : ℕ → ℕ → DrawnPoint
-corner x y = record { x = record { 0 = pos (65536 * x) }; y = record { 0 = pos (65536 * y) }; on
-    = true }
+corner x y = record {
+  x = record { 0 = pos (65536 * x) };
+  y = record { 0 = pos (65536 * y) };
+  on
+      = true;
+}
 
 triangle : FlatGlyph
 triangle = record {
@@ -65,9 +77,9 @@ measured = refl
 -- its table `head`
 head_bytes : head_table header measures ≡
     0 ∷ 1 ∷ 0 ∷ 0 ∷ 0 ∷ 1 ∷ 0 ∷ 0 ∷ 0 ∷ 0 ∷ 0 ∷ 0 ∷ 95 ∷ 15 ∷ 60 ∷ 245 ∷ 0 ∷ 3 ∷ 3 ∷ 232 ∷ 0 ∷ 0 ∷ 0
-        ∷ 0 ∷ 0 ∷ 0 ∷
+    ∷ 0 ∷ 0 ∷ 0 ∷
     0 ∷ 0 ∷ 0 ∷ 0 ∷ 0 ∷ 0 ∷ 0 ∷ 0 ∷ 0 ∷ 0 ∷ 0 ∷ 0 ∷ 0 ∷ 0 ∷ 1 ∷ 244 ∷ 2 ∷ 188 ∷ 0 ∷ 0 ∷ 0 ∷ 6 ∷ 0
-        ∷ 2 ∷ 0 ∷ 1 ∷ 0 ∷
+    ∷ 2 ∷ 0 ∷ 1 ∷ 0 ∷
     0 ∷ []
 unfolding head_table measures header notdef triangle corner
 head_bytes = refl
@@ -75,7 +87,7 @@ head_bytes = refl
 -- its table `hhea`
 hhea_bytes : hhea_table header measures ≡
     0 ∷ 1 ∷ 0 ∷ 0 ∷ 3 ∷ 32 ∷ 255 ∷ 56 ∷ 0 ∷ 0 ∷ 1 ∷ 244 ∷ 0 ∷ 0 ∷ 0 ∷ 0 ∷ 1 ∷ 244 ∷ 0 ∷ 1 ∷ 0 ∷ 0
-        ∷ 0 ∷ 0 ∷ 0 ∷ 0 ∷
+    ∷ 0 ∷ 0 ∷ 0 ∷ 0 ∷
     0 ∷ 0 ∷ 0 ∷ 0 ∷ 0 ∷ 0 ∷ 0 ∷ 0 ∷ 0 ∷ 2 ∷ []
 unfolding hhea_table measures header notdef triangle corner
 hhea_bytes = refl
@@ -83,7 +95,7 @@ hhea_bytes = refl
 -- its table `maxp`
 maxp_bytes : maxp_table measures ≡
     0 ∷ 1 ∷ 0 ∷ 0 ∷ 0 ∷ 2 ∷ 0 ∷ 3 ∷ 0 ∷ 1 ∷ 0 ∷ 0 ∷ 0 ∷ 0 ∷ 0 ∷ 2 ∷ 0 ∷ 0 ∷ 0 ∷ 0 ∷ 0 ∷ 0 ∷ 0 ∷ 0
-        ∷ 0 ∷ 0 ∷ 0 ∷ 0 ∷
+    ∷ 0 ∷ 0 ∷ 0 ∷ 0 ∷
     0 ∷ 0 ∷ 0 ∷ 0 ∷ []
 unfolding maxp_table measures header notdef triangle corner
 maxp_bytes = refl

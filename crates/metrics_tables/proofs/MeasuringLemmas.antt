@@ -1,6 +1,6 @@
 -- The glyphs that are measured, behind their references.
-use Rattle.std.proofs.Common.{◌≡◌, ℕ, ◌<◌, List, [], length, map, get_or, unsigned_abs, sym, ap,
-    ◌∙◌, subst, arith}
+use Rattle.std.proofs.Common.{◌≡◌, ℕ, ◌<◌, List, [], length, map, get_or, unsigned_abs, sym, ap}
+use Rattle.std.proofs.Common.{◌∙◌, subst, arith}
 use Rattle.std.proofs.Math.ListN.{get_or-map}
 use Rattle.std.proofs.lemmas.List.{length-map}
 use Rattle.std.proofs.lemmas.Simd.{map-map}
@@ -32,12 +32,17 @@ pub measurable : (header : Header) (glyphs : List (Arc FlatGlyph Global))
     → All (λ glyph. IsMeasurable header.origin glyph.value) glyphs
 measurable header glyphs flat places origin = λ k d h.
     let there : k < length (glyphs_of glyphs)
-        = omega (arith, length-map glyphs (λ (glyph : Arc FlatGlyph Global). glyph.value), h) in
+    = omega (arith, length-map glyphs (λ (glyph : Arc FlatGlyph Global). glyph.value), h) in
     let located = subst (HasMastersPlaces header) (glyph_at glyphs k d) (places k d.value there) in
     record {
       flat = subst IsFlatGlyph (glyph_at glyphs k d) (flat k d.value there);
-      there = omega (arith, origin, ap length located, length-map header.masters
-          (λ master. master.location));
+      there = omega (
+        arith,
+        origin,
+        ap length located,
+        length-map header.masters
+            (λ master. master.location),
+      );
     }
 
 -- measures are those of the glyphs where each of their fields is
@@ -63,6 +68,13 @@ measures_are header glyphs measures advances bounds regions rows maxima =
     let r = rows ∙ each (λ g. []) glyphs in
     let points = ap greatest_count (each (λ g. length (points_at place g)) glyphs) in
     let contours = ap greatest_count (each (λ g. length (contours_at place g)) glyphs) in
-    let m = maxima ∙ (λ i. record { points = points i; contours = contours i; composite_points
-        = 0; composite_contours = 0; components = 0; depth = 0 }) in
+    let m = maxima ∙ (λ i. record {
+      points = points i;
+      contours = contours i;
+      composite_points
+          = 0;
+      composite_contours = 0;
+      components = 0;
+      depth = 0;
+    }) in
     λ i. record { advances = a i; bounds = b i; regions = regions i; rows = r i; maxima = m i }

@@ -1,6 +1,6 @@
 -- What is measured of the glyphs of a font, in the order of their glyph numbers.
-use Rattle.std.specs.Prelude.{◌≡◌, ℕ, ◌<◌, ℤ, pos, unsigned_abs, List, [], length, map,
-    slice_index_or, Result, Ok, Err}
+use Rattle.std.specs.Prelude.{◌≡◌, ℕ, ◌<◌, ℤ, pos, unsigned_abs, List, [], length, map}
+use Rattle.std.specs.Prelude.{slice_index_or, Result, Ok, Err}
 use Rattle.std.specs.List.{All}
 use Rattle.font_ir.specs.FlatGlyphs.{IsFlatGlyph}
 use Rattle.font_ir.specs.Outlines.{contours_at, points_at, bounds_of}
@@ -9,8 +9,8 @@ use Rattle.font_ir.specs.declared.glyph.FlatGlyph.{FlatGlyph}
 use Rattle.metrics_tables.specs.declared.measures.Measures.{Measures}
 use Rattle.metrics_tables.specs.declared.measures.Maxima.{Maxima}
 use Rattle.metrics_tables.specs.declared.measures.MeasureError.{MeasureError}
-use Rattle.metrics_tables.specs.declared.measures.MeasureError.TheVariants.{TooLarge, Regions,
-    NoMemory}
+use Rattle.metrics_tables.specs.declared.measures.MeasureError.TheVariants.{TooLarge, Regions}
+use Rattle.metrics_tables.specs.declared.measures.MeasureError.TheVariants.{NoMemory}
 use Rattle.metrics_tables.specs.Comparisons.{greatest_count}
 
 -- One master, no axes, no kept components: the fonts that are measured today. They have no regions

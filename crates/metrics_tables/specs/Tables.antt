@@ -1,7 +1,7 @@
 -- The tables `head`, `hhea`, `maxp` and `hmtx` as bytes, field by field (OpenType 1.9, the chapters
 -- of these names).
-use Rattle.std.specs.Prelude.{◌≡◌, ℕ, ◌+◌, ◌*◌, ◌/◌, ◌≤◌, ℤ, pos, ◌-ℤ◌, List, [], ◌∷◌, ◌++◌,
-    length, map, slice_index_or, slice_get, Option, None, Some}
+use Rattle.std.specs.Prelude.{◌≡◌, ℕ, ◌+◌, ◌*◌, ◌/◌, ◌≤◌, ℤ, pos, ◌-ℤ◌, List, [], ◌∷◌, ◌++◌, length}
+use Rattle.std.specs.Prelude.{map, slice_index_or, slice_get, Option, None, Some}
 use Rattle.std.specs.Int.{w16, saturate_signed}
 use Rattle.std.specs.Option.{option_map_or}
 use Rattle.table_bytes.specs.DataTypes.{uint16, uint32, int16, long_date_time}
@@ -56,9 +56,9 @@ head_table header measures =
     version_1 ++ uint32 (font_revision header) ++ uint32 checksum_adjustment ++ uint32 magic_number
     ++ uint16 flags ++ uint16 header.upem ++ long_date_time created ++ long_date_time modified
     ++ int16 (least (side 0 (boxes_of measures.bounds)))
-        ++ int16 (least (side 1 (boxes_of measures.bounds)))
+    ++ int16 (least (side 1 (boxes_of measures.bounds)))
     ++ int16 (greatest (side 2 (boxes_of measures.bounds)))
-        ++ int16 (greatest (side 3 (boxes_of measures.bounds)))
+    ++ int16 (greatest (side 3 (boxes_of measures.bounds)))
     ++ uint16 mac_style ++ uint16 lowest_rec_ppem ++ int16 font_direction_hint
     ++ int16 index_to_loc_format ++ int16 glyph_data_format
 
@@ -87,7 +87,7 @@ hhea_table header measures =
     let number_of_h_metrics : ℕ = length measures.advances in
     version_1 ++ int16 ascender ++ int16 descender ++ int16 line_gap ++ uint16 advance_width_max
     ++ int16 (cut min_left_side_bearing) ++ int16 (cut min_right_side_bearing)
-        ++ int16 (cut x_max_extent)
+    ++ int16 (cut x_max_extent)
     ++ int16 caret_slope_rise ++ int16 caret_slope_run ++ int16 caret_offset
     ++ int16 reserved ++ int16 reserved ++ int16 reserved ++ int16 reserved
     ++ int16 metric_data_format ++ uint16 number_of_h_metrics
@@ -103,10 +103,10 @@ maxp_table measures =
     let max_stack_elements : ℕ = 0 in
     let max_size_of_instructions : ℕ = 0 in
     version_1 ++ uint16 num_glyphs ++ uint16 measures.maxima.points
-        ++ uint16 measures.maxima.contours
+    ++ uint16 measures.maxima.contours
     ++ uint16 measures.maxima.composite_points ++ uint16 measures.maxima.composite_contours
     ++ uint16 max_zones ++ uint16 max_twilight_points ++ uint16 max_storage
-        ++ uint16 max_function_defs
+    ++ uint16 max_function_defs
     ++ uint16 max_instruction_defs ++ uint16 max_stack_elements ++ uint16 max_size_of_instructions
     ++ uint16 measures.maxima.components ++ uint16 measures.maxima.depth
 

@@ -2,8 +2,8 @@ ghost use Rattle.std.specs.Prelude.{◌≡◌, ◌<◌, ℕ, [], length, map, un
 ghost use Rattle.std.specs.List.{All};
 ghost use Rattle.metrics_tables.specs.Comparisons.{greatest_count};
 ghost use Rattle.font_ir.specs.FlatGlyphs.{glyphs_of};
-ghost use Rattle.metrics_tables.specs.Measuring.{measures_of, maxima_of, width_at, IsStatic,
-    IsMeasurable, HasMastersPlaces, Measured};
+ghost use Rattle.metrics_tables.specs.Measuring.{measures_of, maxima_of, width_at, IsStatic};
+ghost use Rattle.metrics_tables.specs.Measuring.{IsMeasurable, HasMastersPlaces, Measured};
 ghost use Rattle.font_ir.specs.Outlines.{contours_at, points_at, bounds_of};
 ghost use Rattle.metrics_tables.specs.Tables.{AreMeasures};
 ghost use Rattle.font_ir.specs.FlatGlyphs.{IsFlatGlyph};

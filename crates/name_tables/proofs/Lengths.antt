@@ -1,27 +1,6 @@
 -- How long the texts of a font's names are, and how many names there are.
-use Rattle.std.proofs.Common.{
-  ◌≡◌,
-  ℕ,
-  ◌+◌,
-  ◌/◌,
-  ◌<◌,
-  ◌≤◌,
-  ◌∙◌,
-  List,
-  [],
-  ◌∷◌,
-  ◌++◌,
-  length,
-  map,
-  get_or,
-  codes,
-  ap,
-  refl,
-  sym,
-  arith,
-  length-append,
-  length-take,
-}
+use Rattle.std.proofs.Common.{◌≡◌, ℕ, ◌+◌, ◌/◌, ◌<◌, ◌≤◌, ◌∙◌, List, [], ◌∷◌, ◌++◌, length, map}
+use Rattle.std.proofs.Common.{get_or, codes, ap, refl, sym, arith, length-append, length-take}
 use Rattle.std.proofs.lemmas.List.{length-map}
 use Rattle.std.proofs.lemmas.Fmt.{length-decimal-le}
 use Rattle.std.proofs.lemmas.List.Elements.{All-get_or}
@@ -34,18 +13,9 @@ use Rattle.font_ir.specs.Headers.{IsHeader, IsNameLong}
 use Rattle.name_tables.specs.declared.store.NameStore.{NameStore}
 use Rattle.name_tables.specs.Names.{name_head, name_records, name_table}
 use Rattle.name_tables.specs.Stores.{Holds}
-use Rattle.name_tables.specs.Texts.{
-  axis_names,
-  font_names,
-  instance_names,
-  is_postscript,
-  last_digit,
-  names_of,
-  numbered,
-  postscript_family,
-  postscript_text,
-  version_text,
-}
+use Rattle.name_tables.specs.Texts.{axis_names, font_names, instance_names, is_postscript}
+use Rattle.name_tables.specs.Texts.{last_digit, names_of, numbered, postscript_family}
+use Rattle.name_tables.specs.Texts.{postscript_text, version_text}
 
 pub version_long : (header : Header) → IsHeader header → length (version_text header) ≤ 9
 unfolding version_text

@@ -1,36 +1,14 @@
 -- The pairs of an axis: what is made of them where they rise, and how many they are.
-use Rattle.std.proofs.Common.{
-  ◌≡◌,
-  ℕ,
-  suc,
-  ◌+◌,
-  ◌≤◌,
-  List,
-  [],
-  ◌∷◌,
-  length,
-  Option,
-  Some,
-  None,
-  Ok,
-  ap,
-  arith,
-}
+use Rattle.std.proofs.Common.{◌≡◌, ℕ, suc, ◌+◌, ◌≤◌, List, [], ◌∷◌, length, Option, Some, None, Ok}
+use Rattle.std.proofs.Common.{ap, arith}
 use Rattle.std.proofs.lemmas.List.{length-map}
 use Rattle.std.specs.declared.cmp.Ordering.{Ordering}
 use Rattle.std.specs.declared.cmp.Ordering.TheVariants.{Less, Equal, Greater}
 use Rattle.fixed_math.specs.declared.F2Dot14.{F2Dot14}
 use Rattle.font_ir.specs.declared.header.Master.{Master}
 use Rattle.font_ir.specs.AxisMaps.{Pair, pairs_of}
-use Rattle.axis_space.specs.AxisPairs.{
-  avar_pairs,
-  first_fall,
-  in_order,
-  judged_by,
-  pair_cmp,
-  placed_by,
-  with_pair,
-}
+use Rattle.axis_space.specs.AxisPairs.{avar_pairs, first_fall, in_order, judged_by, pair_cmp}
+use Rattle.axis_space.specs.AxisPairs.{placed_by, with_pair}
 
 made_of : (fall : Option F2Dot14) (all pairs : List Pair) → judged_by fall all ≡ Ok pairs
     → pairs ≡ all

@@ -9,14 +9,8 @@ use Rattle.font_ir.specs.AxisMaps.{pairs_of}
 use Rattle.axis_space.specs.AxisPairs.{avar_pairs}
 use Rattle.axis_space.specs.Points.{user_at}
 use Rattle.name_tables.specs.Avar.{avar_head, avar_table, axis_value_map, segment_map}
-use Rattle.name_tables.specs.Fvar.{
-  array_sizes,
-  axis_record,
-  scale_fields,
-  fvar_head,
-  fvar_table,
-  instance_record,
-}
+use Rattle.name_tables.specs.Fvar.{array_sizes, axis_record, scale_fields, fvar_head, fvar_table}
+use Rattle.name_tables.specs.Fvar.{instance_record}
 
 -- a master at a design and a user coordinate, by their raw numbers
 abbrev master : ℤ → ℤ → Master

@@ -1,19 +1,6 @@
 -- What names add to the records and to the texts that stand already.
-use Rattle.std.specs.Prelude.{
-  ◌≡◌,
-  ℕ,
-  ◌+◌,
-  ◌*◌,
-  ◌≤◌,
-  ◌&&◌,
-  nat_lt,
-  if◌then◌else◌,
-  List,
-  [],
-  ◌∷◌,
-  ◌++◌,
-  length,
-}
+use Rattle.std.specs.Prelude.{◌≡◌, ℕ, ◌+◌, ◌*◌, ◌≤◌, ◌&&◌, nat_lt, if◌then◌else◌, List, [], ◌∷◌}
+use Rattle.std.specs.Prelude.{◌++◌, length}
 use Rattle.name_tables.specs.declared.store.NameStore.{NameStore}
 use Rattle.name_tables.specs.Texts.{NamedText, is_postscript}
 use Rattle.name_tables.specs.Names.{name_records, string_data}

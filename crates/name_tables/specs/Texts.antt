@@ -1,24 +1,7 @@
 -- The texts of a font's names. What each one says is fontc's own; the numbers that they go by are
 -- those of OpenType 1.9, "name".
-use Rattle.std.specs.Prelude.{
-  ℕ,
-  ◌+◌,
-  ◌/◌,
-  ◌%◌,
-  Bool,
-  ◌&&◌,
-  not,
-  nat_le,
-  nat_eq,
-  List,
-  [],
-  ◌∷◌,
-  ◌++◌,
-  map,
-  codes,
-  take,
-  filter,
-}
+use Rattle.std.specs.Prelude.{ℕ, ◌+◌, ◌/◌, ◌%◌, Bool, ◌&&◌, not, nat_le, nat_eq, List, [], ◌∷◌}
+use Rattle.std.specs.Prelude.{◌++◌, map, codes, take, filter}
 use Rattle.std.specs.List.{list_any, flat_map}
 use Rattle.std.specs.Str.{chars}
 use Rattle.std.specs.Char.Escape.{encode_utf16}

@@ -1,12 +1,7 @@
 ghost use Rattle.std.specs.Prelude.{◌≡◌, ◌<◌, ◌≤◌, ◌++◌, length, IfOk, OnOk};
 ghost use Rattle.font_ir.specs.Headers.{IsHeader};
-ghost use Rattle.name_tables.specs.Fvar.{
-  array_sizes,
-  axis_record,
-  axis_records,
-  fvar_head,
-  fvar_table,
-};
+ghost use Rattle.name_tables.specs.Fvar.{array_sizes, axis_record, axis_records, fvar_head};
+ghost use Rattle.name_tables.specs.Fvar.{fvar_table};
 
 use crate::instances::push_instances;
 use crate::scales::push_scale;

@@ -3,14 +3,8 @@ ghost use Rattle.std.specs.List.{flat_map};
 ghost use Rattle.font_ir.specs.AxisMaps.{IsRisingList, pairs_of};
 ghost use Rattle.font_ir.specs.Coordinates.{HasAxis};
 ghost use Rattle.font_ir.specs.Headers.{IsHeader, HasMap};
-ghost use Rattle.name_tables.specs.Avar.{
-  avar_head,
-  avar_table,
-  axis_value_map,
-  pairs_on,
-  segment_map,
-  segment_maps,
-};
+ghost use Rattle.name_tables.specs.Avar.{avar_head, avar_table, axis_value_map, pairs_on};
+ghost use Rattle.name_tables.specs.Avar.{segment_map, segment_maps};
 
 use axis_space::{MapError, avar_map};
 use fixed_math::F2Dot14;

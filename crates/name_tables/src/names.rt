@@ -3,17 +3,9 @@ ghost use Rattle.std.specs.String.{string_bytes};
 ghost use Rattle.font_ir.specs.Headers.{IsHeader};
 ghost use Rattle.name_tables.specs.Names.{name_head, name_table};
 ghost use Rattle.name_tables.specs.Stores.{Adds, Holds, text_room};
-ghost use Rattle.name_tables.specs.Texts.{
-  axis_names,
-  font_names,
-  instance_names,
-  names_of
-      as all_names,
-  postscript_text,
-  style_names,
-  version_names,
-  version_text,
-};
+ghost use Rattle.name_tables.specs.Texts.{axis_names, font_names, instance_names};
+ghost use Rattle.name_tables.specs.Texts.{names_of as all_names, postscript_text};
+ghost use Rattle.name_tables.specs.Texts.{style_names, version_names, version_text};
 
 use crate::axes::FIRST_AXIS_NAME;
 use crate::store::NameStore;

@@ -1,11 +1,7 @@
 ghost use Rattle.std.specs.Prelude.{◌≡◌, ◌∷◌, [], ◌++◌, ◌+◌, ◌<◌, IfOk, OnOk};
 ghost use Rattle.std.specs.String.{string_bytes};
-ghost use Rattle.name_tables.specs.Texts.{
-  is_postscript as is_postscript_byte,
-  postscript_family,
-  postscript_text,
-  version_text,
-};
+ghost use Rattle.name_tables.specs.Texts.{is_postscript as is_postscript_byte, postscript_family};
+ghost use Rattle.name_tables.specs.Texts.{postscript_text, version_text};
 ghost use Rattle.name_tables.specs.Stores.{with_postscript};
 
 use font_ir::Header;

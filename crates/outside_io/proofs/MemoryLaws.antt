@@ -1,10 +1,10 @@
 -- A begin and an append of files in memory, as a change of what each path holds.
-use Rattle.std.proofs.Common.{◌≡◌, ◌≢◌, ◌⊎◌, ℕ, List, [], ◌++◌, take, Option, Some, None, Result,
-    Ok, Err, OnOk, OnErr, IfOk, is_ok, is_some, if◌then◌else◌, unwrap_or, refl, sym, ap, subst, ◌∙◌,
-    inl, inr}
+use Rattle.std.proofs.Common.{◌≡◌, ◌≢◌, ◌⊎◌, ℕ, List, [], ◌++◌, take, Option, Some, None, Result}
+use Rattle.std.proofs.Common.{Ok, Err, OnOk, OnErr, IfOk, is_ok, is_some, if◌then◌else◌, unwrap_or}
+use Rattle.std.proofs.Common.{refl, sym, ap, subst, ◌∙◌, inl, inr}
 use Rattle.outside_io.specs.Files.{Holding, Bytes, Leaves, LeavesOthers, replaced_by, followed_by}
-use Rattle.outside_io.specs.Memory.{Memory, bytes_at, with_bytes, holding_of, begun, appended,
-    write_failed}
+use Rattle.outside_io.specs.Memory.{Memory, bytes_at, with_bytes, holding_of, begun, appended}
+use Rattle.outside_io.specs.Memory.{write_failed}
 use Rattle.outside_io.proofs.Paths.{bytes_at-with_bytes, bytes_at-with_bytes_other}
 
 -- what each path of a memory holds
@@ -22,7 +22,7 @@ module _ (old new : Memory) (path bytes : List ℕ)
   pub changed-others : LeavesOthers path (holds old) (holds new)
   changed-others other ne =
       inr (ap (λ paths. holding_of (bytes_at paths other)) change
-          ∙ ap holding_of (bytes_at-with_bytes_other old.paths path bytes other ne))
+      ∙ ap holding_of (bytes_at-with_bytes_other old.paths path bytes other ne))
 
 replaced : (o : Option (List ℕ)) (bytes : List ℕ) → replaced_by bytes (holding_of o) ≡ Bytes bytes
 replaced None bytes = refl
@@ -47,7 +47,7 @@ pub appended-path : (m : Memory) (path bytes : List ℕ)
     → Leaves (followed_by bytes (holds m path)) (holds (appended m path bytes) path)
 appended-path m path bytes =
     inr (changed-path m (appended m path bytes) path (unwrap_or (bytes_at m.paths path) [] ++ bytes)
-        refl
+    refl
     ∙ sym (followed (bytes_at m.paths path) bytes))
 
 pub appended-others : (m : Memory) (path bytes : List ℕ)

@@ -1,7 +1,7 @@
 -- Paths and their bytes: where a path stands, and what a change of one path does to each.
-use Rattle.std.proofs.Common.{◌≡◌, ◌≢◌, ℕ, ◌+◌, ◌<◌, ◌≤◌, Bool, true, false, cond, List, [], ◌∷◌,
-    ◌++◌, length, get_or, Option, Some, None, IfSome, is_some, refl, sym, ap, subst, ◌∙◌, suc,
-    arith}
+use Rattle.std.proofs.Common.{◌≡◌, ◌≢◌, ℕ, ◌+◌, ◌<◌, ◌≤◌, Bool, true, false, cond, List, [], ◌∷◌}
+use Rattle.std.proofs.Common.{◌++◌, length, get_or, Option, Some, None, IfSome, is_some, refl, sym}
+use Rattle.std.proofs.Common.{ap, subst, ◌∙◌, suc, arith}
 use Rattle.std.specs.List.{position_from}
 use Rattle.std.specs.Str.{bytes_eq}
 use Rattle.std.proofs.Math.ListN.{set}

@@ -1,6 +1,6 @@
 -- What a count says that rises at each failed call.
-use Rattle.std.proofs.Common.{◌≡◌, ℕ, ◌≤◌, List, Result, Ok, Err, OnOk, OnErr, is_ok, inl, inr,
-    arith}
+use Rattle.std.proofs.Common.{◌≡◌, ℕ, ◌≤◌, List, Result, Ok, Err, OnOk, OnErr, is_ok, inl, inr}
+use Rattle.std.proofs.Common.{arith}
 use Rattle.outside_io.specs.Counts.{HasRisen}
 use Rattle.outside_io.specs.Real.{after_call}
 

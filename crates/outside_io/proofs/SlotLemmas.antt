@@ -1,12 +1,13 @@
 -- Places of MemFiles as paths: what a change of one place does to the paths.
-use Rattle.std.proofs.Common.{◌≡◌, ℕ, ◌+◌, ◌<◌, ◌≤◌, Bool, cond, List, [], ◌∷◌, ◌++◌, length,
-    get_or, take, map, Option, Some, None, refl, sym, ap, ◌∙◌, zero-add, arith}
+use Rattle.std.proofs.Common.{◌≡◌, ℕ, ◌+◌, ◌<◌, ◌≤◌, Bool, cond, List, [], ◌∷◌, ◌++◌, length}
+use Rattle.std.proofs.Common.{get_or, take, map, Option, Some, None, refl, sym, ap, ◌∙◌, zero-add}
+use Rattle.std.proofs.Common.{arith}
 use Rattle.std.specs.List.{position_from}
 use Rattle.std.specs.Str.{bytes_eq}
 use Rattle.std.proofs.Math.ListN.{set, get_or-map}
 use Rattle.std.proofs.Math.Seq.{take-set-lt}
-use Rattle.std.proofs.lemmas.List.{map-set, map-append, take_more_set, get_or-take, length-map,
-    length-take, length-take-le}
+use Rattle.std.proofs.lemmas.List.{map-set, map-append, take_more_set, get_or-take, length-map}
+use Rattle.std.proofs.lemmas.List.{length-take, length-take-le}
 use Rattle.outside_io.specs.Memory.{Memory, number_of, bytes_at, with_bytes}
 use Rattle.outside_io.proofs.Paths.{stands_from_number, new_from_number}
 use Rattle.outside_io.specs.Slots.{shown}
@@ -48,8 +49,13 @@ module _ (slots : List Slot) (used : ℕ) (path : List ℕ) (paths : List (List 
   pub number-used : (i : ℕ) → number_of paths path ≡ Some i → i < used
   number-used i n =
       let at = stands_from_number paths path i n in
-      omega (arith, at.within, sym (ap length shows)
-          ∙ length-map (take used slots) shown, length-take used slots)
+      omega (
+        arith,
+        at.within,
+        sym (ap length shows)
+            ∙ length-map (take used slots) shown,
+        length-take used slots,
+      )
 
   -- it shows the path
   pub shown-at : (i : ℕ) (slot : Slot) → number_of paths path ≡ Some i → slot ≡ get_or slots i slot
@@ -74,7 +80,7 @@ module _ (slots : List Slot) (used : ℕ) (path : List ℕ) (paths : List (List 
       shown-set slots used i new (number-used i n)
       ∙ ap (λ ps. set ps i (shown new)) shows
       ∙ ap (λ name. set paths i (name, new.bytes.items))
-          (same_name ∙ sym (ap (λ (e : List ℕ × List ℕ). e.0) (shown-at i slot n here)))
+      (same_name ∙ sym (ap (λ (e : List ℕ × List ℕ). e.0) (shown-at i slot n here)))
       ∙ sym ((stands_from_number paths path i n).in_place (shown slot) new.bytes.items)
 
   -- a new path has the bytes of the next place

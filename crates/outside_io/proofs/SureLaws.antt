@@ -1,7 +1,7 @@
 -- What calls that never fail say of files that tell what they hold until one is written.
-use Rattle.std.proofs.Common.{◌≡◌, ℕ, ◌-◌, ◌<◌, ◌≤◌, min, Bool, true, false, List, ◌++◌, length,
-    take, drop, Result, Ok, Err, IsOk, OnOk, OnErr, IfOk, refl, sym, ap, subst, ◌∙◌, cond, arith,
-    inl}
+use Rattle.std.proofs.Common.{◌≡◌, ℕ, ◌-◌, ◌<◌, ◌≤◌, min, Bool, true, false, List, ◌++◌, length}
+use Rattle.std.proofs.Common.{take, drop, Result, Ok, Err, IsOk, OnOk, OnErr, IfOk, refl, sym, ap}
+use Rattle.std.proofs.Common.{subst, ◌∙◌, cond, arith, inl}
 use Rattle.std.proofs.lemmas.Grind.{common_steps}
 use Rattle.outside_io.specs.Files.{Holding, Untold, Bytes, Leaves, GivesBytes, EndsBy}
 use Rattle.outside_io.specs.Sure.{Sure, sure_holding}

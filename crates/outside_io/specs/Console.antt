@@ -1,6 +1,6 @@
 -- What a console took, as far as an object tells it. fontc's own.
-use Rattle.std.specs.Prelude.{◌≡◌, ◌⊎◌, ℕ, ◌-◌, ◌≤◌, min, Bool, ◌||◌, ◌==◌, if◌then◌else◌, List, [],
-    ◌++◌, length, Option, Some, None}
+use Rattle.std.specs.Prelude.{◌≡◌, ◌⊎◌, ℕ, ◌-◌, ◌≤◌, min, Bool, ◌||◌, ◌==◌, if◌then◌else◌, List, []}
+use Rattle.std.specs.Prelude.{◌++◌, length, Option, Some, None}
 use Rattle.std.specs.Option.{option_map}
 use Rattle.outside_io.specs.Counts.{last_count, raised}
 use Rattle.outside_io.specs.Memory.{is_next}
@@ -38,8 +38,12 @@ write_count m count = if is_next m.listed m.calls
 
 -- after a write that took these bytes
 abbrev pub written : ConsoleMemory → List ℕ → ConsoleMemory
-written m bytes = record m { taken = m.taken
-    ++ bytes; room = m.room - length bytes; calls = raised m.calls }
+written m bytes = record m {
+  taken = m.taken
+      ++ bytes;
+  room = m.room - length bytes;
+  calls = raised m.calls;
+}
 
 -- after a failed write
 abbrev pub write_failed : ConsoleMemory → ConsoleMemory

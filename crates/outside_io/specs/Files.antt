@@ -1,6 +1,6 @@
 -- What paths hold, as far as an object tells it, and how calls change it. fontc's own.
-use Rattle.std.specs.Prelude.{◌≡◌, ◌≢◌, ◌⊎◌, ℕ, ◌-◌, ◌≤◌, List, [], ◌++◌, length, take, drop,
-    Option, Some, None, IfSome}
+use Rattle.std.specs.Prelude.{◌≡◌, ◌≢◌, ◌⊎◌, ℕ, ◌-◌, ◌≤◌, List, [], ◌++◌, length, take, drop}
+use Rattle.std.specs.Prelude.{Option, Some, None, IfSome}
 
 -- what a path holds: the object doesn't tell it, or there is no such path, or it holds these bytes
 pub data Holding : Type 0 where
@@ -44,7 +44,7 @@ LeavesAll old new = (path : List ℕ) → new path ≡ old path
 abbrev pub GivesBytes : Holding → ℕ → ℕ → List ℕ → Type 0
 GivesBytes holding place n buffer =
     IfSome (told_bytes holding) (λ bytes. (n ≤ length bytes - place)
-        × (take n buffer ≡ take n (drop place bytes)))
+    × (take n buffer ≡ take n (drop place bytes)))
 
 -- the path has no byte from a place on, where the object tells the path
 abbrev pub EndsBy : Holding → ℕ → Type 0

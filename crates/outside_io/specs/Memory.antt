@@ -1,7 +1,7 @@
 -- What MemFiles holds, and how its calls go. fontc's own.
-use Rattle.std.specs.Prelude.{◌≡◌, ℕ, ◌+◌, ◌-◌, ◌≤◌, min, Bool, true, false, not, ◌&&◌, ◌||◌, ◌==◌,
-    nat_lt, nat_le, if◌then◌else◌, List, [], ◌∷◌, ◌++◌, length, Option, Some, None, is_some,
-    unwrap_or}
+use Rattle.std.specs.Prelude.{◌≡◌, ℕ, ◌+◌, ◌-◌, ◌≤◌, min, Bool, true, false, not, ◌&&◌, ◌||◌, ◌==◌}
+use Rattle.std.specs.Prelude.{nat_lt, nat_le, if◌then◌else◌, List, [], ◌∷◌, ◌++◌, length, Option}
+use Rattle.std.specs.Prelude.{Some, None, is_some, unwrap_or}
 use Rattle.std.specs.List.{list_any, position_from}
 use Rattle.std.specs.Str.{bytes_eq}
 use Rattle.outside_io.specs.Counts.{last_count, raised}
@@ -49,7 +49,7 @@ abbrev pub with_bytes : List (List ℕ × List ℕ) → List ℕ → List ℕ �
 with_bytes [] path bytes = (path, bytes) ∷ []
 with_bytes (entry ∷ entries) path bytes =
     if bytes_eq entry.0 path then (entry.0, bytes) ∷ entries else entry
-        ∷ with_bytes entries path bytes
+    ∷ with_bytes entries path bytes
 
 -- a path that isn't there holds nothing
 abbrev pub holding_of : Option (List ℕ) → Holding
@@ -73,7 +73,7 @@ empty_memory most_paths room = record {
 abbrev pub has_place : Memory → List ℕ → Bool
 has_place m path =
     is_some (bytes_at m.paths path) || (nat_lt (length m.paths) m.most_paths
-        && nat_le (length path) longest_name)
+    && nat_le (length path) longest_name)
 
 -- whether the next call, after so many, is one of those that are to fail
 abbrev pub is_next : List ℕ → ℕ → Bool

@@ -1,10 +1,10 @@
-ghost use Rattle.std.specs.Prelude.{◌≡◌, ◌⊎◌, ℕ, ◌≤◌, ◌<◌, List, [], length, take, Option, None,
-    IfOk, OnOk, OnErr};
-ghost use Rattle.outside_io.specs.Calls.{Call, ReadCall, BeginCall, AppendCall, followed_by_call,
-    taken_by};
+ghost use Rattle.std.specs.Prelude.{◌≡◌, ◌⊎◌, ℕ, ◌≤◌, ◌<◌, List, [], length, take, Option, None};
+ghost use Rattle.std.specs.Prelude.{IfOk, OnOk, OnErr};
+ghost use Rattle.outside_io.specs.Calls.{Call, ReadCall, BeginCall, AppendCall, followed_by_call};
+ghost use Rattle.outside_io.specs.Calls.{taken_by};
 ghost use Rattle.outside_io.specs.Counts.{HasRisen, NoneFalls, NoneRises};
-ghost use Rattle.outside_io.specs.Files.{Holding, Leaves, LeavesOthers, LeavesAll, GivesBytes,
-    EndsBy, replaced_by, followed_by};
+ghost use Rattle.outside_io.specs.Files.{Holding, Leaves, LeavesOthers, LeavesAll, GivesBytes};
+ghost use Rattle.outside_io.specs.Files.{EndsBy, replaced_by, followed_by};
 
 /// The outside failed a call. The object's count of failed calls of that kind has risen.
 #[derive(Clone, Copy, Debug, PartialEq, Eq)]

@@ -1,14 +1,16 @@
-ghost use Rattle.std.specs.Prelude.{◌≡◌, ◌⊎◌, ℕ, ◌+◌, ◌-◌, ◌<◌, ◌≤◌, min, List, [], ◌∷◌, ◌++◌,
-    length, take, drop, Some, unwrap_or, is_some, IfSome, IfOk, OnOk, OnErr, IsTrue, is_ok, nat_lt,
-    if◌then◌else◌, vec_len, vec_capacity};
+ghost use Rattle.std.specs.Prelude.{◌≡◌, ◌⊎◌, ℕ, ◌+◌, ◌-◌, ◌<◌, ◌≤◌, min, List, [], ◌∷◌, ◌++◌};
+ghost use Rattle.std.specs.Prelude.{length, take, drop, Some, unwrap_or, is_some, IfSome, IfOk};
+ghost use Rattle.std.specs.Prelude.{OnOk, OnErr, IsTrue, is_ok, nat_lt, if◌then◌else◌, vec_len};
+ghost use Rattle.std.specs.Prelude.{vec_capacity};
 ghost use Rattle.std.specs.Result.{result_ok};
 ghost use Rattle.std.specs.Option.{option_copied};
 ghost use Rattle.std.specs.List.{position_from};
 ghost use Rattle.std.specs.Str.{bytes_eq};
 ghost use Rattle.outside_io.specs.Slots.{HasRoom};
-ghost use Rattle.outside_io.specs.Memory.{IsSound, number_of, bytes_at, with_bytes, holding_of,
-    empty_memory, has_place, is_listed, read_count, begins, append_count, counted, read_failed,
-    write_failed, begun, appended};
+ghost use Rattle.outside_io.specs.Memory.{IsSound, number_of, bytes_at, with_bytes, holding_of};
+ghost use Rattle.outside_io.specs.Memory.{empty_memory, has_place, is_listed, read_count, begins};
+ghost use Rattle.outside_io.specs.Memory.{append_count, counted, read_failed, write_failed, begun};
+ghost use Rattle.outside_io.specs.Memory.{appended};
 
 use crate::files::{Failed, Files};
 use refusal_codes::NoMemory;
@@ -210,8 +212,8 @@ impl MemFiles {
     /// Makes a path hold no bytes, and answers its number.
     fn open(&mut self, path: &str) -> usize
         requires { IsTrue (has_place self.old path.now) }
-        ensures after { self.new ≡ record self.old { paths = with_bytes self.old.paths path.now [] }
-            }
+        ensures after { self.new ≡ record self.old
+            { paths = with_bytes self.old.paths path.now [] } }
         ensures number { number_of self.new.paths path.now ≡ Some result }
     {
         if let Some(place) = self.find(path) {
@@ -248,10 +250,10 @@ impl Files for MemFiles {
         ensures count { result_ok result ≡ read_count self.old path.now place (length into.old) }
         ensures into_ok { IfOk result (λ n. into.new ≡
             take n (drop place (unwrap_or (bytes_at self.old.paths path.now) []))
-                ++ drop n into.old) }
+            ++ drop n into.old) }
         ensures into_err { OnErr result (into.new ≡ into.old) }
-        ensures after { self.new ≡ (if is_ok result then counted self.old else read_failed self.old)
-            }
+        ensures after { self.new ≡ (if is_ok result then counted self.old else read_failed
+            self.old) }
     {
         let is_listed = self.is_next_listed();
         if let Some(bytes) = self.held(path)

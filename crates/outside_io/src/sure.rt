@@ -1,5 +1,5 @@
-ghost use Rattle.std.specs.Prelude.{◌≡◌, ◌+◌, ◌-◌, ◌<◌, min, true, false, List, ◌++◌, length, take,
-    drop, None, IsOk, IfOk};
+ghost use Rattle.std.specs.Prelude.{◌≡◌, ◌+◌, ◌-◌, ◌<◌, min, true, false, List, ◌++◌, length, take};
+ghost use Rattle.std.specs.Prelude.{drop, None, IsOk, IfOk};
 ghost use Rattle.outside_io.specs.Sure.{sure_holding, added};
 
 use crate::console::Console;
@@ -21,8 +21,12 @@ impl<'a> Model for SureFiles<'a> {
 
     ghost Value = { Sure };
 
-    ghost view = { λ s. record { source = s.source.now; is_written = s.is_written; appended
-        = s.appended } };
+    ghost view = { λ s. record {
+      source = s.source.now;
+      is_written = s.is_written;
+      appended
+          = s.appended;
+    } };
 }
 
 impl<'a> SureFiles<'a> {

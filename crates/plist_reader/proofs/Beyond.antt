@@ -1,27 +1,31 @@
 -- Characters beyond ASCII stand in strings alone, and there each may stand.
-use Rattle.std.proofs.Common.{cond, ◌*◌, ◌≡◌, ℕ, ◌+◌, ◌≤◌, Bool, false, eqb, List, [], ◌∷◌, ◌++◌,
-    Option, Some, None, Result, Ok, Err, refl, subst, arith, append_assoc, IfOk}
+use Rattle.std.proofs.Common.{cond, ◌*◌, ◌≡◌, ℕ, ◌+◌, ◌≤◌, Bool, false, eqb, List, [], ◌∷◌, ◌++◌}
+use Rattle.std.proofs.Common.{Option, Some, None, Result, Ok, Err, refl, subst, arith, append_assoc}
+use Rattle.std.proofs.Common.{IfOk}
 use Rattle.std.specs.Prelude.{option_and_then, encode_utf8}
 use Rattle.std.specs.Char.{IsScalar, len_utf8}
 use Rattle.refusal_codes.specs.declared.refusal.Refusal.{Refusal}
 use Rattle.plist_reader.specs.declared.reader.Reader.{Reader}
 use Rattle.plist_reader.specs.declared.reader.Phase.{Phase}
-use Rattle.plist_reader.specs.declared.reader.Phase.TheVariants.{Value, Item, ItemEnd, Key, KeyEnd,
-    PairEnd, End}
+use Rattle.plist_reader.specs.declared.reader.Phase.TheVariants.{Value, Item, ItemEnd, Key, KeyEnd}
+use Rattle.plist_reader.specs.declared.reader.Phase.TheVariants.{PairEnd, End}
 use Rattle.plist_reader.specs.declared.reader.Token.{Token}
-use Rattle.plist_reader.specs.declared.reader.Token.TheVariants.{Between, Word, Quoted, Escape,
-    Bytes, Half}
+use Rattle.plist_reader.specs.declared.reader.Token.TheVariants.{Between, Word, Quoted, Escape}
+use Rattle.plist_reader.specs.declared.reader.Token.TheVariants.{Bytes, Half}
 use Rattle.plist_reader.specs.declared.escape.Escape.{Escape as EscapeState}
-use Rattle.plist_reader.specs.declared.escape.Escape.TheVariants.{Begun, Octal, Octals, Unit0,
-    Unit1, Unit2, Unit3, High, HighBackslash, Low, Low1, Low2, Low3}
+use Rattle.plist_reader.specs.declared.escape.Escape.TheVariants.{Begun, Octal, Octals, Unit0}
+use Rattle.plist_reader.specs.declared.escape.Escape.TheVariants.{Unit1, Unit2, Unit3, High}
+use Rattle.plist_reader.specs.declared.escape.Escape.TheVariants.{HighBackslash, Low, Low1, Low2}
+use Rattle.plist_reader.specs.declared.escape.Escape.TheVariants.{Low3}
 use Rattle.plist_reader.specs.declared.escape.Escaped.TheVariants.{Wrong}
 use Rattle.plist_reader.specs.Characters.{is_space, is_word, hex_value, byte_of}
 use Rattle.plist_reader.specs.Escapes.{escape_begun, escape_next}
 use Rattle.plist_reader.specs.Grammar.{width, tree_of, IsTextOf}
 use Rattle.plist_reader.specs.Refusals.{CanGoOn}
 use Rattle.refusal_codes.specs.Gives.{◌>>=◌}
-use Rattle.plist_reader.specs.Reading.{is_bracket, text_ended, text_begun, value_begun, awaited,
-    between, in_word, in_quoted, in_bytes, in_half, step_in, step, run}
+use Rattle.plist_reader.specs.Reading.{is_bracket, text_ended, text_begun, value_begun, awaited}
+use Rattle.plist_reader.specs.Reading.{between, in_word, in_quoted, in_bytes, in_half, step_in}
+use Rattle.plist_reader.specs.Reading.{step, run}
 use Rattle.plist_reader.proofs.Scalars.{no_char, no_space, no_word, no_octal, no_hex}
 use Rattle.plist_reader.proofs.Reached.{onward, at_ok, reached-goes_on, reached-tree}
 use Rattle.plist_reader.proofs.Depths.{ok_bind}
@@ -74,9 +78,16 @@ no-after P (Err e) place c h = tt
 no_escape : (escape : EscapeState) (c : ℕ) → 128 ≤ c → escape_next escape c ≡ Wrong
 unfolding escape_next escape_begun
 no_escape Begun c h =
-    rw (no_char c 34 h (omega arith), no_char c 92 h (omega arith), no_char c 110 h (omega arith),
-        no_char c 114 h (omega arith), no_char c 116 h (omega arith), no_char c 48 h (omega arith),
-        no_char c 49 h (omega arith), no_char c 85 h (omega arith)) refl
+    rw (
+      no_char c 34 h (omega arith),
+      no_char c 92 h (omega arith),
+      no_char c 110 h (omega arith),
+      no_char c 114 h (omega arith),
+      no_char c 116 h (omega arith),
+      no_char c 48 h (omega arith),
+      no_char c 49 h (omega arith),
+      no_char c 85 h (omega arith),
+    ) refl
 no_escape (Octal a) c h = rw (no_octal c h) refl
 no_escape (Octals a b) c h = rw (no_octal c h) refl
 no_escape (High n) c h = rw (no_char c 92 h (omega arith)) refl
@@ -105,8 +116,11 @@ TakesAll token r place = (d : ℕ) → 128 ≤ d → (s : Reader) × (step_in r 
 
 string-takes : (r : Reader) (at place : ℕ) → TakesAll (Quoted at) r place
 unfolding in_quoted
-string-takes r at place d h = (record r { text = r.text ++ encode_utf8 d }, rw
-    (no_char d 34 h (omega arith), no_char d 92 h (omega arith)) refl)
+string-takes r at place d h = (
+  record r { text = r.text ++ encode_utf8 d },
+  rw
+      (no_char d 34 h (omega arith), no_char d 92 h (omega arith)) refl,
+)
 
 beyond-step_in : (r : Reader) (place c : ℕ) (token : Token) → 128 ≤ c
     → IfOk (step_in r place c token) (λ s. TakesAll token r place)
@@ -122,8 +136,8 @@ beyond-step_in r place c (Quoted at) h = any_ok (step_in r place c (Quoted at))
 beyond-step_in r place c (Escape at backslash escape) h = rw (no_escape escape c h) tt
 beyond-step_in r place c (Bytes at) h =
     never_ok (λ s. TakesAll (Bytes at) r place) (is_space c) _ _ (no_space c h)
-        (never_ok (λ s. TakesAll (Bytes at) r place) (eqb c 62) _ _ (no_char c 62 h (omega arith))
-        (rw (no_hex c h) tt))
+    (never_ok (λ s. TakesAll (Bytes at) r place) (eqb c 62) _ _ (no_char c 62 h (omega arith))
+    (rw (no_hex c h) tt))
 beyond-step_in r place c (Half at high) h
     = never_ok (λ s. TakesAll (Half at high) r place) (is_space c) _ _ (no_space c h)
     (rw (no_byte high c h) tt)
@@ -139,9 +153,9 @@ pub beyond-alike : (front : List ℕ) (c d : ℕ) → 128 ≤ c → 128 ≤ d �
     → CanGoOn (front ++ c ∷ []) → CanGoOn (front ++ d ∷ [])
 beyond-alike front c d h k i g =
     let text : IsTextOf g.1 (front ++ c ∷ g.0)
-        = subst (λ (x : List ℕ). IsTextOf g.1 x) (append_assoc front (c ∷ []) g.0) g.2 in
+    = subst (λ (x : List ℕ). IsTextOf g.1 x) (append_assoc front (c ∷ []) g.0) g.2 in
     let r = reached-front front (c ∷ g.0) g.1 text in
     let s = ok_bind (step r.0 (width front) c) (λ u. run u (width front + len_utf8 c) g.0)
-        (tree_of g.1) (reached-tree front (c ∷ g.0) r.0 g.1 r.1 text) in
+    (tree_of g.1) (reached-tree front (c ∷ g.0) r.0 g.1 r.1 text) in
     let u = beyond-step r.0 s.0 (width front) c d h k s.1 in
     reached-goes_on (front ++ d ∷ []) u.0 (onward front r.0 u.0 d i r.1 u.1)

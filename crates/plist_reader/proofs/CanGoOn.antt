@@ -1,7 +1,8 @@
 -- From each state that reading reaches some characters lead to a tree: what is open is finished,
 -- and no bracket opens.
-use Rattle.std.proofs.Common.{append_assoc, ◌≡◌, ℕ, zero, suc, ◌+◌, ◌<◌, Bool, true, false, ◌&&◌,
-    ◌||◌, List, [], ◌∷◌, ◌++◌, length, Some, Ok, refl, sym, subst, ◌∙◌, arith}
+use Rattle.std.proofs.Common.{append_assoc, ◌≡◌, ℕ, zero, suc, ◌+◌, ◌<◌, Bool, true, false, ◌&&◌}
+use Rattle.std.proofs.Common.{◌||◌, List, [], ◌∷◌, ◌++◌, length, Some, Ok, refl, sym, subst, ◌∙◌}
+use Rattle.std.proofs.Common.{arith}
 use Rattle.std.specs.Prelude.{nat_eq}
 use Rattle.std.specs.Cmp.Lexicographic.{pointwise}
 use Rattle.std.proofs.lemmas.List.{append-nil, length-append, length_push}
@@ -15,11 +16,11 @@ use Rattle.plist_reader.specs.declared.tree.TreeValue.TheVariants as tree
 use Rattle.plist_reader.specs.declared.reader.Reader.{Reader}
 use Rattle.plist_reader.specs.declared.reader.Dictionary.{Dictionary}
 use Rattle.plist_reader.specs.declared.reader.Phase.{Phase}
-use Rattle.plist_reader.specs.declared.reader.Phase.TheVariants.{Value, Item, ItemEnd, Key, KeyEnd,
-    PairEnd, End}
+use Rattle.plist_reader.specs.declared.reader.Phase.TheVariants.{Value, Item, ItemEnd, Key, KeyEnd}
+use Rattle.plist_reader.specs.declared.reader.Phase.TheVariants.{PairEnd, End}
 use Rattle.plist_reader.specs.declared.reader.Token.{Token}
-use Rattle.plist_reader.specs.declared.reader.Token.TheVariants.{Between, Word, Quoted, Escape,
-    Bytes, Half}
+use Rattle.plist_reader.specs.declared.reader.Token.TheVariants.{Between, Word, Quoted, Escape}
+use Rattle.plist_reader.specs.declared.reader.Token.TheVariants.{Bytes, Half}
 use Rattle.plist_reader.specs.declared.reader.Open.{Open}
 use Rattle.plist_reader.specs.declared.reader.Open.TheVariants.{Items, Pairs}
 use Rattle.plist_reader.specs.declared.escape.Escape.{Escape as EscapeState}
@@ -28,13 +29,14 @@ use Rattle.plist_reader.specs.Keys.{is_among}
 use Rattle.plist_reader.specs.Grammar.{node, width}
 use Rattle.plist_reader.specs.Reading.{text_ended, step, whole, finish, run}
 use Rattle.plist_reader.proofs.RunLemmas.{run_step}
-use Rattle.plist_reader.proofs.GivenTokens.{ready, in_token, settled, settled-between, step-space,
-    step-word, CanBegin, IsAwaiting}
+use Rattle.plist_reader.proofs.GivenTokens.{ready, in_token, settled, settled-between, step-space}
+use Rattle.plist_reader.proofs.GivenTokens.{step-word, CanBegin, IsAwaiting}
 use Rattle.plist_reader.proofs.GivenEscapes.{run-escape}
-use Rattle.plist_reader.proofs.GivenStrings.{step-plain, step-angle_begun, step-angle_end,
-    step-second_digit, step-word_end, step-quote_end, text-ended}
-use Rattle.plist_reader.proofs.GivenTexts.{step-list_end, step-dictionary_end, step-equals,
-    step-semicolon, finish-end, key_end, key-ended}
+use Rattle.plist_reader.proofs.GivenStrings.{step-plain, step-angle_begun, step-angle_end}
+use Rattle.plist_reader.proofs.GivenStrings.{step-second_digit, step-word_end, step-quote_end}
+use Rattle.plist_reader.proofs.GivenStrings.{text-ended}
+use Rattle.plist_reader.proofs.GivenTexts.{step-list_end, step-dictionary_end, step-equals}
+use Rattle.plist_reader.proofs.GivenTexts.{step-semicolon, finish-end, key_end, key-ended}
 use Rattle.plist_reader.proofs.SpelledEscapes.{Front}
 use Rattle.plist_reader.proofs.SpelledSteps.{Agrees, GoodIn, Good}
 use Rattle.plist_reader.proofs.CanGoOnEscapes.{Finishes, finishes, finished-escape}
@@ -49,9 +51,13 @@ pub record Completes (r : Reader) (place : ℕ) : Type 0 where
 
 completes-step : (r s : Reader) (place c : ℕ) → IsScalar c → step r place c ≡ Ok s
     → Completes s (place + len_utf8 c) → Completes r place
-completes-step r s place c i e h = record
-    { rest = c ∷ h.rest; scalars = (i, h.scalars); tree = h.tree; runs
-    = run_step r s place c h.rest e ∙ h.runs }
+completes-step r s place c i e h = record {
+  rest = c ∷ h.rest;
+  scalars = (i, h.scalars);
+  tree = h.tree;
+  runs
+      = run_step r s place c h.rest e ∙ h.runs;
+}
 
 -- ---- brackets are closed
 
@@ -65,9 +71,12 @@ extends-step : (r s : Reader) (place c : ℕ) (nodes : List TreeNode) (n : TreeN
     → step r place c ≡ Ok s → Extends s (place + len_utf8 c) (nodes ++ n ∷ [])
     → Extends r place nodes
 unfolding completes-step
-extends-step r s place c nodes n i e h = record
-    { whole = completes-step r s place c i e h.whole; more = n ∷ h.more; grows = h.grows
-    ∙ append_assoc nodes (n ∷ []) h.more }
+extends-step r s place c nodes n i e h = record {
+  whole = completes-step r s place c i e h.whole;
+  more = n ∷ h.more;
+  grows = h.grows
+      ∙ append_assoc nodes (n ∷ []) h.more;
+}
 
 extends-same : (r s : Reader) (place c : ℕ) (nodes : List TreeNode) → IsScalar c
     → step r place c ≡ Ok s → Extends s (place + len_utf8 c) nodes → Extends r place nodes
@@ -77,20 +86,28 @@ extends-same r s place c nodes i e h = record
 
 pub extends-settled : (brackets : List Open) (nodes : List TreeNode) (number place : ℕ)
     → Extends (settled nodes brackets number) place nodes
-extends-settled [] nodes number place = record
-    { whole = record { rest = []; scalars = tt; tree = record { nodes = nodes; top = number }; runs
-    = finish-end nodes number place }; more = []; grows = sym (append-nil nodes) }
+extends-settled [] nodes number place = record {
+  whole = record {
+    rest = [];
+    scalars = tt;
+    tree = record { nodes = nodes; top = number };
+    runs
+        = finish-end nodes number place;
+  };
+  more = [];
+  grows = sym (append-nil nodes);
+}
 extends-settled (Items at done ∷ outer) nodes number place =
     let all = done ++ number ∷ [] in
     let n = node at (place + 1) (tree.Items all) in
     extends-step _ _ place 41 nodes n refl (step-list_end nodes at place all outer)
-        (extends-settled outer (nodes ++ n ∷ []) (length nodes) (place + 1))
+    (extends-settled outer (nodes ++ n ∷ []) (length nodes) (place + 1))
 extends-settled (Pairs d ∷ outer) nodes number place =
     let all : Dictionary = record d { pairs = d.pairs ++ (d.key, number) ∷ [] } in
     let n = node d.place (place + 1 + 1) (tree.Pairs all.pairs) in
     extends-same _ _ place 59 nodes refl (step-semicolon nodes (Pairs all ∷ outer) place)
     (extends-step _ _ (place + 1) 125 nodes n refl (step-dictionary_end nodes (place + 1) all outer)
-        (extends-settled outer (nodes ++ n ∷ []) (length nodes) (place + 1 + 1)))
+    (extends-settled outer (nodes ++ n ∷ []) (length nodes) (place + 1 + 1)))
 
 completes-settled : (brackets : List Open) (nodes : List TreeNode) (number place : ℕ)
     → Completes (settled nodes brackets number) place
@@ -102,8 +119,8 @@ completes-bytes : (nodes : List TreeNode) (brackets : List Open) (phase : Phase)
     (bytes : List ℕ) → Completes (in_token nodes brackets phase (Bytes at) [] bytes) place
 completes-bytes nodes brackets phase at place bytes =
     completes-step _ _ place 62 refl (step-angle_end nodes brackets phase at place bytes)
-        (completes-settled brackets (nodes ++ node at (place + 1) (tree.Bytes bytes) ∷ [])
-        (length nodes) (place + 1))
+    (completes-settled brackets (nodes ++ node at (place + 1) (tree.Bytes bytes) ∷ [])
+    (length nodes) (place + 1))
 
 zero_digit : hex_value 48 ≡ Some 0
 unfolding hex_value
@@ -114,7 +131,7 @@ completes-half : (nodes : List TreeNode) (brackets : List Open) (phase : Phase)
     → Completes (in_token nodes brackets phase (Half at high) [] bytes) place
 completes-half nodes brackets phase at high x place bytes h =
     completes-step _ _ place 48 refl (step-second_digit nodes brackets phase at high place 48 x 0
-        bytes h zero_digit) (completes-bytes nodes brackets phase at (place + 1) _)
+    bytes h zero_digit) (completes-bytes nodes brackets phase at (place + 1) _)
 
 -- ---- values and signs
 
@@ -142,25 +159,30 @@ completes-ready nodes [] ItemEnd place g = absurd g
 completes-ready nodes (Pairs d ∷ outer) ItemEnd place g = absurd g
 completes-ready nodes (Items at done ∷ outer) ItemEnd place g =
     completes-step _ _ place 41 refl (step-list_end nodes at place done outer)
-        (completes-settled outer (nodes ++ node at (place + 1) (tree.Items done) ∷ [])
-        (length nodes) (place + 1))
+    (completes-settled outer (nodes ++ node at (place + 1) (tree.Items done) ∷ [])
+    (length nodes) (place + 1))
 completes-ready nodes [] Key place g = absurd g
 completes-ready nodes (Items at done ∷ outer) Key place g = absurd g
 completes-ready nodes (Pairs d ∷ outer) Key place g =
     completes-step _ _ place 125 refl (step-dictionary_end nodes place d outer)
-        (completes-settled outer (nodes ++ node d.place (place + 1) (tree.Pairs d.pairs) ∷ [])
-        (length nodes) (place + 1))
+    (completes-settled outer (nodes ++ node d.place (place + 1) (tree.Pairs d.pairs) ∷ [])
+    (length nodes) (place + 1))
 completes-ready nodes brackets KeyEnd place g = completes-sign nodes brackets place
 completes-ready nodes [] PairEnd place g = absurd g
 completes-ready nodes (Items at done ∷ outer) PairEnd place g = absurd g
 completes-ready nodes (Pairs d ∷ outer) PairEnd place g =
     completes-step _ _ place 59 refl (step-semicolon nodes (Pairs d ∷ outer) place)
     (completes-step _ _ (place + 1) 125 refl (step-dictionary_end nodes (place + 1) d outer)
-        (completes-settled outer (nodes ++ node d.place (place + 1 + 1) (tree.Pairs d.pairs) ∷ [])
-        (length nodes) (place + 1 + 1)))
+    (completes-settled outer (nodes ++ node d.place (place + 1 + 1) (tree.Pairs d.pairs) ∷ [])
+    (length nodes) (place + 1 + 1)))
 completes-ready nodes brackets (End n) place g
-    = record { rest = []; scalars = tt; tree = record { nodes = nodes; top = n }; runs
-    = finish_whole nodes brackets n place }
+    = record {
+      rest = [];
+      scalars = tt;
+      tree = record { nodes = nodes; top = n };
+      runs
+          = finish_whole nodes brackets n place;
+    }
 
 -- ---- a key that is longer than all others
 
@@ -214,9 +236,9 @@ completes-word nodes brackets phase at place text a =
     let made = nodes ++ node at place (tree.Text text) ∷ [] in
     completes-step _ _ place 32 refl
     (step-word_space (in_token nodes brackets phase (Word at) text [])
-        (settled made brackets (length nodes)) at place refl
-        (text-ended nodes brackets phase (Word at) at place text a)
-        (settled-between made brackets (length nodes)))
+    (settled made brackets (length nodes)) at place refl
+    (text-ended nodes brackets phase (Word at) at place text a)
+    (settled-between made brackets (length nodes)))
     (completes-settled brackets made (length nodes) (place + 1))
 
 -- characters that finish a key so that its dictionary has no such key yet
@@ -234,30 +256,44 @@ way-step : (nodes : List TreeNode) (d : Dictionary) (outer : List Open) (at : �
     (place c : ℕ) → IsScalar c → step r place c ≡ Ok s
     → KeyWay nodes d outer at s (place + len_utf8 c) → KeyWay nodes d outer at r place
 way-step nodes d outer at r s place c i e w
-    = record { characters = c ∷ w.characters; scalars = (i, w.scalars); end = w.end; key
-    = w.key; next = w.next; leads = λ more. run_step r s place c (w.characters ++ more) e
-    ∙ w.leads more }
+    = record {
+      characters = c ∷ w.characters;
+      scalars = (i, w.scalars);
+      end = w.end;
+      key
+          = w.key;
+      next = w.next;
+      leads = λ more. run_step r s place c (w.characters ++ more) e
+          ∙ w.leads more;
+    }
 
 way-end : (nodes : List TreeNode) (d : Dictionary) (outer : List Open) (at end : ℕ) (key : List ℕ)
     (r : Reader) (place c : ℕ) → IsScalar c
     → step r place c ≡ Ok (key_end nodes d outer at end key) → KeyWay nodes d outer at r place
 way-end nodes d outer at end key r place c i e
-    = record { characters = c ∷ []; scalars = (i, tt); end = end; key = key; next = place
-    + len_utf8 c; leads = λ more. run_step r (key_end nodes d outer at end key) place c more e }
+    = record {
+      characters = c ∷ [];
+      scalars = (i, tt);
+      end = end;
+      key = key;
+      next = place
+          + len_utf8 c;
+      leads = λ more. run_step r (key_end nodes d outer at end key) place c more e;
+    }
 
 way-word : (n : ℕ) (nodes : List TreeNode) (d : Dictionary) (outer : List Open) (at place : ℕ)
     (text : List ℕ) → reach d.keys < length text + n
     → KeyWay nodes d outer at (in_token nodes (Pairs d ∷ outer) Key (Word at) text []) place
 way-word zero nodes d outer at place text h = way-end nodes d outer at place text _ place 32 refl
     (step-word_space (in_token nodes (Pairs d ∷ outer) Key (Word at) text [])
-        (key_end nodes d outer at place text) at place refl
-        (key-ended nodes d outer (Word at) at place text
-        (longer-new text d.keys (omega (arith, h)))) refl)
+    (key_end nodes d outer at place text) at place refl
+    (key-ended nodes d outer (Word at) at place text
+    (longer-new text d.keys (omega (arith, h)))) refl)
 way-word (suc n) nodes d outer at place text h
     = way-step nodes d outer at _ _ place 97 refl
     (step-word nodes (Pairs d ∷ outer) Key at place 97 text plain_letter.0)
     (way-word n nodes d outer at (place + 1) (text ++ 97 ∷ [])
-        (omega (arith, h, length_push text 97)))
+    (omega (arith, h, length_push text 97)))
 
 pub way-any_word : (nodes : List TreeNode) (d : Dictionary) (outer : List Open) (at place : ℕ)
     (text : List ℕ) → KeyWay nodes d outer at
@@ -269,9 +305,14 @@ completes-way : (nodes : List TreeNode) (d : Dictionary) (outer : List Open) (at
     (place : ℕ) → KeyWay nodes d outer at r place → Completes r place
 completes-way nodes d outer at r place w =
     let h = completes-key_end nodes d outer at w.end w.next w.key in
-    record { rest = w.characters ++ h.rest; scalars
-        = all-append IsScalar w.characters h.rest w.scalars h.scalars; tree = h.tree; runs
-        = w.leads h.rest ∙ h.runs }
+    record {
+      rest = w.characters ++ h.rest;
+      scalars
+          = all-append IsScalar w.characters h.rest w.scalars h.scalars;
+      tree = h.tree;
+      runs
+          = w.leads h.rest ∙ h.runs;
+    }
 
 -- ---- quoted strings
 
@@ -281,8 +322,8 @@ completes-string : (nodes : List TreeNode) (brackets : List Open) (phase : Phase
 completes-string nodes brackets phase at place text a =
     let made = nodes ++ node at (place + 1) (tree.Text text) ∷ [] in
     completes-step _ _ place 34 refl (step-quote_end nodes brackets phase at place text
-        ∙ text-ended nodes brackets phase (Quoted at) at (place + 1) text a)
-        (completes-settled brackets made (length nodes) (place + 1))
+    ∙ text-ended nodes brackets phase (Quoted at) at (place + 1) text a)
+    (completes-settled brackets made (length nodes) (place + 1))
 
 letter_no_mark : (¬ (◌≡◌ {A = ℕ} 97 34)) × (¬ (◌≡◌ {A = ℕ} 97 92))
 letter_no_mark = (eqb-false 97 34 refl, eqb-false 97 92 refl)
@@ -293,13 +334,13 @@ way-string : (n : ℕ) (nodes : List TreeNode) (d : Dictionary) (outer : List Op
 way-string zero nodes d outer at place text h
     = way-end nodes d outer at (place + 1) text _ place 34 refl
     (step-quote_end nodes (Pairs d ∷ outer) Key at place text
-        ∙ key-ended nodes d outer (Quoted at) at (place + 1) text
-        (longer-new text d.keys (omega (arith, h))))
+    ∙ key-ended nodes d outer (Quoted at) at (place + 1) text
+    (longer-new text d.keys (omega (arith, h))))
 way-string (suc n) nodes d outer at place text h
     = way-step nodes d outer at _ _ place 97 refl
     (step-plain nodes (Pairs d ∷ outer) Key at place 97 text letter_no_mark.0 letter_no_mark.1)
     (way-string n nodes d outer at (place + 1) (text ++ encode 97)
-        (omega (arith, h, length-append text (encode 97), one_byte)))
+    (omega (arith, h, length-append text (encode 97), one_byte)))
   where
     one_byte : length (encode 97) ≡ 1
     one_byte = length-encode 97
@@ -347,13 +388,18 @@ completes-any_string nodes brackets (End n) at place text b g = absurd b
 completes-escape : (nodes : List TreeNode) (brackets : List Open) (phase : Phase)
     (at backslash place : ℕ) (escape : EscapeState) (text : List ℕ) → CanBegin phase
     → Agrees phase brackets → (f : Finishes escape) → AreScalars f.0
-        → Completes (in_token nodes brackets phase (Escape at backslash escape) text []) place
+    → Completes (in_token nodes brackets phase (Escape at backslash escape) text []) place
 completes-escape nodes brackets phase at backslash place escape text b g f i =
     let h = completes-any_string nodes brackets phase at (place + width f.0) (text ++ encode f.1) b
-        g in
-    record { rest = f.0 ++ h.rest; scalars = all-append IsScalar f.0 h.rest i h.scalars; tree
-        = h.tree; runs = run-escape f.0 nodes brackets phase at backslash place escape f.1 text
-        h.rest f.2 ∙ h.runs }
+    g in
+    record {
+      rest = f.0 ++ h.rest;
+      scalars = all-append IsScalar f.0 h.rest i h.scalars;
+      tree
+          = h.tree;
+      runs = run-escape f.0 nodes brackets phase at backslash place escape f.1 text
+          h.rest f.2 ∙ h.runs;
+    }
 
 -- ---- any state
 
@@ -369,34 +415,34 @@ IsLively (Half at high) = (x : ℕ) × (hex_value high ≡ Some x)
 completes-token : (nodes : List TreeNode) (brackets : List Open) (phase : Phase) (token : Token)
     (text bytes : List ℕ) (place : ℕ)
     → GoodIn token (in_token nodes brackets phase token text bytes) → IsLively token
-        → Completes (in_token nodes brackets phase token text bytes) place
+    → Completes (in_token nodes brackets phase token text bytes) place
 completes-token nodes brackets phase Between text bytes place g l =
     let P : List ℕ → List ℕ → Type 0 = λ x y. Completes (in_token nodes brackets phase Between x y)
-        place in
+    place in
     subst (λ (x : List ℕ). P x bytes) (sym g.1)
-        (subst (λ (y : List ℕ). P [] y) (sym g.2) (completes-ready nodes brackets phase place g.0))
+    (subst (λ (y : List ℕ). P [] y) (sym g.2) (completes-ready nodes brackets phase place g.0))
 completes-token nodes brackets phase (Word at) text bytes place g l =
     let P : List ℕ → Type 0 = λ y. Completes (in_token nodes brackets phase (Word at) text y) place
-        in
+    in
     subst P (sym g.2) (completes-any_word nodes brackets phase at place text g.1 g.0)
 completes-token nodes brackets phase (Quoted at) text bytes place g l =
     let P : List ℕ → Type 0 = λ y. Completes (in_token nodes brackets phase (Quoted at) text y)
-        place in
+    place in
     subst P (sym g.2) (completes-any_string nodes brackets phase at place text g.1 g.0)
 completes-token nodes brackets phase (Escape at backslash escape) text bytes place g l =
     let P : List ℕ → Type 0 = λ y. Completes
-        (in_token nodes brackets phase (Escape at backslash escape) text y) place in
+    (in_token nodes brackets phase (Escape at backslash escape) text y) place in
     let f = finishes escape l.0 l.1 in
     let i = escape-scalars (l.0 ++ f.0) f.1 (finished-escape escape l.0 f.0 f.1 l.1 f.2) in
     subst P (sym g.2) (completes-escape nodes brackets phase at backslash place escape text g.1 g.0
-        f (all-parts IsScalar l.0 f.0 i).1)
+    f (all-parts IsScalar l.0 f.0 i).1)
 completes-token nodes brackets phase (Bytes at) text bytes place g l =
     let P : List ℕ → Type 0 = λ x. Completes (in_token nodes brackets phase (Bytes at) x bytes)
-        place in
+    place in
     subst P (sym g.2) (completes-bytes nodes brackets phase at place bytes)
 completes-token nodes brackets phase (Half at high) text bytes place g l =
     let P : List ℕ → Type 0 = λ x. Completes (in_token nodes brackets phase (Half at high) x bytes)
-        place in
+    place in
     subst P (sym g.2) (completes-half nodes brackets phase at high l.0 place bytes l.1)
 
 pub completes : (r : Reader) (place : ℕ) → Good r → IsLively r.token → Completes r place

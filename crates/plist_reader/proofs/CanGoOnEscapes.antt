@@ -1,23 +1,30 @@
 -- Each escape that has begun can be finished.
-use Rattle.std.proofs.Common.{inl, inr, ◌≡◌, ℕ, ◌+◌, ◌-◌, ◌*◌, ◌<◌, Bool, true, false, eqb, ltb,
-    leb, ◌&&◌, List, [], ◌∷◌, ◌++◌, Some, refl, subst, ◌∙◌, arith, append_assoc}
-use Rattle.std.proofs.lemmas.Bool.{ltb-true, leb-true, and_parts, le-leb, lt-ltb, both_ways,
-    cases_Bool}
+use Rattle.std.proofs.Common.{inl, inr, ◌≡◌, ℕ, ◌+◌, ◌-◌, ◌*◌, ◌<◌, Bool, true, false, eqb, ltb}
+use Rattle.std.proofs.Common.{leb, ◌&&◌, List, [], ◌∷◌, ◌++◌, Some, refl, subst, ◌∙◌, arith}
+use Rattle.std.proofs.Common.{append_assoc}
+use Rattle.std.proofs.lemmas.Bool.{ltb-true, leb-true, and_parts, le-leb, lt-ltb, both_ways}
+use Rattle.std.proofs.lemmas.Bool.{cases_Bool}
 use Rattle.plist_reader.specs.declared.escape.Escape.{Escape as EscapeState}
-use Rattle.plist_reader.specs.declared.escape.Escape.TheVariants.{Octal, Octals, Unit0, Unit1,
-    Unit2, Unit3, High, HighBackslash, Low, Low1, Low2, Low3}
+use Rattle.plist_reader.specs.declared.escape.Escape.TheVariants.{Octal, Octals, Unit0, Unit1}
+use Rattle.plist_reader.specs.declared.escape.Escape.TheVariants.{Unit2, Unit3, High, HighBackslash}
+use Rattle.plist_reader.specs.declared.escape.Escape.TheVariants.{Low, Low1, Low2, Low3}
 use Rattle.plist_reader.specs.declared.escape.Escaped.{Escaped}
 use Rattle.plist_reader.specs.declared.escape.Escaped.TheVariants.{More}
 use Rattle.plist_reader.specs.Characters.{hex_value}
 use Rattle.plist_reader.specs.Escapes.{escape_next}
 use Rattle.plist_reader.specs.Grammar.{IsHigh, IsEscape}
-use Rattle.plist_reader.proofs.GivenEscapes.{octal_value-parts, hex_value-small, low_scalar,
-    high_scalar, character_of-scalar, Reads, unit0, unit1, unit2, unit3, unit-plain, unit-high,
-    low0, low1, low2, low3, high-backslash, backslash-unit, simple, octal1, octal2}
-use Rattle.plist_reader.proofs.SpelledEscapes.{Front, begun, octal1 as front_octal, octal2
-    as front_octals, unit0 as front_unit0, unit1 as front_unit1, unit2 as front_unit2, unit3
-    as front_unit3, high, high_backslash, low, low1 as front_low1, low2 as front_low2, low3
-    as front_low3, Means, means-next, no_low, zero_digit}
+use Rattle.plist_reader.proofs.GivenEscapes.{octal_value-parts, hex_value-small, low_scalar}
+use Rattle.plist_reader.proofs.GivenEscapes.{high_scalar, character_of-scalar, Reads, unit0, unit1}
+use Rattle.plist_reader.proofs.GivenEscapes.{unit2, unit3, unit-plain, unit-high, low0, low1, low2}
+use Rattle.plist_reader.proofs.GivenEscapes.{low3, high-backslash, backslash-unit, simple, octal1}
+use Rattle.plist_reader.proofs.GivenEscapes.{octal2}
+use Rattle.plist_reader.proofs.SpelledEscapes.{Front, begun, octal1 as front_octal}
+use Rattle.plist_reader.proofs.SpelledEscapes.{octal2 as front_octals, unit0 as front_unit0}
+use Rattle.plist_reader.proofs.SpelledEscapes.{unit1 as front_unit1, unit2 as front_unit2}
+use Rattle.plist_reader.proofs.SpelledEscapes.{unit3 as front_unit3, high, high_backslash, low}
+use Rattle.plist_reader.proofs.SpelledEscapes.{low1 as front_low1, low2 as front_low2}
+use Rattle.plist_reader.proofs.SpelledEscapes.{low3 as front_low3, Means, means-next, no_low}
+use Rattle.plist_reader.proofs.SpelledEscapes.{zero_digit}
 
 -- characters that finish an escape, and the character that it is then
 abbrev pub Finishes : EscapeState → Type 0
@@ -38,8 +45,12 @@ hex_digits = (refl, refl, refl)
 -- ---- octal digits
 
 finishes-octals : (x y : ℕ) → x < 2 → y < 8 → Finishes (Octals x y)
-finishes-octals x y h g = (48 ∷ [], x * 64 + y * 8 + 0, octal2 x y 48 0 zero_digit
-    ∙ character_of-scalar (x * 64 + y * 8 + 0) (low_scalar (x * 64 + y * 8 + 0) (omega arith)))
+finishes-octals x y h g = (
+  48 ∷ [],
+  x * 64 + y * 8 + 0,
+  octal2 x y 48 0 zero_digit
+      ∙ character_of-scalar (x * 64 + y * 8 + 0) (low_scalar (x * 64 + y * 8 + 0) (omega arith)),
+)
 
 finishes-octal : (x : ℕ) → x < 2 → Finishes (Octal x)
 finishes-octal x h = finishes-more (Octal x) (Octals x 0) 48 (octal1 x 48 0 zero_digit)
@@ -48,10 +59,13 @@ finishes-octal x h = finishes-more (Octal x) (Octals x 0) 48 (octal1 x 48 0 zero
 -- ---- the low surrogate
 
 finishes-low3 : (n b d : ℕ) → n < 1024 → b < 4 → d < 16 → Finishes (Low3 n b d)
-finishes-low3 n b d h g k =
-    (48 ∷ [], 0x1_0000 + n * 1024 + (b * 256 + d * 16 + 0), low3 n b d 48 0 hex_digits.0
-        ∙ character_of-scalar (0x1_0000 + n * 1024 + (b * 256 + d * 16 + 0))
-        (high_scalar (0x1_0000 + n * 1024 + (b * 256 + d * 16 + 0)) (omega arith) (omega arith)))
+finishes-low3 n b d h g k = (
+  48 ∷ [],
+  0x1_0000 + n * 1024 + (b * 256 + d * 16 + 0),
+  low3 n b d 48 0 hex_digits.0
+      ∙ character_of-scalar (0x1_0000 + n * 1024 + (b * 256 + d * 16 + 0))
+      (high_scalar (0x1_0000 + n * 1024 + (b * 256 + d * 16 + 0)) (omega arith) (omega arith)),
+)
 
 finishes-low2 : (n b : ℕ) → n < 1024 → b < 4 → Finishes (Low2 n b)
 finishes-low2 n b h g = finishes-more (Low2 n b) (Low3 n b 0) 48 (low2 n b 48 0 hex_digits.0)
@@ -85,9 +99,13 @@ finishes-unit3 x y z hx hy hz k =
       | inl e ↦ (let h = is_high u e in finishes-more (Unit3 x y z) (High (u - 0xD800)) 48
           (unit3 x y z 48 0 hex_digits.0 ∙ unit-high x y z 0 u refl h)
           (finishes-high (u - 0xD800) (surrogate_small u h)))
-      | inr e ↦ (48 ∷ [], u, unit3 x y z 48 0 hex_digits.0
-          ∙ unit-plain x y z 0 hx hy hz (omega arith) u refl (λ h. both_ways _ e (high_test u h))
-          (no_low x y z 0 hx hy hz (omega arith) k))
+      | inr e ↦ (
+        48 ∷ [],
+        u,
+        unit3 x y z 48 0 hex_digits.0
+            ∙ unit-plain x y z 0 hx hy hz (omega arith) u refl (λ h. both_ways _ e (high_test u h))
+            (no_low x y z 0 hx hy hz (omega arith) k),
+      )
     ]
   where
     is_high : (u : ℕ) → (leb 0xD800 u && ltb u 0xDC00) ≡ true → IsHigh u
@@ -149,5 +167,5 @@ finished-escape escape front (c ∷ d ∷ cs) character f r =
     let M : Escaped → Type 0 = λ e. Means (front ++ c ∷ []) e in
     let I : List ℕ → Type 0 = λ x. IsEscape x character in
     subst I (append_assoc front (c ∷ []) (d ∷ cs))
-        (finished-escape r.0 (front ++ c ∷ []) (d ∷ cs) character
-        (subst M r.1 (means-next escape front f c)) r.2)
+    (finished-escape r.0 (front ++ c ∷ []) (d ∷ cs) character
+    (subst M r.1 (means-next escape front f c)) r.2)

@@ -1,6 +1,6 @@
 -- How many brackets are open at the end of a front, and in each tree of a text that begins so.
-use Rattle.std.proofs.Common.{◌≡◌, ℕ, ◌+◌, ◌<◌, ◌≤◌, Bool, true, false, cond, ltb, ◌&&◌, List, [],
-    ◌∷◌, ◌++◌, length, Result, Ok, Err, refl, sym, ap, ◌∙◌, arith}
+use Rattle.std.proofs.Common.{◌≡◌, ℕ, ◌+◌, ◌<◌, ◌≤◌, Bool, true, false, cond, ltb, ◌&&◌, List, []}
+use Rattle.std.proofs.Common.{◌∷◌, ◌++◌, length, Result, Ok, Err, refl, sym, ap, ◌∙◌, arith}
 use Rattle.std.specs.List.{AllByRecursion}
 use Rattle.std.proofs.lemmas.Bool.{false≢true, lt-ltb, le-ltb}
 use Rattle.std.proofs.lemmas.Str.{len_utf8_bounds}
@@ -11,8 +11,8 @@ use Rattle.plist_reader.specs.declared.tree.TreeNode.{TreeNode}
 use Rattle.plist_reader.specs.declared.tree.TreeValue.TheVariants as tree
 use Rattle.plist_reader.specs.declared.reader.Reader.{Reader}
 use Rattle.plist_reader.specs.declared.reader.Phase.{Phase}
-use Rattle.plist_reader.specs.declared.reader.Phase.TheVariants.{Value, Item, ItemEnd, Key, KeyEnd,
-    PairEnd}
+use Rattle.plist_reader.specs.declared.reader.Phase.TheVariants.{Value, Item, ItemEnd, Key, KeyEnd}
+use Rattle.plist_reader.specs.declared.reader.Phase.TheVariants.{PairEnd}
 use Rattle.plist_reader.specs.declared.reader.Token.{Token}
 use Rattle.plist_reader.specs.declared.reader.Open.{Open}
 use Rattle.plist_reader.specs.declared.reader.Open.TheVariants.{Items, Pairs}
@@ -21,14 +21,16 @@ use Rattle.plist_reader.specs.Refusals.{is_container, is_open_at, open_at, IsDee
 use Rattle.refusal_codes.specs.Gives.{◌>>=◌}
 use Rattle.plist_reader.specs.Reading.{is_end, start, step, finish, run}
 use Rattle.plist_reader.proofs.GivenTokens.{ready, in_token, settled, run_same}
-use Rattle.plist_reader.proofs.Moves.{TextEnds, as_value, as_key, Moves, space_between,
-    string_begins, word_begins, bytes_begin, list_begins, dictionary_begins, comma, equals,
-    semicolon, list_ends, dictionary_ends, word_more, word_ends, string_more, string_ends,
-    escape_begins, escape_more, escape_ends, space_in_bytes, first_digit, space_in_half,
-    second_digit, bytes_end, Closes, closes_between, closes_word, closes}
+use Rattle.plist_reader.proofs.Moves.{TextEnds, as_value, as_key, Moves, space_between}
+use Rattle.plist_reader.proofs.Moves.{string_begins, word_begins, bytes_begin, list_begins}
+use Rattle.plist_reader.proofs.Moves.{dictionary_begins, comma, equals, semicolon, list_ends}
+use Rattle.plist_reader.proofs.Moves.{dictionary_ends, word_more, word_ends, string_more}
+use Rattle.plist_reader.proofs.Moves.{string_ends, escape_begins, escape_more, escape_ends}
+use Rattle.plist_reader.proofs.Moves.{space_in_bytes, first_digit, space_in_half, second_digit}
+use Rattle.plist_reader.proofs.Moves.{bytes_end, Closes, closes_between, closes_word, closes}
 use Rattle.plist_reader.proofs.Scalars.{AreScalars, front-scalars}
-use Rattle.plist_reader.proofs.Reached.{Reached, at_start, onward, at_ok, reached-good,
-    reached-moves, reached-tree, width-push}
+use Rattle.plist_reader.proofs.Reached.{Reached, at_start, onward, at_ok, reached-good}
+use Rattle.plist_reader.proofs.Reached.{reached-moves, reached-tree, width-push}
 use Rattle.plist_reader.proofs.GivenTexts.{opened}
 
 -- ---- brackets in nodes and in readers
@@ -84,8 +86,12 @@ not_open p at end a l = rw (le-ltb p end l) (falls a (ltb at p))
 ended-push : (p q : ℕ) (nodes : List TreeNode) (n : TreeNode) → p ≤ q → n.end ≤ q → Ended p nodes
     → Ended q (nodes ++ n ∷ [])
 ended-push p q nodes n l e h k m = open_at-push k nodes n
-    ∙ omega (arith, h k (omega arith), not_open k n.place n.end (is_container n.value)
-    (omega (arith, e)))
+    ∙ omega (
+      arith,
+      h k (omega arith),
+      not_open k n.place n.end (is_container n.value)
+          (omega (arith, e)),
+    )
 
 ended-later : (p q : ℕ) (nodes : List TreeNode) → p ≤ q → Ended p nodes → Ended q nodes
 ended-later p q nodes l h k m = h k (omega arith)
@@ -97,46 +103,71 @@ no_way brackets e = absurd (false≢true e)
 token-placed : (nodes : List TreeNode) (brackets : List Open) (phase : Phase) (t u : Token)
     (text more bytes made : List ℕ) (p q : ℕ) → p ≤ q
     → Placed (in_token nodes brackets phase t text bytes) p
-        → Placed (in_token nodes brackets phase u more made) q
+    → Placed (in_token nodes brackets phase u more made) q
 token-placed nodes brackets phase t u text more bytes made p q l h
-    = record { outside = h.outside; nodes = ended-later p q nodes l h.nodes; brackets
-    = In-later p q brackets l h.brackets; shallow = h.shallow }
+    = record {
+      outside = h.outside;
+      nodes = ended-later p q nodes l h.nodes;
+      brackets
+          = In-later p q brackets l h.brackets;
+      shallow = h.shallow;
+    }
 
 phase-placed : (nodes : List TreeNode) (brackets : List Open) (phase next : Phase) (p q : ℕ) → p ≤ q
     → is_end next ≡ false → Placed (ready nodes brackets phase) p
     → Placed (ready nodes brackets next) q
 phase-placed nodes brackets phase next p q l e h
-    = record { outside = λ f. no_way brackets (sym e ∙ f); nodes
-    = ended-later p q nodes l h.nodes; brackets = In-later p q brackets l h.brackets; shallow
-    = h.shallow }
+    = record {
+      outside = λ f. no_way brackets (sym e ∙ f);
+      nodes
+          = ended-later p q nodes l h.nodes;
+      brackets = In-later p q brackets l h.brackets;
+      shallow
+          = h.shallow;
+    }
 
 opened-placed : (nodes : List TreeNode) (brackets : List Open) (phase next : Phase) (b : Open)
     (p q : ℕ) → p < q → is_end next ≡ false → at_of b < q → length brackets < 64
     → Placed (ready nodes brackets phase) p → Placed (ready nodes (b ∷ brackets) next) q
 opened-placed nodes brackets phase next b p q l e a d h
-    = record { outside = λ f. no_way (b ∷ brackets) (sym e ∙ f); nodes
-    = ended-later p q nodes (omega arith) h.nodes; brackets
-    = (a, In-later p q brackets (omega arith) h.brackets); shallow = omega (arith, d) }
+    = record {
+      outside = λ f. no_way (b ∷ brackets) (sym e ∙ f);
+      nodes
+          = ended-later p q nodes (omega arith) h.nodes;
+      brackets
+          = (a, In-later p q brackets (omega arith) h.brackets);
+      shallow = omega (arith, d);
+    }
 
 settled-placed : (nodes : List TreeNode) (brackets : List Open) (number p : ℕ) → Ended p nodes
     → In p brackets → length brackets ≤ 64 → Placed (settled nodes brackets number) p
 settled-placed nodes [] number p n b s = record
     { outside = λ f. refl; nodes = n; brackets = tt; shallow = s }
 settled-placed nodes (Items at done ∷ outer) number p n b s
-    = record { outside = no_way (Items at (done ++ number ∷ []) ∷ outer); nodes = n; brackets
-    = b; shallow = s }
+    = record {
+      outside = no_way (Items at (done ++ number ∷ []) ∷ outer);
+      nodes = n;
+      brackets
+          = b;
+      shallow = s;
+    }
 settled-placed nodes (Pairs d ∷ outer) number p n b s
-    = record { outside = no_way (Pairs (record d { pairs = d.pairs ++ (d.key, number) ∷ [] })
-    ∷ outer); nodes = n; brackets = b; shallow = s }
+    = record {
+      outside = no_way (Pairs (record d { pairs = d.pairs ++ (d.key, number) ∷ [] })
+          ∷ outer);
+      nodes = n;
+      brackets = b;
+      shallow = s;
+    }
 
 text-placed : (nodes : List TreeNode) (brackets : List Open) (phase : Phase) (token : Token)
     (at end p q : ℕ) (text : List ℕ) (s : Reader)
     → TextEnds nodes brackets phase at end text s → p ≤ q → end ≤ q
-        → Placed (in_token nodes brackets phase token text []) p → Placed s q
+    → Placed (in_token nodes brackets phase token text []) p → Placed s q
 text-placed nodes _ _ token _ _ p q _ _ (as_value brackets phase at end text a) l e h =
     settled-placed (nodes ++ node at end (tree.Text text) ∷ []) brackets (length nodes) q
-        (ended-push p q nodes (node at end (tree.Text text)) l e h.nodes)
-        (In-later p q brackets l h.brackets) h.shallow
+    (ended-push p q nodes (node at end (tree.Text text)) l e h.nodes)
+    (In-later p q brackets l h.brackets) h.shallow
 text-placed nodes _ _ token _ _ p q _ _ (as_key d outer at end text a) l e h = record {
   outside = no_way (Pairs (record d { keys = d.keys ++ text ∷ []; key = length nodes }) ∷ outer);
   nodes = ended-push p q nodes (node at end (tree.Text text)) l e h.nodes;
@@ -167,19 +198,19 @@ moves-placed place c q _ _ l (semicolon nodes brackets) h
     = phase-placed nodes brackets PairEnd Key place q (omega arith) refl h
 moves-placed place c q _ _ l (list_ends nodes at done outer phase) h =
     settled-placed (nodes ++ node at (place + 1) (tree.Items done) ∷ []) outer (length nodes) q
-        (ended-push place q nodes (node at (place + 1) (tree.Items done)) (omega arith)
-        (omega arith) h.nodes) (In-later place q outer (omega arith) h.brackets.1)
-        (omega (arith, h.shallow))
+    (ended-push place q nodes (node at (place + 1) (tree.Items done)) (omega arith)
+    (omega arith) h.nodes) (In-later place q outer (omega arith) h.brackets.1)
+    (omega (arith, h.shallow))
 moves-placed place c q _ _ l (dictionary_ends nodes d outer) h =
     settled-placed (nodes ++ node d.place (place + 1) (tree.Pairs d.pairs) ∷ []) outer
-        (length nodes) q (ended-push place q nodes (node d.place (place + 1) (tree.Pairs d.pairs))
-        (omega arith) (omega arith) h.nodes) (In-later place q outer (omega arith) h.brackets.1)
-        (omega (arith, h.shallow))
+    (length nodes) q (ended-push place q nodes (node d.place (place + 1) (tree.Pairs d.pairs))
+    (omega arith) (omega arith) h.nodes) (In-later place q outer (omega arith) h.brackets.1)
+    (omega (arith, h.shallow))
 moves-placed place c q _ _ l (word_more nodes brackets phase at text b w) h
     = token-placed nodes brackets phase _ _ text _ [] [] place q (omega arith) h
 moves-placed place c q _ _ l (word_ends nodes brackets phase at text u s w t m) h =
     moves-placed place c q u s l m (text-placed nodes brackets phase _ at place place place text u t
-        (omega arith) (omega arith) h)
+    (omega arith) (omega arith) h)
 moves-placed place c q _ _ l (string_more nodes brackets phase at text b n m) h
     = token-placed nodes brackets phase _ _ text _ [] [] place q (omega arith) h
 moves-placed place c q _ _ l (string_ends nodes brackets phase at text s e t) h
@@ -201,20 +232,25 @@ moves-placed place c q _ _ l (second_digit nodes brackets phase at high byte byt
     = token-placed nodes brackets phase _ _ [] [] bytes _ place q (omega arith) h
 moves-placed place c q _ _ l (bytes_end nodes brackets phase at bytes a) h =
     settled-placed (nodes ++ node at (place + 1) (tree.Bytes bytes) ∷ []) brackets (length nodes) q
-        (ended-push place q nodes (node at (place + 1) (tree.Bytes bytes)) (omega arith)
-        (omega arith) h.nodes) (In-later place q brackets (omega arith) h.brackets) h.shallow
+    (ended-push place q nodes (node at (place + 1) (tree.Bytes bytes)) (omega arith)
+    (omega arith) h.nodes) (In-later place q brackets (omega arith) h.brackets) h.shallow
 
 start-placed : Placed start 0
 unfolding start
-start-placed = record { outside = λ e. refl; nodes = λ q l. refl; brackets = tt; shallow
-    = omega arith }
+start-placed = record {
+  outside = λ e. refl;
+  nodes = λ q l. refl;
+  brackets = tt;
+  shallow
+      = omega arith;
+}
 
 pub reached-placed : (front : List ℕ) (r : Reader) → Reached front r → Placed r (width front)
 reached-placed _ _ at_start = start-placed
 reached-placed _ _ (onward front r s c i h e) =
     moves-placed (width front) c (width (front ++ c ∷ [])) r s
-        (omega (arith, width-push front c, len_utf8_bounds c)) (reached-moves front r s c h e)
-        (reached-placed front r h)
+    (omega (arith, width-push front c, len_utf8_bounds c)) (reached-moves front r s c h e)
+    (reached-placed front r h)
 
 -- ---- the count stays the same
 
@@ -231,12 +267,12 @@ before-settled p number nodes (Pairs d ∷ outer) = refl
 closed-count : (p at place : ℕ) (nodes : List TreeNode) (n : TreeNode) (outer : List Open)
     → p ≤ place → is_open_at p n ≡ (ltb at p && ltb p (place + 1))
     → Count p (settled (nodes ++ n ∷ []) outer (length nodes))
-        ≡ open_at p nodes + (bit (ltb at p) + before p outer)
+    ≡ open_at p nodes + (bit (ltb at p) + before p outer)
 closed-count p at place nodes n outer l e =
     let behind : ltb p (place + 1) ≡ true = lt-ltb p (place + 1) (omega arith) in
     let counted : bit (is_open_at p n) ≡ bit (ltb at p) = ap bit e ∙ rw behind (both (ltb at p)) in
     before-settled p (length nodes) (nodes ++ n ∷ []) outer
-        ∙ omega (arith, open_at-push p nodes n, counted)
+    ∙ omega (arith, open_at-push p nodes n, counted)
   where
     both : (x : Bool) → bit (x && true) ≡ bit x
     both true = refl
@@ -246,7 +282,7 @@ closed-count p at place nodes n outer l e =
 token-count : (p : ℕ) (nodes : List TreeNode) (n : TreeNode) (brackets : List Open)
     → is_open_at p n ≡ false
     → Count p (settled (nodes ++ n ∷ []) brackets (length nodes))
-        ≡ open_at p nodes + before p brackets
+    ≡ open_at p nodes + before p brackets
 token-count p nodes n brackets e = let counted : bit (is_open_at p n) ≡ 0 = ap bit e
     in before-settled p (length nodes) (nodes ++ n ∷ []) brackets
     ∙ omega (arith, open_at-push p nodes n, counted)
@@ -262,7 +298,7 @@ text-count p nodes _ _ _ _ _ _ (as_key d outer at end text a)
 opened-count : (p place : ℕ) (nodes : List TreeNode) (b : Open) (brackets : List Open) → p ≤ place
     → at_of b ≡ place
     → open_at p nodes + (bit (ltb (at_of b) p) + before p brackets)
-        ≡ open_at p nodes + before p brackets
+    ≡ open_at p nodes + before p brackets
 opened-count p place nodes b brackets l e = let behind : bit (ltb (at_of b) p)
     ≡ 0 = rw (e, le-ltb place p l) refl in omega (arith, behind)
 
@@ -324,17 +360,17 @@ pub runs-keep : (J : Reader → Type 0) (K : Tree → Type 0) (from : ℕ)
     → ((front : List ℕ) (r s : Reader) (c : ℕ) → from ≤ width front → Reached front r
     → Moves (width front) c r s → J r → J s)
     → ((front : List ℕ) (r : Reader) (t : Tree) → Reached front r → Closes (width front) r t → J r
-        → K t)
+    → K t)
     → (cs front : List ℕ) (r : Reader) (t : Tree) → AreScalars cs → from ≤ width front
-        → Reached front r → run r (width front) cs ≡ Ok t → J r → K t
+    → Reached front r → run r (width front) cs ≡ Ok t → J r → K t
 runs-keep J K from k z [] front r t i l h e j
     = z front r t h (at_ok (Closes (width front) r) (finish r (width front)) t e
     (closes r (width front) (reached-good front r h))) j
 runs-keep J K from k z (c ∷ cs) front r t i l h e j =
     let u = ok_bind (step r (width front) c) (λ s. run s (width front + len_utf8 c) cs) t e in
     runs-keep J K from k z cs (front ++ c ∷ []) u.0 t i.1 (omega (arith, width-push front c))
-        (onward front r u.0 c i.0 h u.1) (run_same u.0 u.0 (width (front ++ c ∷ []))
-        (width front + len_utf8 c) cs refl (width-push front c) ∙ u.2)
+    (onward front r u.0 c i.0 h u.1) (run_same u.0 u.0 (width (front ++ c ∷ []))
+    (width front + len_utf8 c) cs refl (width-push front c) ∙ u.2)
     (k front r u.0 c l h (reached-moves front r u.0 c h u.1) j)
 
 pub reached-deep : (front : List ℕ) (r : Reader) → Reached front r
@@ -343,9 +379,9 @@ reached-deep front r h rest v s =
     let p = width front in
     let placed = reached-placed front r h in
     let here : Count p r ≡ length r.brackets
-        = omega (arith, placed.nodes p (omega arith), before-all p r.brackets placed.brackets) in
+    = omega (arith, placed.nodes p (omega arith), before-all p r.brackets placed.brackets) in
     runs-keep (λ u. Count p u ≡ length r.brackets) (λ t. open_at p t.nodes ≡ length r.brackets) p
     (λ f u w c l k m j. moves-count p (width f) c u w l m ∙ j)
     (λ f u t k m j. closes-count p (width f) u t m (reached-placed f u k).outside ∙ j)
     rest front r (tree_of v) (front-scalars v front rest s).1 (omega arith) h
-        (reached-tree front rest r v h s) here
+    (reached-tree front rest r v h s) here

@@ -1,7 +1,7 @@
 -- The keys of each dictionary of a tree are texts that differ, and each begins where a reader
 -- awaits a key behind the pairs in front of it.
-use Rattle.std.proofs.Common.{◌≡◌, ℕ, ◌+◌, false, List, [], ◌∷◌, ◌++◌, length, map, Option, Some,
-    None, Ok, refl, sym, ap, subst, ◌∙◌, append_assoc}
+use Rattle.std.proofs.Common.{◌≡◌, ℕ, ◌+◌, false, List, [], ◌∷◌, ◌++◌, length, map, Option, Some}
+use Rattle.std.proofs.Common.{None, Ok, refl, sym, ap, subst, ◌∙◌, append_assoc}
 use Rattle.std.specs.Prelude.{option_and_then, slice_get}
 use Rattle.std.specs.List.{All, AllByRecursion}
 use Rattle.std.proofs.lemmas.List.{append-nil}
@@ -14,8 +14,8 @@ use Rattle.plist_reader.specs.declared.tree.TreeValue.TheVariants as tree
 use Rattle.plist_reader.specs.declared.reader.Reader.{Reader}
 use Rattle.plist_reader.specs.declared.reader.Dictionary.{Dictionary}
 use Rattle.plist_reader.specs.declared.reader.Phase.{Phase}
-use Rattle.plist_reader.specs.declared.reader.Phase.TheVariants.{Value, Item, ItemEnd, Key, KeyEnd,
-    PairEnd, End}
+use Rattle.plist_reader.specs.declared.reader.Phase.TheVariants.{Value, Item, ItemEnd, Key, KeyEnd}
+use Rattle.plist_reader.specs.declared.reader.Phase.TheVariants.{PairEnd, End}
 use Rattle.plist_reader.specs.declared.reader.Token.{Token}
 use Rattle.plist_reader.specs.declared.reader.Open.{Open}
 use Rattle.plist_reader.specs.declared.reader.Open.TheVariants.{Items, Pairs}
@@ -25,11 +25,13 @@ use Rattle.plist_reader.specs.Grammar.{node, width}
 use Rattle.plist_reader.specs.Sources.{AreNew, IsDictionary, IsDictionaryIn}
 use Rattle.plist_reader.specs.Reading.{start, run}
 use Rattle.plist_reader.proofs.GivenTokens.{ready, in_token, settled, IsAwaiting}
-use Rattle.plist_reader.proofs.Moves.{TextEnds, as_value, as_key, Moves, space_between,
-    string_begins, word_begins, bytes_begin, list_begins, dictionary_begins, comma, equals,
-    semicolon, list_ends, dictionary_ends, word_more, word_ends, string_more, string_ends,
-    escape_begins, escape_more, escape_ends, space_in_bytes, first_digit, space_in_half,
-    second_digit, bytes_end, Closes, closes_between, closes_word}
+use Rattle.plist_reader.proofs.Moves.{TextEnds, as_value, as_key, Moves, space_between}
+use Rattle.plist_reader.proofs.Moves.{string_begins, word_begins, bytes_begin, list_begins}
+use Rattle.plist_reader.proofs.Moves.{dictionary_begins, comma, equals, semicolon, list_ends}
+use Rattle.plist_reader.proofs.Moves.{dictionary_ends, word_more, word_ends, string_more}
+use Rattle.plist_reader.proofs.Moves.{string_ends, escape_begins, escape_more, escape_ends}
+use Rattle.plist_reader.proofs.Moves.{space_in_bytes, first_digit, space_in_half, second_digit}
+use Rattle.plist_reader.proofs.Moves.{bytes_end, Closes, closes_between, closes_word}
 use Rattle.plist_reader.proofs.Scalars.{AreScalars}
 use Rattle.plist_reader.proofs.Fronts.{ends-between}
 use Rattle.plist_reader.proofs.Reached.{Reached, at_start, onward, reached-moves}
@@ -67,7 +69,7 @@ keys-more nodes more [] keys h = h
 keys-more nodes more (p ∷ pairs) [] h = cc
 keys-more nodes more (p ∷ pairs) (k ∷ keys) h =
     let c = cons_parts (text_at nodes p.0) (Some k) (map (λ pair. text_at nodes pair.0) pairs)
-        (map (λ key. Some key) keys) h in
+    (map (λ key. Some key) keys) h in
     let a = text_at-more nodes more p.0 k c.0 in
     let b = keys-more nodes more pairs keys c.1 in
     ap (λ z. z ∷ map (λ pair. text_at (nodes ++ more) pair.0) pairs) a ∙ ap (λ z. Some k ∷ z) b
@@ -80,15 +82,18 @@ keys-push nodes [] (k ∷ keys) n number key h e = cc
 keys-push nodes (p ∷ pairs) [] n number key h e = cc
 keys-push nodes (p ∷ pairs) (k ∷ keys) n number key h e =
     let c = cons_parts (text_at nodes p.0) (Some k) (map (λ pair. text_at nodes pair.0) pairs)
-        (map (λ key. Some key) keys) h in
+    (map (λ key. Some key) keys) h in
     ap (λ z. z ∷ map (λ pair. text_at nodes pair.0) (pairs ++ (n, number) ∷ [])) c.0
-        ∙ ap (λ z. Some k ∷ z) (keys-push nodes pairs keys n number key c.1 e)
+    ∙ ap (λ z. Some k ∷ z) (keys-push nodes pairs keys n number key c.1 e)
 
 new-push : (before keys : List (List ℕ)) (key : List ℕ) → AreNew before keys
     → is_among key (before ++ keys) ≡ false → AreNew before (keys ++ key ∷ [])
 new-push before [] key h e = (ap (λ x. is_among key x) (sym (append-nil before)) ∙ e, tt)
-new-push before (k ∷ keys) key h e = (h.0, new-push (before ++ k ∷ []) keys key h.1
-    (ap (λ x. is_among key x) (append_assoc before (k ∷ []) keys) ∙ e))
+new-push before (k ∷ keys) key h e = (
+  h.0,
+  new-push (before ++ k ∷ []) keys key h.1
+      (ap (λ x. is_among key x) (append_assoc before (k ∷ []) keys) ∙ e),
+)
 
 own-text : (nodes : List TreeNode) (at end : ℕ) (key : List ℕ)
     → text_at (nodes ++ node at end (tree.Text key) ∷ []) (length nodes) ≡ Some key
@@ -161,18 +166,23 @@ each-more : (cs : List ℕ) (nodes more : List TreeNode) (earlier pairs : List (
     → EachBegan cs nodes earlier pairs → EachBegan cs (nodes ++ more) earlier pairs
 each-more cs nodes more earlier [] h = tt
 each-more cs nodes more earlier (p ∷ pairs) h
-    = (began-more cs nodes more earlier p.0 h.0, each-more cs nodes more (earlier ++ p ∷ []) pairs
-    h.1)
+    = (
+      began-more cs nodes more earlier p.0 h.0,
+      each-more cs nodes more (earlier ++ p ∷ []) pairs
+          h.1,
+    )
 
 each-push : (cs : List ℕ) (nodes : List TreeNode) (earlier pairs : List (ℕ × ℕ)) (n number : ℕ)
     → EachBegan cs nodes earlier pairs → Began cs nodes (earlier ++ pairs) n
     → EachBegan cs nodes earlier (pairs ++ (n, number) ∷ [])
 each-push cs nodes earlier [] n number h k
     = (subst (λ (x : List (ℕ × ℕ)). Began cs nodes x n) (append-nil earlier) k, tt)
-each-push cs nodes earlier (p ∷ pairs) n number h k =
-    (h.0, each-push cs nodes (earlier ++ p ∷ []) pairs n number h.1
-        (subst (λ (x : List (ℕ × ℕ)). Began cs nodes x n)
-        (sym (append_assoc earlier (p ∷ []) pairs)) k))
+each-push cs nodes earlier (p ∷ pairs) n number h k = (
+  h.0,
+  each-push cs nodes (earlier ++ p ∷ []) pairs n number h.1
+      (subst (λ (x : List (ℕ × ℕ)). Began cs nodes x n)
+      (sym (append_assoc earlier (p ∷ []) pairs)) k),
+)
 
 each-at : (cs : List ℕ) (nodes : List TreeNode) (earlier pairs : List (ℕ × ℕ)) (n number : ℕ)
     (later : List (ℕ × ℕ)) → EachBegan cs nodes earlier (pairs ++ (n, number) ∷ later)
@@ -181,7 +191,7 @@ each-at cs nodes earlier [] n number later h
     = subst (λ (x : List (ℕ × ℕ)). Began cs nodes x n) (sym (append-nil earlier)) h.0
 each-at cs nodes earlier (p ∷ pairs) n number later h =
     subst (λ (x : List (ℕ × ℕ)). Began cs nodes x n) (append_assoc earlier (p ∷ []) pairs)
-        (each-at cs nodes (earlier ++ p ∷ []) pairs n number later h.1)
+    (each-at cs nodes (earlier ++ p ∷ []) pairs n number later h.1)
 
 -- the keys of these pairs are these texts, and began so
 abbrev Tells : List ℕ → List TreeNode → List (ℕ × ℕ) → List (List ℕ) → Type 0
@@ -189,8 +199,11 @@ Tells cs nodes pairs keys = HasKeys nodes pairs keys × EachBegan cs nodes [] pa
 
 tells-more : (cs : List ℕ) (nodes more : List TreeNode) (pairs : List (ℕ × ℕ))
     (keys : List (List ℕ)) → Tells cs nodes pairs keys → Tells cs (nodes ++ more) pairs keys
-tells-more cs nodes more pairs keys h = (keys-more nodes more pairs keys h.0, each-more cs nodes
-    more [] pairs h.1)
+tells-more cs nodes more pairs keys h = (
+  keys-more nodes more pairs keys h.0,
+  each-more cs nodes
+      more [] pairs h.1,
+)
 
 -- ---- keys of what is open
 
@@ -261,8 +274,10 @@ await-more : (cs : List ℕ) (nodes more : List TreeNode) (brackets : List Open)
 await-more cs nodes more [] h = tt
 await-more cs nodes more (Items at done ∷ outer) h = (tt, await-more cs nodes more outer h.1)
 await-more cs nodes more (Pairs d ∷ outer) h
-    = (λ number. tells-more cs nodes more (d.pairs ++ (d.key, number) ∷ []) d.keys (h.0 number),
-    await-more cs nodes more outer h.1)
+    = (
+      λ number. tells-more cs nodes more (d.pairs ++ (d.key, number) ∷ []) d.keys (h.0 number),
+      await-more cs nodes more outer h.1,
+    )
 
 listed-more : (cs : List ℕ) (nodes more : List TreeNode) (value : TreeValue)
     → IsListed cs nodes value → IsListed cs (nodes ++ more) value
@@ -270,17 +285,24 @@ listed-more cs nodes more (tree.Text bytes) h = tt
 listed-more cs nodes more (tree.Bytes bytes) h = tt
 listed-more cs nodes more (tree.Items items) h = tt
 listed-more cs nodes more (tree.Pairs pairs) h
-    = (record { keys = h.0.keys; texts = keys-more nodes more pairs h.0.keys h.0.texts; differ
-    = h.0.differ }, each-more cs nodes more [] pairs h.1)
+    = (
+      record {
+        keys = h.0.keys;
+        texts = keys-more nodes more pairs h.0.keys h.0.texts;
+        differ
+            = h.0.differ;
+      },
+      each-more cs nodes more [] pairs h.1,
+    )
 
 done-push : (cs : List ℕ) (nodes : List TreeNode) (n : TreeNode) → Done cs nodes
     → IsListed cs nodes n.value → Done cs (nodes ++ n ∷ [])
 done-push cs nodes n h k =
     let all = nodes ++ n ∷ [] in
     All-push (λ m. IsListed cs all m.value) nodes n
-        (All-weaker (λ m. IsListed cs nodes m.value) (λ m. IsListed cs all m.value)
-        (λ m q. listed-more cs nodes (n ∷ []) m.value q) nodes h)
-        (listed-more cs nodes (n ∷ []) n.value k)
+    (All-weaker (λ m. IsListed cs nodes m.value) (λ m. IsListed cs all m.value)
+    (λ m q. listed-more cs nodes (n ∷ []) m.value q) nodes h)
+    (listed-more cs nodes (n ∷ []) n.value k)
 
 settled-listed : (cs : List ℕ) (nodes : List TreeNode) (brackets : List Open) (number : ℕ)
     → AllAwait cs nodes brackets → AllByRecursion NewIn brackets → Done cs nodes
@@ -301,11 +323,11 @@ value-listed cs nodes n brackets h k d v
 ended-listed : (cs front rest : List ℕ) (nodes : List TreeNode) (brackets : List Open)
     (phase : Phase) (token : Token) (at end : ℕ) (text : List ℕ) (u : Reader)
     → cs ≡ front ++ rest → TextEnds nodes brackets phase at end text u
-        → Started front at nodes brackets phase
+    → Started front at nodes brackets phase
     → Listed cs (in_token nodes brackets phase token text []) → Listed cs u
 ended-listed cs front rest nodes _ _ token _ _ _ _ e (as_value brackets phase at end text a) b h =
     value-listed cs nodes (node at end (tree.Text text)) brackets
-        (awaiting-keys cs nodes phase brackets a h.keys) h.new_keys h.done tt
+    (awaiting-keys cs nodes phase brackets a h.keys) h.new_keys h.done tt
 ended-listed cs front rest nodes _ _ token _ _ _ _ e (as_key d outer at end text n) b h =
     let more = node at end (tree.Text text) ∷ [] in
     let now = tells-more cs nodes more d.pairs d.keys h.keys.0 in
@@ -326,7 +348,7 @@ ended-listed cs front rest nodes _ _ token _ _ _ _ e (as_key d outer at end text
 token-listed : (cs : List ℕ) (nodes : List TreeNode) (brackets : List Open) (phase : Phase)
     (t u : Token) (text more bytes made : List ℕ)
     → Listed cs (in_token nodes brackets phase t text bytes)
-        → Listed cs (in_token nodes brackets phase u more made)
+    → Listed cs (in_token nodes brackets phase u more made)
 token-listed cs nodes brackets phase t u text more bytes made h
     = record { keys = h.keys; new_keys = h.new_keys; done = h.done }
 
@@ -340,11 +362,19 @@ moves-listed cs front rest place c _ _ q (word_begins nodes brackets phase k w) 
 moves-listed cs front rest place c _ _ q (bytes_begin nodes brackets phase a) b h
     = token-listed cs nodes brackets phase _ _ [] [] [] [] h
 moves-listed cs front rest place c _ _ q (list_begins nodes brackets phase a d) b h
-    = record { keys = (tt, awaiting-keys cs nodes phase brackets a h.keys); new_keys
-    = (tt, h.new_keys); done = h.done }
+    = record {
+      keys = (tt, awaiting-keys cs nodes phase brackets a h.keys);
+      new_keys
+          = (tt, h.new_keys);
+      done = h.done;
+    }
 moves-listed cs front rest place c _ _ q (dictionary_begins nodes brackets phase a d) b h
-    = record { keys = ((refl, tt), awaiting-keys cs nodes phase brackets a h.keys); new_keys
-    = (tt, h.new_keys); done = h.done }
+    = record {
+      keys = ((refl, tt), awaiting-keys cs nodes phase brackets a h.keys);
+      new_keys
+          = (tt, h.new_keys);
+      done = h.done;
+    }
 moves-listed cs front rest place c _ _ q (comma nodes brackets) b h
     = record { keys = h.keys; new_keys = h.new_keys; done = h.done }
 moves-listed cs front rest place c _ _ q (equals nodes brackets) b h
@@ -353,17 +383,19 @@ moves-listed cs front rest place c _ _ q (semicolon nodes brackets) b h
     = record { keys = h.keys; new_keys = h.new_keys; done = h.done }
 moves-listed cs front rest place c _ _ q (list_ends nodes at done outer phase) b h =
     value-listed cs nodes (node at (place + 1) (tree.Items done)) outer
-        (items-keys cs nodes phase at done outer h.keys) h.new_keys.1 h.done tt
+    (items-keys cs nodes phase at done outer h.keys) h.new_keys.1 h.done tt
 moves-listed cs front rest place c _ _ q (dictionary_ends nodes d outer) b h =
     value-listed cs nodes (node d.place (place + 1) (tree.Pairs d.pairs)) outer h.keys.1
-        h.new_keys.1 h.done (record { keys = d.keys; texts = h.keys.0.0; differ = h.new_keys.0 },
-        h.keys.0.1)
+    h.new_keys.1 h.done (
+      record { keys = d.keys; texts = h.keys.0.0; differ = h.new_keys.0 },
+      h.keys.0.1,
+    )
 moves-listed cs front rest place c _ _ q (word_more nodes brackets phase at text k w) b h
     = token-listed cs nodes brackets phase _ _ text _ [] [] h
 moves-listed cs front rest place c _ _ q (word_ends nodes brackets phase at text u s w t m) b h =
     moves-listed cs front rest place c u s q m
-        (none-started u front (ends-between nodes brackets phase at place text u t))
-        (ended-listed cs front rest nodes brackets phase _ at place text u q t b h)
+    (none-started u front (ends-between nodes brackets phase at place text u t))
+    (ended-listed cs front rest nodes brackets phase _ at place text u q t b h)
 moves-listed cs front rest place c _ _ q (string_more nodes brackets phase at text k n m) b h
     = token-listed cs nodes brackets phase _ _ text _ [] [] h
 moves-listed cs front rest place c _ _ q (string_ends nodes brackets phase at text s e t) b h
@@ -384,7 +416,7 @@ moves-listed cs front rest place c _ _ q (second_digit nodes brackets phase at h
     = token-listed cs nodes brackets phase _ _ [] [] bytes _ h
 moves-listed cs front rest place c _ _ q (bytes_end nodes brackets phase at bytes a) b h =
     value-listed cs nodes (node at (place + 1) (tree.Bytes bytes)) brackets
-        (awaiting-keys cs nodes phase brackets a h.keys) h.new_keys h.done tt
+    (awaiting-keys cs nodes phase brackets a h.keys) h.new_keys h.done tt
 
 closes-listed : (cs : List ℕ) (place : ℕ) (r : Reader) (t : Tree) → Closes place r t → Listed cs r
     → Done cs t.nodes
@@ -402,7 +434,7 @@ reached-listed cs _ rest _ q at_start = start-listed cs
 reached-listed cs _ rest _ q (onward front r s c i h e) =
     let p = q ∙ append_assoc front (c ∷ []) rest in
     moves-listed cs front (c ∷ rest) (width front) c r s p (reached-moves front r s c h e)
-        (reached-started front r h) (reached-listed cs front (c ∷ rest) r p h)
+    (reached-started front r h) (reached-listed cs front (c ∷ rest) r p h)
 
 -- where a key is awaited, the innermost dictionary's keys are those of its pairs
 pub reached-keys : (front : List ℕ) (nodes : List TreeNode) (d : Dictionary) (outer : List Open)
@@ -433,10 +465,10 @@ tree-dictionaries cs t i e = All-weaker (λ n. IsListed cs t.nodes n.value)
 pub key-began : (cs : List ℕ) (t : Tree) (n place end : ℕ) (earlier : List (ℕ × ℕ))
     (number value : ℕ) (later : List (ℕ × ℕ)) → AreScalars cs → run start 0 cs ≡ Ok t
     → slice_get t.nodes n ≡ Some (node place end (tree.Pairs (earlier ++ (number, value) ∷ later)))
-        → Began cs t.nodes earlier number
+    → Began cs t.nodes earlier number
 key-began cs t n place end earlier number value later i e f =
     let pairs = earlier ++ (number, value) ∷ later in
     let k : IsListed cs t.nodes (tree.Pairs pairs)
-        = value-at t.nodes (λ x. IsListed cs t.nodes x.value) n (node place end (tree.Pairs pairs))
-        (tree-listed cs t i e) f in
+    = value-at t.nodes (λ x. IsListed cs t.nodes x.value) n (node place end (tree.Pairs pairs))
+    (tree-listed cs t i e) f in
     each-at cs t.nodes [] earlier number value later k.1

@@ -1,8 +1,8 @@
 -- Worked examples, computed: texts with their refusals, and texts with their trees. Another
 -- program, a recursive descent along the grammar that was written apart from this definition, gives
 -- the same outcomes.
-use Rattle.std.proofs.Common.{◌≡◌, ℕ, List, [], ◌∷◌, ◌++◌, map, replicate, take, Option, Some, None,
-    Result, Ok, Err, refl}
+use Rattle.std.proofs.Common.{◌≡◌, ℕ, List, [], ◌∷◌, ◌++◌, map, replicate, take, Option, Some, None}
+use Rattle.std.proofs.Common.{Result, Ok, Err, refl}
 use Rattle.std.specs.Prelude.{codes, ⊤}
 use Rattle.std.specs.List.{range_with_len, flat_map}
 use lib.Utf8.{encode}
@@ -10,20 +10,22 @@ use Rattle.std.specs.Str.{is_utf8, chars}
 use Rattle.std.specs.Str.Lossy.{utf8_valid_len}
 use Rattle.refusal_codes.specs.declared.refusal.Refusal.{Refusal}
 use Rattle.refusal_codes.specs.declared.rule.Rule.{Rule}
-use Rattle.refusal_codes.specs.declared.rule.Rule.TheVariants.{NotUtf8, UnexpectedByte,
-    UnexpectedEnd, BadEscape, DuplicateKey, TooDeep, TrailingText}
+use Rattle.refusal_codes.specs.declared.rule.Rule.TheVariants.{NotUtf8, UnexpectedByte}
+use Rattle.refusal_codes.specs.declared.rule.Rule.TheVariants.{UnexpectedEnd, BadEscape}
+use Rattle.refusal_codes.specs.declared.rule.Rule.TheVariants.{DuplicateKey, TooDeep, TrailingText}
 use Rattle.plist_reader.specs.declared.tree.Tree.{Tree}
 use Rattle.plist_reader.specs.declared.tree.TreeNode.{TreeNode}
 use Rattle.plist_reader.specs.declared.tree.TreeValue.{TreeValue}
 use Rattle.plist_reader.specs.declared.tree.TreeValue.TheVariants as tree
 use Rattle.plist_reader.specs.Characters.{is_space, is_word, octal_value, hex_value, byte_of}
-use Rattle.plist_reader.specs.Escapes.{character_of, escape_begun, escape_unit, escape_digit,
-    escape_next}
+use Rattle.plist_reader.specs.Escapes.{character_of, escape_begun, escape_unit, escape_digit}
+use Rattle.plist_reader.specs.Escapes.{escape_next}
 use Rattle.plist_reader.specs.Refusals.{IsRefusal, refusal}
 use Rattle.plist_reader.proofs.OneAnswer.{refusal-of}
-use Rattle.plist_reader.specs.Reading.{start, value_ended, key_ended, text_ended, unexpected_rule,
-    text_begun, bracket_opened, value_begun, list_closed, dictionary_closed, between, in_word,
-    in_quoted, in_bytes, in_half, step, whole, finish, read_of}
+use Rattle.plist_reader.specs.Reading.{start, value_ended, key_ended, text_ended, unexpected_rule}
+use Rattle.plist_reader.specs.Reading.{text_begun, bracket_opened, value_begun, list_closed}
+use Rattle.plist_reader.specs.Reading.{dictionary_closed, between, in_word, in_quoted, in_bytes}
+use Rattle.plist_reader.specs.Reading.{in_half, step, whole, finish, read_of}
 
 -- what an answer unfolds to compute what is read of a literal
 on_literals : ⊤
@@ -314,23 +316,44 @@ triangle_trimmed = refl
 -- bytes
 raw_string : read_of (codes "\"a\n" ++ 195 ∷ 169 ∷ 226 ∷ 130 ∷ 172 ∷ 240 ∷ 159 ∷ 152 ∷ 128
     ∷ codes "\"")
-    ≡ Ok (record { nodes = record { place = 0; end = 13; value
-        = tree.Text (97 ∷ 10 ∷ 195 ∷ 169 ∷ 226 ∷ 130 ∷ 172 ∷ 240 ∷ 159 ∷ 152 ∷ 128 ∷ []) }
-        ∷ []; top = 0 })
+    ≡ Ok (record {
+      nodes = record {
+        place = 0;
+        end = 13;
+        value
+            = tree.Text (97 ∷ 10 ∷ 195 ∷ 169 ∷ 226 ∷ 130 ∷ 172 ∷ 240 ∷ 159 ∷ 152 ∷ 128 ∷ []);
+      }
+          ∷ [];
+      top = 0;
+    })
 unfolding on_literals
 raw_string = refl
 
 -- escapes are undone, and each value has its place and end
 quoted_tree : read_of (codes " \"a\\n\\Ud83d\\Ude00\"")
-    ≡ Ok (record { nodes = record { place = 1; end = 18; value
-        = tree.Text (97 ∷ 10 ∷ 240 ∷ 159 ∷ 152 ∷ 128 ∷ []) } ∷ []; top = 0 })
+    ≡ Ok (record {
+      nodes = record {
+        place = 1;
+        end = 18;
+        value
+            = tree.Text (97 ∷ 10 ∷ 240 ∷ 159 ∷ 152 ∷ 128 ∷ []);
+      } ∷ [];
+      top = 0;
+    })
 unfolding on_literals
 quoted_tree = refl
 
 -- each escape: a carriage return, a tab, a quote, a backslash, a unit of UTF-16, and octal digits
 escaped_tree : read_of (codes "\"\\r\\t\\\"\\\\\\U00e9\\101\"")
-    ≡ Ok (record { nodes = record { place = 0; end = 20; value
-        = tree.Text (13 ∷ 9 ∷ 34 ∷ 92 ∷ 195 ∷ 169 ∷ 65 ∷ []) } ∷ []; top = 0 })
+    ≡ Ok (record {
+      nodes = record {
+        place = 0;
+        end = 20;
+        value
+            = tree.Text (13 ∷ 9 ∷ 34 ∷ 92 ∷ 195 ∷ 169 ∷ 65 ∷ []);
+      } ∷ [];
+      top = 0;
+    })
 unfolding on_literals
 escaped_tree = refl
 

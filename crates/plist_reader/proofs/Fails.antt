@@ -1,20 +1,21 @@
 -- Where a step refuses a character, case by case.
-use Rattle.std.proofs.Common.{◌≡◌, ℕ, ◌+◌, ◌≤◌, Bool, true, false, cond, eqb, ltb, ◌&&◌, not, List,
-    [], ◌∷◌, length, Option, Some, None, Result, Ok, Err, refl, sym, subst, IfOk}
+use Rattle.std.proofs.Common.{◌≡◌, ℕ, ◌+◌, ◌≤◌, Bool, true, false, cond, eqb, ltb, ◌&&◌, not, List}
+use Rattle.std.proofs.Common.{[], ◌∷◌, length, Option, Some, None, Result, Ok, Err, refl, sym}
+use Rattle.std.proofs.Common.{subst, IfOk}
 use Rattle.std.specs.Prelude.{IfErr}
 use Rattle.std.proofs.lemmas.Bool.{false≢true, ltb-false, both_ways, eqb-true, le-ltb}
 use Rattle.refusal_codes.specs.declared.refusal.Refusal.{Refusal}
-use Rattle.refusal_codes.specs.declared.rule.Rule.TheVariants.{UnexpectedByte, BadEscape,
-    DuplicateKey, TooDeep, TrailingText}
+use Rattle.refusal_codes.specs.declared.rule.Rule.TheVariants.{UnexpectedByte, BadEscape}
+use Rattle.refusal_codes.specs.declared.rule.Rule.TheVariants.{DuplicateKey, TooDeep, TrailingText}
 use Rattle.plist_reader.specs.declared.tree.TreeNode.{TreeNode}
 use Rattle.plist_reader.specs.declared.reader.Reader.{Reader}
 use Rattle.plist_reader.specs.declared.reader.Dictionary.{Dictionary}
 use Rattle.plist_reader.specs.declared.reader.Phase.{Phase}
-use Rattle.plist_reader.specs.declared.reader.Phase.TheVariants.{Value, Item, ItemEnd, Key, KeyEnd,
-    PairEnd, End}
+use Rattle.plist_reader.specs.declared.reader.Phase.TheVariants.{Value, Item, ItemEnd, Key, KeyEnd}
+use Rattle.plist_reader.specs.declared.reader.Phase.TheVariants.{PairEnd, End}
 use Rattle.plist_reader.specs.declared.reader.Token.{Token}
-use Rattle.plist_reader.specs.declared.reader.Token.TheVariants.{Between, Word, Quoted, Escape,
-    Bytes, Half}
+use Rattle.plist_reader.specs.declared.reader.Token.TheVariants.{Between, Word, Quoted, Escape}
+use Rattle.plist_reader.specs.declared.reader.Token.TheVariants.{Bytes, Half}
 use Rattle.plist_reader.specs.declared.reader.Open.{Open}
 use Rattle.plist_reader.specs.declared.reader.Open.TheVariants.{Items, Pairs}
 use Rattle.plist_reader.specs.declared.escape.Escape.{Escape as EscapeState}
@@ -25,10 +26,11 @@ use Rattle.plist_reader.specs.Escapes.{escape_next}
 use Rattle.plist_reader.specs.Keys.{is_among}
 use Rattle.plist_reader.specs.Refusals.{refusal}
 use Rattle.refusal_codes.specs.Gives.{◌>>=◌}
-use Rattle.plist_reader.specs.Reading.{is_bracket, is_end, max_depth, unexpected, unexpected_rule,
-    key_ended, text_ended, text_begun, bracket_opened, value_begun, list_closed, dictionary_closed,
-    awaited, between, in_word, in_quoted, after_escape, after_hex, after_half, in_bytes, in_half,
-    step_in, step}
+use Rattle.plist_reader.specs.Reading.{is_bracket, is_end, max_depth, unexpected, unexpected_rule}
+use Rattle.plist_reader.specs.Reading.{key_ended, text_ended, text_begun, bracket_opened}
+use Rattle.plist_reader.specs.Reading.{value_begun, list_closed, dictionary_closed, awaited}
+use Rattle.plist_reader.specs.Reading.{between, in_word, in_quoted, after_escape, after_hex}
+use Rattle.plist_reader.specs.Reading.{after_half, in_bytes, in_half, step_in, step}
 use Rattle.plist_reader.proofs.GivenTokens.{ready, in_token, CanBegin, IsAwaiting}
 use Rattle.plist_reader.proofs.SpelledSteps.{Agrees, GoodIn, Good}
 use Rattle.plist_reader.proofs.Moves.{TextEnds, as_value, as_key, text_ends}
@@ -97,14 +99,14 @@ stops-value_begun : (u : Reader) (place c : ℕ) → IfErr (value_begun u place 
 unfolding value_begun bracket_opened
 stops-value_begun u place c = if_err-known (StopsAt place c u) (is_bracket c) _ _
     (λ _. if_err-known (StopsAt place c u) (ltb (length u.brackets) max_depth) _ _ (λ _. tt)
-        (λ _. stops-unexpected u place c))
+    (λ _. stops-unexpected u place c))
     (λ _. if_err-known (StopsAt place c u) (eqb c 60) _ _ (λ _. tt)
-        (λ _. stops-text_begun u place c))
+    (λ _. stops-text_begun u place c))
 
 stops-list_closed : (nodes : List TreeNode) (brackets : List Open) (phase : Phase) (place c : ℕ)
     → Agrees Item brackets
     → IfErr (list_closed (ready nodes brackets phase) place)
-        (StopsAt place c (ready nodes brackets phase))
+    (StopsAt place c (ready nodes brackets phase))
 unfolding list_closed
 stops-list_closed nodes [] phase place c g = absurd g
 stops-list_closed nodes (Pairs d ∷ outer) phase place c g = absurd g
@@ -113,7 +115,7 @@ stops-list_closed nodes (Items at done ∷ outer) phase place c g = tt
 stops-dictionary_closed : (nodes : List TreeNode) (brackets : List Open) (phase : Phase)
     (place c : ℕ) → Agrees Key brackets
     → IfErr (dictionary_closed (ready nodes brackets phase) place)
-        (StopsAt place c (ready nodes brackets phase))
+    (StopsAt place c (ready nodes brackets phase))
 unfolding dictionary_closed
 stops-dictionary_closed nodes [] phase place c g = absurd g
 stops-dictionary_closed nodes (Items at done ∷ outer) phase place c g = absurd g
@@ -122,22 +124,22 @@ stops-dictionary_closed nodes (Pairs d ∷ outer) phase place c g = tt
 stops-awaited : (nodes : List TreeNode) (brackets : List Open) (phase : Phase) (place c : ℕ)
     → Agrees phase brackets
     → IfErr (awaited (ready nodes brackets phase) place c phase)
-        (StopsAt place c (ready nodes brackets phase))
+    (StopsAt place c (ready nodes brackets phase))
 stops-awaited nodes brackets Value place c g
     = stops-value_begun (ready nodes brackets Value) place c
 stops-awaited nodes brackets Item place c g =
     if_err-known (StopsAt place c (ready nodes brackets Item)) (eqb c 41) _ _
-        (λ _. stops-list_closed nodes brackets Item place c g)
-        (λ _. stops-value_begun (ready nodes brackets Item) place c)
+    (λ _. stops-list_closed nodes brackets Item place c g)
+    (λ _. stops-value_begun (ready nodes brackets Item) place c)
 stops-awaited nodes brackets ItemEnd place c g =
     if_err-known (StopsAt place c (ready nodes brackets ItemEnd)) (eqb c 41) _ _
-        (λ _. stops-list_closed nodes brackets ItemEnd place c g)
-        (λ _. if_err-known (StopsAt place c (ready nodes brackets ItemEnd)) (eqb c 44) _ _ (λ _. tt)
-        (λ _. stops-unexpected (ready nodes brackets ItemEnd) place c))
+    (λ _. stops-list_closed nodes brackets ItemEnd place c g)
+    (λ _. if_err-known (StopsAt place c (ready nodes brackets ItemEnd)) (eqb c 44) _ _ (λ _. tt)
+    (λ _. stops-unexpected (ready nodes brackets ItemEnd) place c))
 stops-awaited nodes brackets Key place c g =
     if_err-known (StopsAt place c (ready nodes brackets Key)) (eqb c 125) _ _
-        (λ _. stops-dictionary_closed nodes brackets Key place c g)
-        (λ _. stops-text_begun (ready nodes brackets Key) place c)
+    (λ _. stops-dictionary_closed nodes brackets Key place c g)
+    (λ _. stops-text_begun (ready nodes brackets Key) place c)
 stops-awaited nodes brackets KeyEnd place c g
     = if_err-known (StopsAt place c (ready nodes brackets KeyEnd)) (eqb c 61) _ _ (λ _. tt)
     (λ _. stops-unexpected (ready nodes brackets KeyEnd) place c)
@@ -150,7 +152,7 @@ stops-awaited nodes brackets (End n) place c g
 stops-between : (nodes : List TreeNode) (brackets : List Open) (phase : Phase) (place c : ℕ)
     → Agrees phase brackets
     → IfErr (between (ready nodes brackets phase) place c)
-        (StopsAt place c (ready nodes brackets phase))
+    (StopsAt place c (ready nodes brackets phase))
 unfolding between
 stops-between nodes brackets phase place c g
     = if_err-known (StopsAt place c (ready nodes brackets phase)) (is_space c) _ _ (λ _. tt)
@@ -180,23 +182,23 @@ pub data Fails (place c : ℕ) : Reader → Refusal → Type 0 where
   word_twice : (nodes : List TreeNode) (d : Dictionary) (outer : List Open) (at : ℕ) (text : List ℕ)
       → is_word c ≡ false → is_among text d.keys ≡ true
       → Fails place c (in_token nodes (Pairs d ∷ outer) Key (Word at) text [])
-          (refusal DuplicateKey at)
+      (refusal DuplicateKey at)
   string_twice : (nodes : List TreeNode) (d : Dictionary) (outer : List Open) (at : ℕ)
       (text : List ℕ) → c ≡ 34 → is_among text d.keys ≡ true
       → Fails place c (in_token nodes (Pairs d ∷ outer) Key (Quoted at) text [])
-          (refusal DuplicateKey at)
+      (refusal DuplicateKey at)
   escape_fails : (nodes : List TreeNode) (brackets : List Open) (phase : Phase) (at backslash : ℕ)
       (text : List ℕ) (escape : EscapeState)
       → Fails place c (in_token nodes brackets phase (Escape at backslash escape) text [])
-          (refusal BadEscape backslash)
+      (refusal BadEscape backslash)
   bytes_fail : (nodes : List TreeNode) (brackets : List Open) (phase : Phase) (at : ℕ)
       (bytes : List ℕ) (e : Refusal) → IsAwaiting phase
       → StopsAt place c (in_token nodes brackets phase (Bytes at) [] bytes) e
-          → Fails place c (in_token nodes brackets phase (Bytes at) [] bytes) e
+      → Fails place c (in_token nodes brackets phase (Bytes at) [] bytes) e
   half_fails : (nodes : List TreeNode) (brackets : List Open) (phase : Phase) (at high : ℕ)
       (bytes : List ℕ) (e : Refusal) → IsAwaiting phase
       → StopsAt place c (in_token nodes brackets phase (Half at high) [] bytes) e
-          → Fails place c (in_token nodes brackets phase (Half at high) [] bytes) e
+      → Fails place c (in_token nodes brackets phase (Half at high) [] bytes) e
 
 -- a text that doesn't end is a key that its dictionary has
 record IsKnownKey (nodes : List TreeNode) (brackets : List Open) (phase : Phase) (at : ℕ)
@@ -211,7 +213,7 @@ record IsKnownKey (nodes : List TreeNode) (brackets : List Open) (phase : Phase)
 known-text : (nodes : List TreeNode) (brackets : List Open) (phase : Phase) (token : Token)
     (at end : ℕ) (text : List ℕ) → CanBegin phase → Agrees phase brackets
     → IfErr (text_ended (in_token nodes brackets phase token text []) at end)
-        (IsKnownKey nodes brackets phase at text)
+    (IsKnownKey nodes brackets phase at text)
 unfolding text_ended key_ended
 known-text nodes brackets Value token at end text b g = tt
 known-text nodes brackets Item token at end text b g = tt
@@ -219,8 +221,15 @@ known-text nodes [] Key token at end text b g = absurd g
 known-text nodes (Items p done ∷ outer) Key token at end text b g = absurd g
 known-text nodes (Pairs d ∷ outer) Key token at end text b g =
     if_err-known (IsKnownKey nodes (Pairs d ∷ outer) Key at text) (is_among text d.keys) _ _
-        (λ k. record { d = d; outer = outer; brackets_are = refl; phase_is = refl; among = k; error
-        = refl }) (λ _. tt)
+    (λ k. record {
+      d = d;
+      outer = outer;
+      brackets_are = refl;
+      phase_is = refl;
+      among = k;
+      error
+          = refl;
+    }) (λ _. tt)
 known-text nodes brackets ItemEnd token at end text b g = absurd b
 known-text nodes brackets KeyEnd token at end text b g = absurd b
 known-text nodes brackets PairEnd token at end text b g = absurd b
@@ -229,25 +238,25 @@ known-text nodes brackets (End n) token at end text b g = absurd b
 twice-word : (nodes : List TreeNode) (brackets : List Open) (phase : Phase) (at place c : ℕ)
     (text : List ℕ) (e : Refusal) → is_word c ≡ false
     → IsKnownKey nodes brackets phase at text e
-        → Fails place c (in_token nodes brackets phase (Word at) text []) e
+    → Fails place c (in_token nodes brackets phase (Word at) text []) e
 twice-word nodes brackets phase at place c text e w k =
     let P : List Open → Phase → Refusal → Type 0
-        = λ x y z. Fails place c (in_token nodes x y (Word at) text []) z in
+    = λ x y z. Fails place c (in_token nodes x y (Word at) text []) z in
     subst (λ (x : List Open). P x phase e) (sym k.brackets_are)
-        (subst (λ (y : Phase). P (Pairs k.d ∷ k.outer) y e) (sym k.phase_is)
-        (subst (λ (z : Refusal). P (Pairs k.d ∷ k.outer) Key z) (sym k.error)
-        (word_twice nodes k.d k.outer at text w k.among)))
+    (subst (λ (y : Phase). P (Pairs k.d ∷ k.outer) y e) (sym k.phase_is)
+    (subst (λ (z : Refusal). P (Pairs k.d ∷ k.outer) Key z) (sym k.error)
+    (word_twice nodes k.d k.outer at text w k.among)))
 
 twice-string : (nodes : List TreeNode) (brackets : List Open) (phase : Phase) (at place c : ℕ)
     (text : List ℕ) (e : Refusal) → c ≡ 34 → IsKnownKey nodes brackets phase at text e
     → Fails place c (in_token nodes brackets phase (Quoted at) text []) e
 twice-string nodes brackets phase at place c text e w k =
     let P : List Open → Phase → Refusal → Type 0
-        = λ x y z. Fails place c (in_token nodes x y (Quoted at) text []) z in
+    = λ x y z. Fails place c (in_token nodes x y (Quoted at) text []) z in
     subst (λ (x : List Open). P x phase e) (sym k.brackets_are)
-        (subst (λ (y : Phase). P (Pairs k.d ∷ k.outer) y e) (sym k.phase_is)
-        (subst (λ (z : Refusal). P (Pairs k.d ∷ k.outer) Key z) (sym k.error)
-        (string_twice nodes k.d k.outer at text w k.among)))
+    (subst (λ (y : Phase). P (Pairs k.d ∷ k.outer) y e) (sym k.phase_is)
+    (subst (λ (z : Refusal). P (Pairs k.d ∷ k.outer) Key z) (sym k.error)
+    (string_twice nodes k.d k.outer at text w k.among)))
 
 -- the end of a text, and then the character
 fails-bind : (P : Refusal → Type 0) (Q : Reader → Type 0) (d : Result Reader Refusal)
@@ -259,41 +268,41 @@ fails-bind P Q (Err e) f h q k = h
 fails-in_word : (nodes : List TreeNode) (brackets : List Open) (phase : Phase) (at place c : ℕ)
     (text : List ℕ) → CanBegin phase → Agrees phase brackets
     → IfErr (in_word (in_token nodes brackets phase (Word at) text []) at place c)
-        (Fails place c (in_token nodes brackets phase (Word at) text []))
+    (Fails place c (in_token nodes brackets phase (Word at) text []))
 unfolding in_word
 fails-in_word nodes brackets phase at place c text b g =
     let r = in_token nodes brackets phase (Word at) text [] in
     let F : Refusal → Type 0 = λ e. Fails place c r e in
     if_err-known F (is_word c) _ _ (λ _. tt)
     (λ w. fails-bind F (TextEnds nodes brackets phase at place text) (text_ended r at place)
-        (λ s. between s place c)
+    (λ s. between s place c)
     (if_err-weaker (IsKnownKey nodes brackets phase at text) F (text_ended r at place)
-        (λ e k. twice-word nodes brackets phase at place c text e w k)
-        (known-text nodes brackets phase (Word at) at place text b g))
+    (λ e k. twice-word nodes brackets phase at place c text e w k)
+    (known-text nodes brackets phase (Word at) at place text b g))
     (text_ends nodes brackets phase (Word at) at place text b g)
     (λ u k. if_err-weaker (StopsAt place c u) F (between u place c)
-        (λ e q. word_fails nodes brackets phase at text u e k q)
-        (stops-ended nodes brackets phase at place text u place c k)))
+    (λ e q. word_fails nodes brackets phase at text u e k q)
+    (stops-ended nodes brackets phase at place text u place c k)))
 
 fails-in_quoted : (nodes : List TreeNode) (brackets : List Open) (phase : Phase) (at place c : ℕ)
     (text : List ℕ) → CanBegin phase → Agrees phase brackets
     → IfErr (in_quoted (in_token nodes brackets phase (Quoted at) text []) at place c)
-        (Fails place c (in_token nodes brackets phase (Quoted at) text []))
+    (Fails place c (in_token nodes brackets phase (Quoted at) text []))
 unfolding in_quoted
 fails-in_quoted nodes brackets phase at place c text b g =
     let r = in_token nodes brackets phase (Quoted at) text [] in
     let F : Refusal → Type 0 = λ e. Fails place c r e in
     if_err-known F (eqb c 34) _ _
     (λ w. if_err-weaker (IsKnownKey nodes brackets phase at text) F (text_ended r at (place + 1))
-        (λ e k. twice-string nodes brackets phase at place c text e (eqb-true c 34 w) k)
-        (known-text nodes brackets phase (Quoted at) at (place + 1) text b g))
+    (λ e k. twice-string nodes brackets phase at place c text e (eqb-true c 34 w) k)
+    (known-text nodes brackets phase (Quoted at) at (place + 1) text b g))
     (λ _. if_err-known F (eqb c 92) _ _ (λ _. tt) (λ _. tt))
 
 fails-after_escape : (nodes : List TreeNode) (brackets : List Open) (phase : Phase)
     (at backslash place c : ℕ) (text : List ℕ) (escape : EscapeState) (out : Escaped)
     → IfErr (after_escape (in_token nodes brackets phase (Escape at backslash escape) text []) at
-        backslash out) (Fails place c (in_token nodes brackets phase (Escape at backslash escape)
-        text []))
+    backslash out) (Fails place c (in_token nodes brackets phase (Escape at backslash escape)
+    text []))
 fails-after_escape nodes brackets phase at backslash place c text escape (More next) = tt
 fails-after_escape nodes brackets phase at backslash place c text escape (Whole character) = tt
 fails-after_escape nodes brackets phase at backslash place c text escape Wrong
@@ -302,13 +311,13 @@ fails-after_escape nodes brackets phase at backslash place c text escape Wrong
 fails-in_bytes : (nodes : List TreeNode) (brackets : List Open) (phase : Phase) (at place c : ℕ)
     (bytes : List ℕ) → IsAwaiting phase
     → IfErr (in_bytes (in_token nodes brackets phase (Bytes at) [] bytes) at place c)
-        (Fails place c (in_token nodes brackets phase (Bytes at) [] bytes))
+    (Fails place c (in_token nodes brackets phase (Bytes at) [] bytes))
 unfolding in_bytes
 fails-in_bytes nodes brackets phase at place c bytes a =
     let r = in_token nodes brackets phase (Bytes at) [] bytes in
     let F : Refusal → Type 0 = λ e. Fails place c r e in
     if_err-known F (is_space c) _ _ (λ _. tt)
-        (λ _. if_err-known F (eqb c 62) _ _ (λ _. tt) (λ _. digit (hex_value c)))
+    (λ _. if_err-known F (eqb c 62) _ _ (λ _. tt) (λ _. digit (hex_value c)))
   where
     digit : (o : Option ℕ) → IfErr (after_hex (in_token nodes brackets phase (Bytes at) [] bytes) at
         place c o) (Fails place c (in_token nodes brackets phase (Bytes at) [] bytes))
@@ -319,11 +328,11 @@ fails-in_bytes nodes brackets phase at place c bytes a =
 fails-in_half : (nodes : List TreeNode) (brackets : List Open) (phase : Phase) (at high place c : ℕ)
     (bytes : List ℕ) → IsAwaiting phase
     → IfErr (in_half (in_token nodes brackets phase (Half at high) [] bytes) at high place c)
-        (Fails place c (in_token nodes brackets phase (Half at high) [] bytes))
+    (Fails place c (in_token nodes brackets phase (Half at high) [] bytes))
 unfolding in_half
 fails-in_half nodes brackets phase at high place c bytes a =
     if_err-known (λ e. Fails place c (in_token nodes brackets phase (Half at high) [] bytes) e)
-        (is_space c) _ _ (λ _. tt) (λ _. digit (byte_of high c))
+    (is_space c) _ _ (λ _. tt) (λ _. digit (byte_of high c))
   where
     digit : (o : Option ℕ) → IfErr (after_half
         (in_token nodes brackets phase (Half at high) [] bytes) at place c o)
@@ -340,30 +349,30 @@ FailsOn nodes brackets phase token place c text bytes
 fails-step_in : (nodes : List TreeNode) (brackets : List Open) (phase : Phase) (token : Token)
     (text bytes : List ℕ) (place c : ℕ)
     → GoodIn token (in_token nodes brackets phase token text bytes)
-        → FailsOn nodes brackets phase token place c text bytes
+    → FailsOn nodes brackets phase token place c text bytes
 fails-step_in nodes brackets phase Between text bytes place c g =
     let r = ready nodes brackets phase in
     subst (λ (x : List ℕ). FailsOn nodes brackets phase Between place c x bytes) (sym g.1)
-        (subst (λ (y : List ℕ). FailsOn nodes brackets phase Between place c [] y) (sym g.2)
+    (subst (λ (y : List ℕ). FailsOn nodes brackets phase Between place c [] y) (sym g.2)
     (if_err-weaker (StopsAt place c r) (Fails place c r) (between r place c)
-        (λ e k. between_fails nodes brackets phase e k)
-        (stops-between nodes brackets phase place c g.0)))
+    (λ e k. between_fails nodes brackets phase e k)
+    (stops-between nodes brackets phase place c g.0)))
 fails-step_in nodes brackets phase (Word at) text bytes place c g =
     subst (λ (y : List ℕ). FailsOn nodes brackets phase (Word at) place c text y) (sym g.2)
-        (fails-in_word nodes brackets phase at place c text g.1 g.0)
+    (fails-in_word nodes brackets phase at place c text g.1 g.0)
 fails-step_in nodes brackets phase (Quoted at) text bytes place c g =
     subst (λ (y : List ℕ). FailsOn nodes brackets phase (Quoted at) place c text y) (sym g.2)
-        (fails-in_quoted nodes brackets phase at place c text g.1 g.0)
+    (fails-in_quoted nodes brackets phase at place c text g.1 g.0)
 fails-step_in nodes brackets phase (Escape at backslash escape) text bytes place c g =
     subst (λ (y : List ℕ). FailsOn nodes brackets phase (Escape at backslash escape) place c text y)
-        (sym g.2) (fails-after_escape nodes brackets phase at backslash place c text escape
-        (escape_next escape c))
+    (sym g.2) (fails-after_escape nodes brackets phase at backslash place c text escape
+    (escape_next escape c))
 fails-step_in nodes brackets phase (Bytes at) text bytes place c g =
     subst (λ (x : List ℕ). FailsOn nodes brackets phase (Bytes at) place c x bytes) (sym g.2)
-        (fails-in_bytes nodes brackets phase at place c bytes g.1)
+    (fails-in_bytes nodes brackets phase at place c bytes g.1)
 fails-step_in nodes brackets phase (Half at high) text bytes place c g =
     subst (λ (x : List ℕ). FailsOn nodes brackets phase (Half at high) place c x bytes) (sym g.2)
-        (fails-in_half nodes brackets phase at high place c bytes g.1)
+    (fails-in_half nodes brackets phase at high place c bytes g.1)
 
 pub fails : (r : Reader) (place c : ℕ) → Good r → IfErr (step r place c) (Fails place c r)
 unfolding step

@@ -1,7 +1,7 @@
 -- What a reader knows of the characters that led to it: which token is open at their end, and what
 -- stands in it.
-use Rattle.std.proofs.Common.{◌≡◌, ℕ, ◌+◌, ◌<◌, true, List, [], ◌∷◌, ◌++◌, length, Some, refl, sym,
-    ap, subst, ◌∙◌, arith, append_assoc}
+use Rattle.std.proofs.Common.{◌≡◌, ℕ, ◌+◌, ◌<◌, true, List, [], ◌∷◌, ◌++◌, length, Some, refl, sym}
+use Rattle.std.proofs.Common.{ap, subst, ◌∙◌, arith, append_assoc}
 use Rattle.std.specs.Char.{IsScalar}
 use Rattle.std.proofs.lemmas.List.{append-nil, length_push}
 use Rattle.std.proofs.lemmas.Str.{len_utf8_bounds}
@@ -11,8 +11,8 @@ use Rattle.plist_reader.specs.declared.tree.TreeValue.TheVariants as tree
 use Rattle.plist_reader.specs.declared.reader.Reader.{Reader}
 use Rattle.plist_reader.specs.declared.reader.Phase.{Phase}
 use Rattle.plist_reader.specs.declared.reader.Token.{Token}
-use Rattle.plist_reader.specs.declared.reader.Token.TheVariants.{Between, Word, Quoted, Escape,
-    Bytes, Half}
+use Rattle.plist_reader.specs.declared.reader.Token.TheVariants.{Between, Word, Quoted, Escape}
+use Rattle.plist_reader.specs.declared.reader.Token.TheVariants.{Bytes, Half}
 use Rattle.plist_reader.specs.declared.reader.Open.{Open}
 use Rattle.plist_reader.specs.declared.escape.Escape.{Escape as EscapeState}
 use Rattle.plist_reader.specs.declared.escape.Escape.TheVariants.{Begun}
@@ -20,16 +20,18 @@ use Rattle.plist_reader.specs.declared.escape.Escaped.{Escaped}
 use Rattle.plist_reader.specs.declared.escape.Escaped.TheVariants.{More, Whole}
 use Rattle.plist_reader.specs.Characters.{is_word, hex_value}
 use Rattle.plist_reader.specs.Escapes.{escape_next}
-use Rattle.plist_reader.specs.Grammar.{node, width, IsWord, IsQuoted, no_more, plain, escaped,
-    IsEscape}
+use Rattle.plist_reader.specs.Grammar.{node, width, IsWord, IsQuoted, no_more, plain, escaped}
+use Rattle.plist_reader.specs.Grammar.{IsEscape}
 use Rattle.plist_reader.proofs.GivenTokens.{settled, settled-between, width-append}
 use Rattle.plist_reader.proofs.Scalars.{all-append}
 use Rattle.plist_reader.proofs.SpelledEscapes.{Front, begun, Means, means-next}
-use Rattle.plist_reader.proofs.Moves.{TextEnds, as_value, as_key, Moves, space_between,
-    string_begins, word_begins, bytes_begin, list_begins, dictionary_begins, comma, equals,
-    semicolon, list_ends, dictionary_ends, word_more, word_ends, string_more, string_ends,
-    escape_begins, escape_more, escape_ends, space_in_bytes, first_digit, space_in_half,
-    second_digit, bytes_end}
+use Rattle.plist_reader.proofs.Moves.{TextEnds, as_value, as_key, Moves, space_between}
+use Rattle.plist_reader.proofs.Moves.{string_begins, word_begins, bytes_begin, list_begins}
+use Rattle.plist_reader.proofs.Moves.{dictionary_begins, comma, equals, semicolon, list_ends}
+use Rattle.plist_reader.proofs.Moves.{dictionary_ends, word_more, word_ends, string_more}
+use Rattle.plist_reader.proofs.Moves.{string_ends, escape_begins, escape_more, escape_ends}
+use Rattle.plist_reader.proofs.Moves.{space_in_bytes, first_digit, space_in_half, second_digit}
+use Rattle.plist_reader.proofs.Moves.{bytes_end}
 use Rattle.plist_reader.proofs.CanGoOn.{IsLively}
 
 -- ---- tokens at the end of a front
@@ -90,12 +92,12 @@ quoted-append _ _ ys b no_more k = k
 quoted-append _ _ ys b (plain c cs bytes i n m q) k =
     let P : List ℕ → Type 0 = λ x. IsQuoted ((c ∷ cs) ++ ys) x in
     subst P (sym (append_assoc (encode c) bytes b))
-        (plain c (cs ++ ys) (bytes ++ b) i n m (quoted-append cs bytes ys b q k))
+    (plain c (cs ++ ys) (bytes ++ b) i n m (quoted-append cs bytes ys b q k))
 quoted-append _ _ ys b (escaped c escape cs bytes e q) k =
     let P : List ℕ → List ℕ → Type 0 = λ x y. IsQuoted (92 ∷ x) y in
     subst (λ (y : List ℕ). P ((escape ++ cs) ++ ys) y) (sym (append_assoc (encode c) bytes b))
     (subst (λ (x : List ℕ). P x (encode c ++ (bytes ++ b))) (sym (append_assoc escape cs ys))
-        (escaped c escape (cs ++ ys) (bytes ++ b) e (quoted-append cs bytes ys b q k)))
+    (escaped c escape (cs ++ ys) (bytes ++ b) e (quoted-append cs bytes ys b q k)))
 
 one-plain : (c : ℕ) → IsScalar c → ¬ (c ≡ 34) → ¬ (c ≡ 92) → IsQuoted (c ∷ []) (encode c)
 one-plain c i n m = let P : List ℕ → Type 0 = λ x. IsQuoted (c ∷ []) x
@@ -105,8 +107,8 @@ one-escaped : (c : ℕ) (escape : List ℕ) → IsEscape escape c → IsQuoted (
 one-escaped c escape e =
     let P : List ℕ → List ℕ → Type 0 = λ x y. IsQuoted (92 ∷ x) y in
     subst (λ (y : List ℕ). P escape y) (append-nil (encode c))
-        (subst (λ (x : List ℕ). P x (encode c ++ [])) (append-nil escape)
-        (escaped c escape [] [] e no_more))
+    (subst (λ (x : List ℕ). P x (encode c ++ [])) (append-nil escape)
+    (escaped c escape [] [] e no_more))
 
 wider : (front : List ℕ) (c : ℕ) → width front < width (front ++ c ∷ [])
 wider front c = omega (arith, width-append front (c ∷ []), len_utf8_bounds c)
@@ -116,9 +118,14 @@ still_wider front c at h = omega (arith, h, width-append front (c ∷ []))
 
 word_begun-in : (front : List ℕ) (place c : ℕ) → place ≡ width front → is_word c ≡ true
     → WordIn (front ++ c ∷ []) place (c ∷ [])
-word_begun-in front place c e w = record
-    { before = front; word = c ∷ []; parts = refl; place = e; own
-    = record { some = omega arith; own = (w, tt); same = refl } }
+word_begun-in front place c e w = record {
+  before = front;
+  word = c ∷ [];
+  parts = refl;
+  place = e;
+  own
+      = record { some = omega arith; own = (w, tt); same = refl };
+}
 
 word_more-in : (front text : List ℕ) (at c : ℕ) → is_word c ≡ true → WordIn front at text
     → WordIn (front ++ c ∷ []) at (text ++ c ∷ [])
@@ -127,9 +134,13 @@ word_more-in front text at c w h = record {
   word = h.word ++ c ∷ [];
   parts = ap (λ x. x ++ c ∷ []) h.parts ∙ append_assoc h.before h.word (c ∷ []);
   place = h.place;
-  own = record { some = omega (arith, length_push h.word c); own
-      = all-append (λ x. is_word x ≡ true) h.word (c ∷ []) h.own.own (w, tt); same
-      = ap (λ x. x ++ c ∷ []) h.own.same };
+  own = record {
+    some = omega (arith, length_push h.word c);
+    own
+        = all-append (λ x. is_word x ≡ true) h.word (c ∷ []) h.own.own (w, tt);
+    same
+        = ap (λ x. x ++ c ∷ []) h.own.same;
+  };
 }
 
 string_begun-in : (front : List ℕ) (place c : ℕ) → place ≡ width front → c ≡ 34

@@ -1,9 +1,10 @@
 -- What the reader makes of the characters that spell an escape.
-use Rattle.std.proofs.Common.{inl, inr, ◌≡◌, ℕ, zero, suc, ◌+◌, ◌-◌, ◌*◌, ◌<◌, ◌≤◌, Bool, true,
-    false, cond, eqb, ltb, leb, ◌&&◌, List, [], ◌∷◌, ◌++◌, Some, Ok, refl, sym, ap, ◌∙◌, arith}
+use Rattle.std.proofs.Common.{inl, inr, ◌≡◌, ℕ, zero, suc, ◌+◌, ◌-◌, ◌*◌, ◌<◌, ◌≤◌, Bool, true}
+use Rattle.std.proofs.Common.{false, cond, eqb, ltb, leb, ◌&&◌, List, [], ◌∷◌, ◌++◌, Some, Ok, refl}
+use Rattle.std.proofs.Common.{sym, ap, ◌∙◌, arith}
 use Rattle.std.specs.Prelude.{◌⊎◌}
-use Rattle.std.proofs.lemmas.Bool.{ltb-true, ltb-false, leb-true, eqb-true, both_ways, and_parts,
-    lt-ltb, le-ltb, le-leb, cases_Bool}
+use Rattle.std.proofs.lemmas.Bool.{ltb-true, ltb-false, leb-true, eqb-true, both_ways, and_parts}
+use Rattle.std.proofs.lemmas.Bool.{lt-ltb, le-ltb, le-leb, cases_Bool}
 use Rattle.std.proofs.lemmas.Option.{cond_some}
 use Rattle.std.specs.Char.{len_utf8}
 use lib.Utf8.{encode, scalar}
@@ -12,15 +13,17 @@ use Rattle.plist_reader.specs.declared.reader.Phase.{Phase}
 use Rattle.plist_reader.specs.declared.reader.Token.TheVariants.{Quoted, Escape}
 use Rattle.plist_reader.specs.declared.reader.Open.{Open}
 use Rattle.plist_reader.specs.declared.escape.Escape.{Escape as EscapeState}
-use Rattle.plist_reader.specs.declared.escape.Escape.TheVariants.{Begun, Octal, Octals, Unit0,
-    Unit1, Unit2, Unit3, High, HighBackslash, Low, Low1, Low2, Low3}
+use Rattle.plist_reader.specs.declared.escape.Escape.TheVariants.{Begun, Octal, Octals, Unit0}
+use Rattle.plist_reader.specs.declared.escape.Escape.TheVariants.{Unit1, Unit2, Unit3, High}
+use Rattle.plist_reader.specs.declared.escape.Escape.TheVariants.{HighBackslash, Low, Low1, Low2}
+use Rattle.plist_reader.specs.declared.escape.Escape.TheVariants.{Low3}
 use Rattle.plist_reader.specs.declared.escape.Escaped.TheVariants.{More, Whole}
 use Rattle.plist_reader.specs.Characters.{octal_value, hex_value, is_between}
-use Rattle.plist_reader.specs.Escapes.{character_of, escape_begun, escape_unit, escape_digit,
-    escape_next}
+use Rattle.plist_reader.specs.Escapes.{character_of, escape_begun, escape_unit, escape_digit}
+use Rattle.plist_reader.specs.Escapes.{escape_next}
 use Rattle.plist_reader.specs.Reading.{step, run}
-use Rattle.plist_reader.specs.Grammar.{width, IsUnit, IsHigh, IsLow, IsEscape, quote, backslash,
-    line_feed, carriage_return, tab, octal, unit, units}
+use Rattle.plist_reader.specs.Grammar.{width, IsUnit, IsHigh, IsLow, IsEscape, quote, backslash}
+use Rattle.plist_reader.specs.Grammar.{line_feed, carriage_return, tab, octal, unit, units}
 use Rattle.plist_reader.proofs.RunLemmas.{run_step}
 use Rattle.plist_reader.proofs.GivenTokens.{in_token, run_same}
 
@@ -133,7 +136,7 @@ unfolding escape_unit
 unit-plain x y z w hx hy hz hw u e h l =
     let v = x * 4096 + y * 256 + z * 16 + w in
     let f : (leb 0xD800 v && ltb v 0xDC00)
-        ≡ false = elim (cases_Bool (leb 0xD800 v && ltb v 0xDC00)) [
+    ≡ false = elim (cases_Bool (leb 0xD800 v && ltb v 0xDC00)) [
       | inl g ↦ absurd (h (let p = and_parts (leb 0xD800 v) (ltb v 0xDC00) g
           in (omega (arith, e, leb-true 0xD800 v p.0), omega (arith, e, ltb-true v 0xDC00 p.1))))
       | inr g ↦ g
@@ -210,7 +213,7 @@ low_digits x y z w low hx hy hz hw e l = let first : x ≡ 13 = omega (arith, e,
 pair_code : (high low x y z w : ℕ) → low ≡ x * 4096 + y * 256 + z * 16 + w → x ≡ 13 → 12 ≤ y
     → IsHigh high
     → 0x1_0000 + (high - 0xD800) * 1024 + ((y - 12) * 256 + z * 16 + w)
-        ≡ 0x1_0000 + (high - 0xD800) * 1024 + (low - 0xDC00)
+    ≡ 0x1_0000 + (high - 0xD800) * 1024 + (low - 0xDC00)
 pair_code high low x y z w e f g h = omega (arith, e, f, g)
 
 pair_scalar : (high low : ℕ) → IsHigh high → IsLow low
@@ -223,7 +226,7 @@ reads-unit : (a b c d u : ℕ) → IsUnit a b c d u → ¬ (IsHigh u) → ¬ (Is
 reads-unit a b c d u i h l =
     let x = i.first in let y = i.second in let z = i.third in let w = i.fourth in
     let hx = hex_value-small a x i.first_is in let hy = hex_value-small b y i.second_is
-        in let hz = hex_value-small c z i.third_is in let hw = hex_value-small d w i.fourth_is in (
+    in let hz = hex_value-small c z i.third_is in let hw = hex_value-small d w i.fourth_is in (
       Unit0,
       begun-unit,
       (
@@ -234,8 +237,12 @@ reads-unit a b c d u i h l =
           unit1 x b y i.second_is (not_low_digits x y z w hy hz hw
               (λ q. l (let k : u ≡ x * 4096 + y * 256 + z * 16 + w = i.unit_is
               in (omega (arith, k, q.0), omega (arith, k, q.1))))),
-          (Unit3 x y z, unit2 x y c z i.third_is, unit3 x y z d w i.fourth_is
-              ∙ unit-plain x y z w hx hy hz hw u i.unit_is h l),
+          (
+            Unit3 x y z,
+            unit2 x y c z i.third_is,
+            unit3 x y z d w i.fourth_is
+                ∙ unit-plain x y z w hx hy hz hw u i.unit_is h l,
+          ),
         ),
       ),
     )
@@ -243,15 +250,15 @@ reads-unit a b c d u i h l =
 reads-units : (a b c d e f g k high low : ℕ) → IsUnit a b c d high → IsUnit e f g k low
     → IsHigh high → IsLow low
     → Reads Begun (85 ∷ a ∷ b ∷ c ∷ d ∷ 92 ∷ 85 ∷ e ∷ f ∷ g ∷ k ∷ [])
-        (0x1_0000 + (high - 0xD800) * 1024 + (low - 0xDC00))
+    (0x1_0000 + (high - 0xD800) * 1024 + (low - 0xDC00))
 reads-units a b c d e f g k high low i j h l =
     let x = i.first in let y = i.second in let z = i.third in let w = i.fourth in
     let hy = hex_value-small b y i.second_is in let hz = hex_value-small c z i.third_is
-        in let hw = hex_value-small d w i.fourth_is in
+    in let hw = hex_value-small d w i.fourth_is in
     let p = j.first in let q = j.second in let r = j.third in let s = j.fourth in
     let digits = low_digits p q r s low (hex_value-small e p j.first_is)
-        (hex_value-small f q j.second_is) (hex_value-small g r j.third_is)
-        (hex_value-small k s j.fourth_is) j.unit_is l in
+    (hex_value-small f q j.second_is) (hex_value-small g r j.third_is)
+    (hex_value-small k s j.fourth_is) j.unit_is l in
     let n = high - 0xD800 in (
       Unit0,
       begun-unit,
@@ -302,11 +309,17 @@ reads-octal : (a b c x y z : ℕ) → octal_value a ≡ Some x → octal_value b
     → octal_value c ≡ Some z → x * 64 + y * 8 + z < 128
     → Reads Begun (a ∷ b ∷ c ∷ []) (x * 64 + y * 8 + z)
 reads-octal a b c x y z ha hb hc h =
-    let first = octal_value-parts a x ha in
-    (Octal x, octal0_at x a (omega (arith, h)) first.0,
-        (Octals x y, octal1 x b y hb, octal2 x y c z hc
-        ∙ character_of-scalar (x * 64 + y * 8 + z)
-        (low_scalar (x * 64 + y * 8 + z) (omega (arith, h)))))
+    let first = octal_value-parts a x ha in (
+      Octal x,
+      octal0_at x a (omega (arith, h)) first.0,
+      (
+        Octals x y,
+        octal1 x b y hb,
+        octal2 x y c z hc
+            ∙ character_of-scalar (x * 64 + y * 8 + z)
+            (low_scalar (x * 64 + y * 8 + z) (omega (arith, h))),
+      ),
+    )
 
 -- each escape of the grammar is read
 pub reads-escape : (cs : List ℕ) (character : ℕ) → IsEscape cs character → Reads Begun cs character
@@ -326,7 +339,7 @@ pub step-escape_more : (nodes : List TreeNode) (brackets : List Open) (phase : P
     (at back place c : ℕ) (escape next : EscapeState) (text : List ℕ)
     → escape_next escape c ≡ More next
     → step (in_token nodes brackets phase (Escape at back escape) text []) place c
-        ≡ Ok (in_token nodes brackets phase (Escape at back next) text [])
+    ≡ Ok (in_token nodes brackets phase (Escape at back next) text [])
 unfolding step
 step-escape_more nodes brackets phase at back place c escape next text h = rw h refl
 
@@ -334,7 +347,7 @@ pub step-escape_whole : (nodes : List TreeNode) (brackets : List Open) (phase : 
     (at back place c : ℕ) (escape : EscapeState) (character : ℕ) (text : List ℕ)
     → escape_next escape c ≡ Whole character
     → step (in_token nodes brackets phase (Escape at back escape) text []) place c
-        ≡ Ok (in_token nodes brackets phase (Quoted at) (text ++ encode character) [])
+    ≡ Ok (in_token nodes brackets phase (Quoted at) (text ++ encode character) [])
 unfolding step
 step-escape_whole nodes brackets phase at back place c escape character text h = rw h refl
 
@@ -342,17 +355,17 @@ pub run-escape : (cs : List ℕ) (nodes : List TreeNode) (brackets : List Open) 
     (at back place : ℕ) (escape : EscapeState) (character : ℕ) (text rest : List ℕ)
     → Reads escape cs character
     → run (in_token nodes brackets phase (Escape at back escape) text []) place (cs ++ rest)
-        ≡ run (in_token nodes brackets phase (Quoted at) (text ++ encode character) [])
-        (place + width cs) rest
+    ≡ run (in_token nodes brackets phase (Quoted at) (text ++ encode character) [])
+    (place + width cs) rest
 run-escape [] nodes brackets phase at back place escape character text rest h = elim h [ ]
 run-escape (c ∷ []) nodes brackets phase at back place escape character text rest h =
     run_step _ _ place c rest (step-escape_whole nodes brackets phase at back place c escape
-        character text h) ∙ run_same _ _ (place + len_utf8 c) (place + (len_utf8 c + 0)) rest refl
-        (omega arith)
+    character text h) ∙ run_same _ _ (place + len_utf8 c) (place + (len_utf8 c + 0)) rest refl
+    (omega arith)
 run-escape (c ∷ d ∷ cs) nodes brackets phase at back place escape character text rest h =
     run_step _ _ place c (d ∷ (cs ++ rest))
-        (step-escape_more nodes brackets phase at back place c escape h.0 text h.1)
+    (step-escape_more nodes brackets phase at back place c escape h.0 text h.1)
     ∙ run-escape (d ∷ cs) nodes brackets phase at back (place + len_utf8 c) h.0 character text rest
-        h.2
+    h.2
     ∙ run_same _ _ (place + len_utf8 c + (len_utf8 d + width cs))
-        (place + (len_utf8 c + (len_utf8 d + width cs))) rest refl (omega arith)
+    (place + (len_utf8 c + (len_utf8 d + width cs))) rest refl (omega arith)

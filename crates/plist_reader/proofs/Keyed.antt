@@ -1,7 +1,7 @@
 -- Which keys an open dictionary has: each is the text of a value that is the key of a pair, or of
 -- the last key.
-use Rattle.std.proofs.Common.{inl, inr, ◌≡◌, ℕ, suc, zero, ◌+◌, Bool, true, false, ◌||◌, List, [],
-    ◌∷◌, ◌++◌, length, Option, Some, None, refl, sym, subst, ◌∙◌}
+use Rattle.std.proofs.Common.{inl, inr, ◌≡◌, ℕ, suc, zero, ◌+◌, Bool, true, false, ◌||◌, List, []}
+use Rattle.std.proofs.Common.{◌∷◌, ◌++◌, length, Option, Some, None, refl, sym, subst, ◌∙◌}
 use Rattle.std.specs.Prelude.{nat_eq, option_and_then, slice_get, ◌⊎◌}
 use Rattle.std.specs.Cmp.Lexicographic.{pointwise}
 use Rattle.std.specs.List.{AllByRecursion, list_any}
@@ -12,8 +12,8 @@ use Rattle.plist_reader.specs.declared.tree.TreeValue.TheVariants as tree
 use Rattle.plist_reader.specs.declared.reader.Reader.{Reader}
 use Rattle.plist_reader.specs.declared.reader.Dictionary.{Dictionary}
 use Rattle.plist_reader.specs.declared.reader.Phase.{Phase}
-use Rattle.plist_reader.specs.declared.reader.Phase.TheVariants.{Value, Item, ItemEnd, Key, KeyEnd,
-    PairEnd, End}
+use Rattle.plist_reader.specs.declared.reader.Phase.TheVariants.{Value, Item, ItemEnd, Key, KeyEnd}
+use Rattle.plist_reader.specs.declared.reader.Phase.TheVariants.{PairEnd, End}
 use Rattle.plist_reader.specs.declared.reader.Token.{Token}
 use Rattle.plist_reader.specs.declared.reader.Open.{Open}
 use Rattle.plist_reader.specs.declared.reader.Open.TheVariants.{Items, Pairs}
@@ -23,11 +23,13 @@ use Rattle.plist_reader.specs.Grammar.{node, width}
 use Rattle.plist_reader.specs.Reading.{start}
 use Rattle.plist_reader.proofs.GivenTokens.{in_token, settled}
 use Rattle.plist_reader.proofs.GivenTexts.{key_end}
-use Rattle.plist_reader.proofs.Moves.{TextEnds, as_value, as_key, Moves, space_between,
-    string_begins, word_begins, bytes_begin, list_begins, dictionary_begins, comma, equals,
-    semicolon, list_ends, dictionary_ends, word_more, word_ends, string_more, string_ends,
-    escape_begins, escape_more, escape_ends, space_in_bytes, first_digit, space_in_half,
-    second_digit, bytes_end}
+use Rattle.plist_reader.proofs.Moves.{TextEnds, as_value, as_key, Moves, space_between}
+use Rattle.plist_reader.proofs.Moves.{string_begins, word_begins, bytes_begin, list_begins}
+use Rattle.plist_reader.proofs.Moves.{dictionary_begins, comma, equals, semicolon, list_ends}
+use Rattle.plist_reader.proofs.Moves.{dictionary_ends, word_more, word_ends, string_more}
+use Rattle.plist_reader.proofs.Moves.{string_ends, escape_begins, escape_more, escape_ends}
+use Rattle.plist_reader.proofs.Moves.{space_in_bytes, first_digit, space_in_half, second_digit}
+use Rattle.plist_reader.proofs.Moves.{bytes_end}
 use Rattle.plist_reader.proofs.Reached.{Reached, at_start, onward, reached-moves}
 
 -- ---- texts of nodes
@@ -71,9 +73,11 @@ pub has_key-more : (nodes more : List TreeNode) (key : List ℕ) (pairs : List (
     → has_key nodes key pairs ≡ true → has_key (nodes ++ more) key pairs ≡ true
 has_key-more nodes more key [] h = h
 has_key-more nodes more key (p ∷ pairs) h =
-    either_true _ _ (elim (or_cases (is_text_of nodes key p.0) (has_key nodes key pairs) h)
-        [ inl e ↦ inl (is_text_of-more nodes more key p.0 e) | inr e ↦ inr
-        (has_key-more nodes more key pairs e) ])
+    either_true _ _ (elim (or_cases (is_text_of nodes key p.0) (has_key nodes key pairs) h) [
+      | inl e ↦ inl (is_text_of-more nodes more key p.0 e)
+      | inr e ↦ inr
+          (has_key-more nodes more key pairs e)
+    ])
 
 has_key-left : (nodes : List TreeNode) (key : List ℕ) (xs ys : List (ℕ × ℕ))
     → has_key nodes key xs ≡ true → has_key nodes key (xs ++ ys) ≡ true
@@ -160,10 +164,16 @@ settled-keyed nodes (Items at done ∷ outer) number h = record { open_keys = (t
 settled-keyed nodes (Pairs d ∷ outer) number h =
     let e : Dictionary = record d { pairs = d.pairs ++ (d.key, number) ∷ [] } in
     let strong : IsStrong nodes e = all_map (WeakKey nodes d) (λ k. has_key nodes k e.pairs ≡ true)
-        d.keys (λ k f. f number) h.0 in
-    record { open_keys = (all_map (λ k. has_key nodes k e.pairs ≡ true) (WeakKey nodes e) d.keys
-        (λ k g other. has_key-left nodes k e.pairs ((e.key, other) ∷ []) g) strong, h.1); top
-        = strong }
+    d.keys (λ k f. f number) h.0 in
+    record {
+      open_keys = (
+        all_map (λ k. has_key nodes k e.pairs ≡ true) (WeakKey nodes e) d.keys
+            (λ k g other. has_key-left nodes k e.pairs ((e.key, other) ∷ []) g) strong,
+        h.1,
+      );
+      top
+          = strong;
+    }
 
 value-keyed : (nodes : List TreeNode) (n : TreeNode) (brackets : List Open)
     → AllByRecursion (IsWeak nodes) brackets
@@ -181,11 +191,11 @@ key-keyed nodes d outer at end key s h =
       open_keys = (
         all_push (WeakKey (nodes ++ more) e) d.keys key
             (all_map (λ k. has_key nodes k d.pairs ≡ true) (WeakKey (nodes ++ more) e) d.keys
-                (λ k g number. has_key-left (nodes ++ more) k d.pairs ((length nodes, number) ∷ [])
-                (has_key-more nodes more k d.pairs g)) s)
+            (λ k g number. has_key-left (nodes ++ more) k d.pairs ((length nodes, number) ∷ [])
+            (has_key-more nodes more k d.pairs g)) s)
             (λ number. has_key-right (nodes ++ more) key d.pairs ((length nodes, number) ∷ [])
-                (either_true (is_text_of (nodes ++ more) key (length nodes)) false
-                (inl (own-key nodes at end key)))),
+            (either_true (is_text_of (nodes ++ more) key (length nodes)) false
+            (inl (own-key nodes at end key)))),
         open-more nodes more outer h,
       );
       top = tt;
@@ -264,7 +274,7 @@ pub strong-has : (nodes : List TreeNode) (pairs : List (ℕ × ℕ)) (text : Lis
 strong-has nodes pairs text [] s h = absurd (false≢true h)
 strong-has nodes pairs text (k ∷ keys) s h
     = elim (or_cases (pointwise nat_eq text k) (is_among text keys) h) [
-  | inl e ↦ (let P : List ℕ → Type 0 = λ x. has_key nodes x pairs ≡ true
-      in subst P (sym (bytes_same text k e)) s.0)
-  | inr e ↦ strong-has nodes pairs text keys s.1 e
-]
+      | inl e ↦ (let P : List ℕ → Type 0 = λ x. has_key nodes x pairs ≡ true
+          in subst P (sym (bytes_same text k e)) s.0)
+      | inr e ↦ strong-has nodes pairs text keys s.1 e
+    ]

@@ -1,6 +1,6 @@
 -- A source has one answer: its tree or its refusal.
-use Rattle.std.proofs.Common.{inl, inr, ◌≡◌, ℕ, List, [], ◌∷◌, ◌++◌, Result, Ok, Err, refl, sym, ap,
-    subst, ◌∙◌}
+use Rattle.std.proofs.Common.{inl, inr, ◌≡◌, ℕ, List, [], ◌∷◌, ◌++◌, Result, Ok, Err, refl, sym, ap}
+use Rattle.std.proofs.Common.{subst, ◌∙◌}
 use Rattle.std.specs.Prelude.{◌⊎◌}
 use Rattle.std.proofs.lemmas.List.{append-nil}
 use Rattle.std.specs.Char.{IsScalar}
@@ -12,15 +12,16 @@ use Rattle.refusal_codes.specs.declared.rule.Rule.TheVariants.{UnexpectedEnd}
 use Rattle.plist_reader.specs.declared.tree.Tree.{Tree}
 use Rattle.plist_reader.specs.declared.reader.Reader.{Reader}
 use Rattle.plist_reader.specs.Grammar.{width, HasTree}
-use Rattle.plist_reader.specs.Refusals.{CanGoOn, IsExplained, bad_escape, twice, too_deep, trailing,
-    unexpected, IsReason, IsRefusal, refusal}
+use Rattle.plist_reader.specs.Refusals.{CanGoOn, IsExplained, bad_escape, twice, too_deep, trailing}
+use Rattle.plist_reader.specs.Refusals.{unexpected, IsReason, IsRefusal, refusal}
 use Rattle.plist_reader.specs.Reading.{start, step, finish, run, read_of}
 use Rattle.plist_reader.proofs.RunLemmas.{read_of-text, read_of-bad}
 use Rattle.plist_reader.proofs.Scalars.{AreScalars, all-parts, source-scalars}
 use Rattle.plist_reader.proofs.GivenTexts.{given}
 use Rattle.plist_reader.proofs.SpelledTexts.{read_of-spelled}
-use Rattle.plist_reader.proofs.Reached.{err_not_ok, Reached, onward, at_ok, reached-good,
-    reached-goes_on, reached-run, reached-finish, finishes-whole}
+use Rattle.plist_reader.proofs.Reached.{err_not_ok, Reached, onward, at_ok, reached-good}
+use Rattle.plist_reader.proofs.Reached.{reached-goes_on, reached-run, reached-finish}
+use Rattle.plist_reader.proofs.Reached.{finishes-whole}
 use Rattle.plist_reader.proofs.InEscapes.{reached-front, escape-refuses}
 use Rattle.plist_reader.proofs.TwiceRefused.{err-run, twice-refuses}
 use Rattle.plist_reader.proofs.Fails.{Fails, fails}
@@ -73,8 +74,8 @@ ends-so front r e (Ok t) q h k = absurd (k.1 (finishes-whole front r t h q))
 ends-so front r e (Err x) q h k =
     let E : Refusal → Result Tree Refusal = λ y. Err y in
     let same : x ≡ refusal UnexpectedEnd (width front)
-        = at_err (λ y. y ≡ refusal UnexpectedEnd (width front)) (finish r (width front)) x q
-        (finish-end r (width front) (reached-good front r h)) in
+    = at_err (λ y. y ≡ refusal UnexpectedEnd (width front)) (finish r (width front)) x q
+    (finish-end r (width front) (reached-good front r h)) in
     reached-finish front r h ∙ q ∙ ap E (same ∙ sym k.2)
 
 stops-so : (front : List ℕ) (c : ℕ) (rest : List ℕ) (r : Reader) (e : Refusal)
@@ -85,9 +86,9 @@ stops-so front c rest r e (Ok u) i q h k
 stops-so front c rest r e (Err x) i q h k =
     let E : Refusal → Result Tree Refusal = λ y. Err y in
     let why = explain front r c x h q (at_err (Fails (width front) c r) (step r (width front) c) x q
-        (fails r (width front) c (reached-good front r h))) in
+    (fails r (width front) c (reached-good front r h))) in
     reached-run front r h (c ∷ rest) ∙ err-run r (width front) c rest x q
-        ∙ ap E (one-explanation front r c x e h q why k.1)
+    ∙ ap E (one-explanation front r c x e h q why k.1)
 
 reason-so : (front rest : List ℕ) (e : Refusal) → AreScalars rest → IsReason front rest e
     → run start 0 (front ++ rest) ≡ Err e
@@ -104,16 +105,19 @@ refused source e (inl (n, q)) = let E : Refusal → Result Tree Refusal = λ y. 
     in read_of-bad source n ∙ ap E (sym q)
 refused source e (inr (u, k)) =
     let i = all-parts IsScalar k.front k.rest
-        (subst (λ (x : List ℕ). AreScalars x) k.parts (source-scalars source u)) in
+    (subst (λ (x : List ℕ). AreScalars x) k.parts (source-scalars source u)) in
     read_of-text source u ∙ ap (λ x. run start 0 x) k.parts
-        ∙ reason-so k.front k.rest e i.1 k.reason
+    ∙ reason-so k.front k.rest e i.1 k.reason
 
 -- what is read is a tree or a refusal of the source
 pub refusal-of : (source : List ℕ) (e : Refusal) → read_of source ≡ Err e → IsRefusal source e
 refusal-of source e q = elim (cases_Bool (is_utf8 source)) [
   | inl b ↦ (let u = IsUtf8-from_is_utf8 source b
-      in inr (u, run-refused (chars source) e (source-scalars source u)
-      (sym (read_of-text source u) ∙ q)))
+      in inr (
+        u,
+        run-refused (chars source) e (source-scalars source u)
+            (sym (read_of-text source u) ∙ q),
+      ))
   | inr b ↦ (let n : ¬ (IsUtf8 source) = λ u. both_ways (is_utf8 source) b
       (is_utf8-from_IsUtf8 source u) in inl
       (n, same_error e _ (read_of source) q (read_of-bad source n)))

@@ -1,6 +1,6 @@
 -- The readers that the characters of a front lead to, and what goes on from them.
-use Rattle.std.proofs.Common.{◌≡◌, ℕ, ◌+◌, List, [], ◌∷◌, ◌++◌, Result, Ok, Err, refl, sym, ap,
-    subst, ◌∙◌, arith, append_assoc, IfOk}
+use Rattle.std.proofs.Common.{◌≡◌, ℕ, ◌+◌, List, [], ◌∷◌, ◌++◌, Result, Ok, Err, refl, sym, ap}
+use Rattle.std.proofs.Common.{subst, ◌∙◌, arith, append_assoc, IfOk}
 use Rattle.std.proofs.lemmas.List.{append-nil}
 use Rattle.std.specs.Char.{IsScalar, len_utf8}
 use Rattle.refusal_codes.specs.declared.refusal.Refusal.{Refusal}
@@ -68,9 +68,9 @@ pub reached-run : (front : List ℕ) (r : Reader) → Reached front r → (more 
 reached-run _ _ at_start more = refl
 reached-run _ _ (onward front r s c i h e) more =
     ap (λ x. run start 0 x) (append_assoc front (c ∷ []) more) ∙ reached-run front r h (c ∷ more)
-        ∙ run_step r s (width front) c more e
+    ∙ run_step r s (width front) c more e
     ∙ run_same s s (width front + len_utf8 c) (width (front ++ c ∷ [])) more refl
-        (sym (width-push front c))
+    (sym (width-push front c))
 
 -- ---- some text goes on
 
@@ -80,10 +80,10 @@ spelled-ok cs t i e = at_ok (Spelled cs) (run start 0 cs) t e (run-spelled cs i)
 pub reached-goes_on : (front : List ℕ) (r : Reader) → Reached front r → CanGoOn front
 reached-goes_on front r h =
     let c = completes r (width front) (reached-good front r h)
-        (lively-in r.token front r.text (reached-token front r h)) in
+    (lively-in r.token front r.text (reached-token front r h)) in
     let k = spelled-ok (front ++ c.rest) c.tree
-        (all-append IsScalar front c.rest (reached-scalars front r h) c.scalars)
-        (reached-run front r h c.rest ∙ c.runs) in
+    (all-append IsScalar front c.rest (reached-scalars front r h) c.scalars)
+    (reached-run front r h c.rest ∙ c.runs) in
     (c.rest, k.0, k.1)
 
 -- a text with a tree that begins with a front is read from there
@@ -102,8 +102,11 @@ err_not_ok e t d h k = cc
 
 pub whole-finishes : (front : List ℕ) (r : Reader) → Reached front r → IsWhole front
     → (t : Tree) × (finish r (width front) ≡ Ok t)
-whole-finishes front r h w = (tree_of w.0, sym (reached-finish front r h)
-    ∙ run-text_of w.0 front w.1)
+whole-finishes front r h w = (
+  tree_of w.0,
+  sym (reached-finish front r h)
+      ∙ run-text_of w.0 front w.1,
+)
 
 pub finishes-whole : (front : List ℕ) (r : Reader) (t : Tree) → Reached front r
     → finish r (width front) ≡ Ok t → IsWhole front
@@ -114,9 +117,9 @@ pub refused-stops : (front : List ℕ) (r : Reader) (c : ℕ) (e : Refusal) → 
     → step r (width front) c ≡ Err e → ¬ (CanGoOn (front ++ c ∷ []))
 refused-stops front r c e h s g =
     err_not_ok e (tree_of g.1) (run r (width front) (c ∷ g.0))
-        (ap (λ d. d >>= (λ u. run u (width front + len_utf8 c) g.0)) s)
+    (ap (λ d. d >>= (λ u. run u (width front + len_utf8 c) g.0)) s)
     (reached-tree front (c ∷ g.0) r g.1 h (subst (λ (x : List ℕ). IsTextOf g.1 x)
-        (append_assoc front (c ∷ []) g.0) g.2))
+    (append_assoc front (c ∷ []) g.0) g.2))
 
 -- ---- where reading stops
 
@@ -138,17 +141,24 @@ same_error x e d h k = cc
 stops-step : (cs front : List ℕ) (r : Reader) (c : ℕ) (e : Refusal) (d : Result Reader Refusal)
     → IsScalar c → step r (width front) c ≡ d → Reached front r
     → ((u : Reader) → Reached (front ++ c ∷ []) u → run u (width (front ++ c ∷ [])) cs ≡ Err e
-        → StopsBehind ((front ++ c ∷ []) ++ cs) e)
+    → StopsBehind ((front ++ c ∷ []) ++ cs) e)
     → (d >>= (λ u. run u (width front + len_utf8 c) cs)) ≡ Err e → StopsBehind (front ++ c ∷ cs) e
 stops-step cs front r c e (Ok u) i q h next s =
     let P : List ℕ → Type 0 = λ x. StopsBehind x e in
     subst P (append_assoc front (c ∷ []) cs)
-        (next u (onward front r u c i h q) (run_same u u (width (front ++ c ∷ []))
-        (width front + len_utf8 c) cs refl (width-push front c) ∙ s))
+    (next u (onward front r u c i h q) (run_same u u (width (front ++ c ∷ []))
+    (width front + len_utf8 c) cs refl (width-push front c) ∙ s))
 stops-step cs front r c e (Err x) i q h next s =
     let E : Refusal → Result Reader Refusal = λ y. Err y in
-    record { front = front; rest = c ∷ cs; state = r; reached = h; parts = refl; stop = q
-        ∙ ap E (same_error x e ((Err x) >>= (λ u. run u (width front + len_utf8 c) cs)) refl s) }
+    record {
+      front = front;
+      rest = c ∷ cs;
+      state = r;
+      reached = h;
+      parts = refl;
+      stop = q
+          ∙ ap E (same_error x e ((Err x) >>= (λ u. run u (width front + len_utf8 c) cs)) refl s);
+    }
 
 stops-behind : (cs front : List ℕ) (r : Reader) (e : Refusal) → AreScalars cs → Reached front r
     → run r (width front) cs ≡ Err e → StopsBehind (front ++ cs) e

@@ -1,6 +1,6 @@
 -- Steps of `run`, over plain variables.
-use Rattle.std.proofs.Common.{arith, IfOk, ◌≡◌, ℕ, ◌+◌, ◌<◌, List, ◌∷◌, length, get_or, drop,
-    Result, Ok, Err, refl, sym, ap, subst, ◌∙◌}
+use Rattle.std.proofs.Common.{arith, IfOk, ◌≡◌, ℕ, ◌+◌, ◌<◌, List, ◌∷◌, length, get_or, drop}
+use Rattle.std.proofs.Common.{Result, Ok, Err, refl, sym, ap, subst, ◌∙◌}
 use Rattle.std.proofs.lemmas.List.{at_drop_more, length-append}
 use Rattle.std.proofs.lemmas.Str.{length-encode}
 use Rattle.std.specs.Str.{encode_utf8_all}
@@ -49,8 +49,8 @@ pub weight_of_rest : (cs : List ℕ) (n c place total : ℕ) → drop n cs ≡ c
 weight_of_rest cs n c place total e h =
     let rest = drop (n + 1) cs in
     let split : length (encode_utf8_all (drop n cs))
-        ≡ length (encode c) + length (encode_utf8_all rest) = ap (λ x. length (encode_utf8_all x)) e
-        ∙ length-append (encode c) (encode_utf8_all rest) in
+    ≡ length (encode c) + length (encode_utf8_all rest) = ap (λ x. length (encode_utf8_all x)) e
+    ∙ length-append (encode c) (encode_utf8_all rest) in
     omega (arith, split, length-encode c, h)
 
 -- a source in UTF-8 is read as its characters, and no other source is

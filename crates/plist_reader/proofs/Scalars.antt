@@ -1,6 +1,6 @@
 -- Each text that the grammar spells is that of a source: its characters are Unicode scalar values.
-use Rattle.std.proofs.Common.{inl, inr, ◌≡◌, ℕ, ◌+◌, ◌<◌, ◌≤◌, Bool, true, false, leb, eqb, ◌&&◌,
-    List, [], ◌∷◌, ◌++◌, Option, Some, None, refl, sym, subst, arith}
+use Rattle.std.proofs.Common.{inl, inr, ◌≡◌, ℕ, ◌+◌, ◌<◌, ◌≤◌, Bool, true, false, leb, eqb, ◌&&◌}
+use Rattle.std.proofs.Common.{List, [], ◌∷◌, ◌++◌, Option, Some, None, refl, sym, subst, arith}
 use Rattle.std.specs.List.{AllByRecursion}
 use Rattle.std.specs.Char.{IsScalar}
 use Rattle.std.specs.Str.{IsUtf8, chars}
@@ -10,10 +10,12 @@ use lib.Utf8.{scalar, scalars, encodes, low_scalar}
 use Rattle.plist_reader.specs.Characters.{is_space, is_word, is_between, octal_value, hex_value}
 use Rattle.plist_reader.specs.declared.tree.Tree.{Tree}
 use Rattle.plist_reader.specs.Refusals.{CanGoOn}
-use Rattle.plist_reader.specs.Grammar.{Value, Text, Bytes, Items, Pairs, Values, NoValues, AndValue,
-    Entries, NoEntries, AndEntry, AreSpaces, IsUnit, IsEscape, quote, backslash, line_feed,
-    carriage_return, tab, octal, unit, units, IsQuoted, no_more, plain, escaped, IsText, IsHex,
-    no_digits, space, digits, Spells, SpellItems, SpellEntries, IsTextOf, tree_of, HasTree}
+use Rattle.plist_reader.specs.Grammar.{Value, Text, Bytes, Items, Pairs, Values, NoValues, AndValue}
+use Rattle.plist_reader.specs.Grammar.{Entries, NoEntries, AndEntry, AreSpaces, IsUnit, IsEscape}
+use Rattle.plist_reader.specs.Grammar.{quote, backslash, line_feed, carriage_return, tab, octal}
+use Rattle.plist_reader.specs.Grammar.{unit, units, IsQuoted, no_more, plain, escaped, IsText}
+use Rattle.plist_reader.specs.Grammar.{IsHex, no_digits, space, digits, Spells, SpellItems}
+use Rattle.plist_reader.specs.Grammar.{SpellEntries, IsTextOf, tree_of, HasTree}
 
 -- ---- characters beyond ASCII are none of a token but a string
 
@@ -29,8 +31,13 @@ no_between low high c h l = elim (cases_Bool (is_between low high c)) [
 
 pub no_space : (c : ℕ) → 128 ≤ c → is_space c ≡ false
 unfolding is_space
-no_space c h = rw (no_char c 32 h (omega arith), no_char c 9 h (omega arith), no_char c 13 h
-    (omega arith), no_char c 10 h (omega arith)) refl
+no_space c h = rw (
+  no_char c 32 h (omega arith),
+  no_char c 9 h (omega arith),
+  no_char c 13 h
+      (omega arith),
+  no_char c 10 h (omega arith),
+) refl
 
 pub no_word : (c : ℕ) → 128 ≤ c → is_word c ≡ false
 unfolding is_word
@@ -42,8 +49,12 @@ no_octal c h = rw (no_between 48 55 c h (omega arith)) refl
 
 pub no_hex : (c : ℕ) → 128 ≤ c → hex_value c ≡ None
 unfolding hex_value
-no_hex c h = rw (no_between 48 57 c h (omega arith), no_between 65 70 c h (omega arith), no_between
-    97 102 c h (omega arith)) refl
+no_hex c h = rw (
+  no_between 48 57 c h (omega arith),
+  no_between 65 70 c h (omega arith),
+  no_between
+      97 102 c h (omega arith),
+) refl
 
 -- ---- so those of the other tokens are scalar values
 
@@ -92,9 +103,16 @@ spaces-scalars cs h = all-weaker (λ c. is_space c ≡ true) IsScalar space-scal
 -- ---- tokens
 
 unit-scalars : (a b c d u : ℕ) → IsUnit a b c d u → AreScalars (a ∷ b ∷ c ∷ d ∷ [])
-unit-scalars a b c d u i = (hex-scalar a i.first i.first_is,
-    (hex-scalar b i.second i.second_is, (hex-scalar c i.third i.third_is,
-    (hex-scalar d i.fourth i.fourth_is, tt))))
+unit-scalars a b c d u i = (
+  hex-scalar a i.first i.first_is,
+  (
+    hex-scalar b i.second i.second_is,
+    (
+      hex-scalar c i.third i.third_is,
+      (hex-scalar d i.fourth i.fourth_is, tt),
+    ),
+  ),
+)
 
 pub escape-scalars : (cs : List ℕ) (c : ℕ) → IsEscape cs c → AreScalars cs
 escape-scalars _ _ quote = (refl, tt)
@@ -105,9 +123,11 @@ escape-scalars _ _ tab = (refl, tt)
 escape-scalars _ _ (octal a b c x y z h g k l)
     = (octal-scalar a x h, (octal-scalar b y g, (octal-scalar c z k, tt)))
 escape-scalars _ _ (unit a b c d u i n m) = (refl, unit-scalars a b c d u i)
-escape-scalars _ _ (units a b c d e f g h high low i j n m) =
-    (refl, all-append IsScalar (a ∷ b ∷ c ∷ d ∷ []) (92 ∷ 85 ∷ e ∷ f ∷ g ∷ h ∷ [])
-        (unit-scalars a b c d high i) (refl, (refl, unit-scalars e f g h low j)))
+escape-scalars _ _ (units a b c d e f g h high low i j n m) = (
+  refl,
+  all-append IsScalar (a ∷ b ∷ c ∷ d ∷ []) (92 ∷ 85 ∷ e ∷ f ∷ g ∷ h ∷ [])
+      (unit-scalars a b c d high i) (refl, (refl, unit-scalars e f g h low j)),
+)
 
 quoted-scalars : (cs bytes : List ℕ) → IsQuoted cs bytes → AreScalars cs
 quoted-scalars _ _ no_more = tt
@@ -125,8 +145,11 @@ hex-scalars : (cs bytes : List ℕ) → IsHex cs bytes → AreScalars cs
 hex-scalars _ _ no_digits = tt
 hex-scalars _ _ (space c cs bytes e h) = (space-scalar c e, hex-scalars cs bytes h)
 hex-scalars _ _ (digits a b x y gap cs bytes e g f h)
-    = (hex-scalar a x e, all-append IsScalar gap (b ∷ cs) (spaces-scalars gap g)
-    (hex-scalar b y f, hex-scalars cs bytes h))
+    = (
+      hex-scalar a x e,
+      all-append IsScalar gap (b ∷ cs) (spaces-scalars gap g)
+          (hex-scalar b y f, hex-scalars cs bytes h),
+    )
 
 -- ---- values
 
@@ -144,13 +167,17 @@ mutual
       = subst (λ (x : List ℕ). AreScalars x) (sym s.3)
       (refl, all-append IsScalar s.2 (62 ∷ []) (hex-scalars s.2 bytes s.4) (refl, tt))
   value-scalars (Items at end items) depth place cs s =
-      subst (λ (x : List ℕ). AreScalars x) (sym s.4)
-          (refl, all-append IsScalar s.3 (41 ∷ [])
-          (items-scalars items (depth + 1) (place + 1) s.3 s.5) (refl, tt))
+      subst (λ (x : List ℕ). AreScalars x) (sym s.4) (
+        refl,
+        all-append IsScalar s.3 (41 ∷ [])
+            (items-scalars items (depth + 1) (place + 1) s.3 s.5) (refl, tt),
+      )
   value-scalars (Pairs at end entries) depth place cs s =
-      subst (λ (x : List ℕ). AreScalars x) (sym s.4)
-          (refl, all-append IsScalar s.3 (125 ∷ [])
-          (entries-scalars entries (depth + 1) [] (place + 1) s.3 s.5) (refl, tt))
+      subst (λ (x : List ℕ). AreScalars x) (sym s.4) (
+        refl,
+        all-append IsScalar s.3 (125 ∷ [])
+            (entries-scalars entries (depth + 1) [] (place + 1) s.3 s.5) (refl, tt),
+      )
 
   items-scalars : (items : Values) (depth place : ℕ) (cs : List ℕ) → SpellItems items depth place cs
       → AreScalars cs
@@ -162,9 +189,9 @@ mutual
             (refl, items-scalars vs depth _ e.0 e.2)
       ] in
       subst (λ (x : List ℕ). AreScalars x) (sym s.parts)
-          (around s.gap s.text (s.after ++ s.tail) s.gap_spaces
-          (value-scalars v depth _ s.text s.spelled)
-          (all-append IsScalar s.after s.tail (spaces-scalars s.after s.after_spaces) tail))
+      (around s.gap s.text (s.after ++ s.tail) s.gap_spaces
+      (value-scalars v depth _ s.text s.spelled)
+      (all-append IsScalar s.after s.tail (spaces-scalars s.after s.after_spaces) tail))
 
   entries-scalars : (entries : Entries) (depth : ℕ) (keys : List (List ℕ)) (place : ℕ) (cs : List ℕ)
       → SpellEntries entries depth keys place cs → AreScalars cs
@@ -172,17 +199,17 @@ mutual
   entries-scalars (AndEntry at end key v entries) depth keys place cs s =
       let e = s.1 in
       let rest : AreScalars (e.after ++ 59 ∷ e.rest)
-          = all-append IsScalar e.after (59 ∷ e.rest) (spaces-scalars e.after e.after_spaces)
-          (refl, entries-scalars entries depth (keys ++ key ∷ []) _ e.rest e.followed) in
+      = all-append IsScalar e.after (59 ∷ e.rest) (spaces-scalars e.after e.after_spaces)
+      (refl, entries-scalars entries depth (keys ++ key ∷ []) _ e.rest e.followed) in
       let value = around e.behind_sign e.text (e.after ++ 59 ∷ e.rest) e.behind_spaces
-          (value-scalars v depth _ e.text e.spelled) rest in
+      (value-scalars v depth _ e.text e.spelled) rest in
       subst (λ (x : List ℕ). AreScalars x) (sym e.parts)
-          (around e.gap e.key_text (e.before_sign ++ 61
-          ∷ (e.behind_sign ++ (e.text ++ (e.after ++ 59 ∷ e.rest)))) e.gap_spaces
-          (text-scalars e.key_text key e.key_spelled)
+      (around e.gap e.key_text (e.before_sign ++ 61
+      ∷ (e.behind_sign ++ (e.text ++ (e.after ++ 59 ∷ e.rest)))) e.gap_spaces
+      (text-scalars e.key_text key e.key_spelled)
       (all-append IsScalar e.before_sign (61
-          ∷ (e.behind_sign ++ (e.text ++ (e.after ++ 59 ∷ e.rest))))
-          (spaces-scalars e.before_sign e.before_spaces) (refl, value)))
+      ∷ (e.behind_sign ++ (e.text ++ (e.after ++ 59 ∷ e.rest))))
+      (spaces-scalars e.before_sign e.before_spaces) (refl, value)))
 
 -- ---- whole texts
 
@@ -217,9 +244,17 @@ pub text-source : (v : Value) (cs : List ℕ) → IsTextOf v cs
     → (source : List ℕ) × HasTree source (tree_of v) × (chars source ≡ cs)
 text-source v cs s =
     let all = all-scalar cs (text_of-scalars v cs s) in
-    let same = chars-encodes cs all in
-    (encodes cs, record { utf8 = (cs, (all, refl)); value = v; spelled
-        = subst (λ (x : List ℕ). IsTextOf v x) (sym same) s; numbered = refl }, same)
+    let same = chars-encodes cs all in (
+      encodes cs,
+      record {
+        utf8 = (cs, (all, refl));
+        value = v;
+        spelled
+            = subst (λ (x : List ℕ). IsTextOf v x) (sym same) s;
+        numbered = refl;
+      },
+      same,
+    )
 
 -- some source with a tree begins with these characters
 abbrev pub BeginsSource : List ℕ → Type 0
@@ -231,5 +266,9 @@ front-source front g = let s = text-source g.1 (front ++ g.0) g.2
     in (s.0, tree_of g.1, g.0, s.1, s.2)
 
 pub source-front : (front : List ℕ) → BeginsSource front → CanGoOn front
-source-front front s = (s.2, s.3.value, subst (λ (x : List ℕ). IsTextOf s.3.value x) s.4
-    s.3.spelled)
+source-front front s = (
+  s.2,
+  s.3.value,
+  subst (λ (x : List ℕ). IsTextOf s.3.value x) s.4
+      s.3.spelled,
+)

@@ -1,6 +1,6 @@
 -- What holds of a reader at each place, and so of each tree that it gives.
-use Rattle.std.proofs.Common.{◌≡◌, ℕ, ◌+◌, ◌<◌, ◌≤◌, List, [], ◌∷◌, ◌++◌, length, refl, ap, subst,
-    ◌∙◌, arith}
+use Rattle.std.proofs.Common.{◌≡◌, ℕ, ◌+◌, ◌<◌, ◌≤◌, List, [], ◌∷◌, ◌++◌, length, refl, ap, subst}
+use Rattle.std.proofs.Common.{◌∙◌, arith}
 use Rattle.std.specs.List.{All, AllByRecursion}
 use Rattle.std.proofs.lemmas.List.{length_push}
 use Rattle.std.proofs.lemmas.List.Elements.{All-push, All-weaker}
@@ -9,16 +9,18 @@ use Rattle.plist_reader.specs.declared.tree.TreeValue.{TreeValue}
 use Rattle.plist_reader.specs.declared.tree.TreeValue.TheVariants as tree
 use Rattle.plist_reader.specs.declared.reader.Reader.{Reader}
 use Rattle.plist_reader.specs.declared.reader.Phase.{Phase}
-use Rattle.plist_reader.specs.declared.reader.Phase.TheVariants.{Value, Item, ItemEnd, Key, KeyEnd,
-    PairEnd, End}
+use Rattle.plist_reader.specs.declared.reader.Phase.TheVariants.{Value, Item, ItemEnd, Key, KeyEnd}
+use Rattle.plist_reader.specs.declared.reader.Phase.TheVariants.{PairEnd, End}
 use Rattle.plist_reader.specs.declared.reader.Token.{Token}
-use Rattle.plist_reader.specs.declared.reader.Token.TheVariants.{Between, Word, Quoted, Escape,
-    Bytes, Half}
+use Rattle.plist_reader.specs.declared.reader.Token.TheVariants.{Between, Word, Quoted, Escape}
+use Rattle.plist_reader.specs.declared.reader.Token.TheVariants.{Bytes, Half}
 use Rattle.plist_reader.specs.declared.reader.Open.{Open}
 use Rattle.plist_reader.specs.declared.reader.Open.TheVariants.{Items, Pairs}
 use Rattle.plist_reader.specs.declared.escape.Escape.{Escape as EscapeState}
-use Rattle.plist_reader.specs.declared.escape.Escape.TheVariants.{Begun, Octal, Octals, Unit0,
-    Unit1, Unit2, Unit3, High, HighBackslash, Low, Low1, Low2, Low3}
+use Rattle.plist_reader.specs.declared.escape.Escape.TheVariants.{Begun, Octal, Octals, Unit0}
+use Rattle.plist_reader.specs.declared.escape.Escape.TheVariants.{Unit1, Unit2, Unit3, High}
+use Rattle.plist_reader.specs.declared.escape.Escape.TheVariants.{HighBackslash, Low, Low1, Low2}
+use Rattle.plist_reader.specs.declared.escape.Escape.TheVariants.{Low3}
 use Rattle.plist_reader.specs.Reading.{with_node, ended_in, value_ended}
 
 -- ---- words
@@ -98,18 +100,23 @@ IsValueBy-more m n k l (tree.Text bytes) h g v = omega (arith, v)
 IsValueBy-more m n k l (tree.Bytes bytes) h g v = omega (arith, v)
 IsValueBy-more m n k l (tree.Items items) h g v
     = (omega (arith, v.0), All-weaker (λ i. i < m) (λ i. i < n) (λ i q. omega arith) items v.1)
-IsValueBy-more m n k l (tree.Pairs pairs) h g v =
-    (omega (arith, v.0), All-weaker (λ pair. (pair.0 < m) × (pair.1 < m))
-        (λ pair. (pair.0 < n) × (pair.1 < n)) (λ pair q. (omega (arith, q.0), omega (arith, q.1)))
-        pairs v.1)
+IsValueBy-more m n k l (tree.Pairs pairs) h g v = (
+  omega (arith, v.0),
+  All-weaker (λ pair. (pair.0 < m) × (pair.1 < m))
+      (λ pair. (pair.0 < n) × (pair.1 < n)) (λ pair q. (omega (arith, q.0), omega (arith, q.1)))
+      pairs v.1,
+)
 
 pub IsOpenBy-more : (m n : ℕ) (bracket : Open) → m ≤ n → IsOpenBy m bracket → IsOpenBy n bracket
 IsOpenBy-more m n (Items at items) h v =
     (omega (arith, v.0), All-weaker (λ i. i < m) (λ i. i < n) (λ i q. omega arith) items v.1)
-IsOpenBy-more m n (Pairs d) h v =
-    (omega (arith, v.0), omega (arith, v.1), All-weaker (λ pair. (pair.0 < m) × (pair.1 < m))
-        (λ pair. (pair.0 < n) × (pair.1 < n)) (λ pair q. (omega (arith, q.0), omega (arith, q.1)))
-        d.pairs v.2)
+IsOpenBy-more m n (Pairs d) h v = (
+  omega (arith, v.0),
+  omega (arith, v.1),
+  All-weaker (λ pair. (pair.0 < m) × (pair.1 < m))
+      (λ pair. (pair.0 < n) × (pair.1 < n)) (λ pair q. (omega (arith, q.0), omega (arith, q.1)))
+      d.pairs v.2,
+)
 
 pub open_more : (m n : ℕ) (brackets : List Open) → m ≤ n → AllByRecursion (IsOpenBy m) brackets
     → AllByRecursion (IsOpenBy n) brackets
@@ -128,8 +135,13 @@ Inside-later r k l h i = record {
 }
 
 pub Sound-later : (r : Reader) (k l : ℕ) → k ≤ l → Sound r k → Sound r l
-Sound-later r k l h s = record { count = omega (arith, s.count); text = omega (arith, s.text); bytes
-    = omega (arith, s.bytes); inside = Inside-later r k l h s.inside }
+Sound-later r k l h s = record {
+  count = omega (arith, s.count);
+  text = omega (arith, s.text);
+  bytes
+      = omega (arith, s.bytes);
+  inside = Inside-later r k l h s.inside;
+}
 
 -- ---- a value ends
 
@@ -138,17 +150,17 @@ pub nodes_more : (nodes : List TreeNode) (place end limit : ℕ) (value : TreeVa
     → All (λ node. IsValueBy (length nodes) limit node.value) nodes
     → IsValueBy (length nodes) limit value
     → All (λ node. IsValueBy (length (nodes ++ record { place = place; end = end; value = value }
-        ∷ [])) limit node.value) (nodes ++ record { place = place; end = end; value = value } ∷ [])
+    ∷ [])) limit node.value) (nodes ++ record { place = place; end = end; value = value } ∷ [])
 nodes_more nodes place end limit value h v =
     let n = length (nodes ++ record { place = place; end = end; value = value } ∷ []) in
     let long : n ≡ length nodes + 1 = length_push nodes
-        (record { place = place; end = end; value = value }) in
+    (record { place = place; end = end; value = value }) in
     All-push (λ node. IsValueBy n limit node.value) nodes
-        (record { place = place; end = end; value = value })
+    (record { place = place; end = end; value = value })
     (All-weaker (λ node. IsValueBy (length nodes) limit node.value)
-        (λ node. IsValueBy n limit node.value)
-        (λ node q. IsValueBy-more (length nodes) n limit limit node.value (omega arith)
-        (omega arith) q) nodes h)
+    (λ node. IsValueBy n limit node.value)
+    (λ node q. IsValueBy-more (length nodes) n limit limit node.value (omega arith)
+    (omega arith) q) nodes h)
     (IsValueBy-more (length nodes) n limit limit value (omega arith) (omega arith) v)
 
 -- what stays
@@ -161,8 +173,14 @@ pub record Same (r s : Reader) : Type 0 where
 
 ended_in-same : (r : Reader) (n : ℕ) (brackets : List Open) → brackets ≡ r.brackets
     → Same r (ended_in r n brackets)
-ended_in-same r n [] e = record { token = refl; text = refl; bytes = refl; nodes = refl; brackets
-    = refl }
+ended_in-same r n [] e = record {
+  token = refl;
+  text = refl;
+  bytes = refl;
+  nodes = refl;
+  brackets
+      = refl;
+}
 ended_in-same r n (Items at items ∷ outer) e
     = record { token = refl; text = refl; bytes = refl; nodes = refl; brackets = ap length e }
 ended_in-same r n (Pairs d ∷ outer) e = record
@@ -172,17 +190,25 @@ ended_in-same r n (Pairs d ∷ outer) e = record
 ended_in-inside : (r : Reader) (n limit : ℕ) (brackets : List Open) → brackets ≡ r.brackets
     → length r.nodes ≡ n + 1
     → All (λ node. IsValueBy (length r.nodes) limit node.value) r.nodes
-        → AllByRecursion (IsOpenBy n) brackets → Inside (ended_in r n brackets) limit
-ended_in-inside r n limit [] e long v o = record
-    { nodes = v; brackets = subst (λ b. AllByRecursion (IsOpenBy (length r.nodes)) b) e tt; phase
-    = omega arith }
+    → AllByRecursion (IsOpenBy n) brackets → Inside (ended_in r n brackets) limit
+ended_in-inside r n limit [] e long v o = record {
+  nodes = v;
+  brackets = subst (λ b. AllByRecursion (IsOpenBy (length r.nodes)) b) e tt;
+  phase
+      = omega arith;
+}
 ended_in-inside r n limit (Items at items ∷ outer) e long v o =
     let m = length r.nodes in
     record {
       nodes = v;
-      brackets = ((omega (arith, length_push items n, o.0.0), All-push (λ i. i < m) items n
-          (All-weaker (λ i. i < n) (λ i. i < m) (λ i q. omega arith) items o.0.1) (omega arith)),
-          open_more n m outer (omega arith) o.1);
+      brackets = (
+        (
+          omega (arith, length_push items n, o.0.0),
+          All-push (λ i. i < m) items n
+              (All-weaker (λ i. i < n) (λ i. i < m) (λ i q. omega arith) items o.0.1) (omega arith),
+        ),
+        open_more n m outer (omega arith) o.1,
+      );
       phase = tt;
     }
 ended_in-inside r n limit (Pairs d ∷ outer) e long v o =
@@ -195,8 +221,8 @@ ended_in-inside r n limit (Pairs d ∷ outer) e long v o =
           omega (arith, o.0.1),
           All-push (λ pair. (pair.0 < m) × (pair.1 < m)) d.pairs (d.key, n)
               (All-weaker (λ pair. (pair.0 < n) × (pair.1 < n))
-                  (λ pair. (pair.0 < m) × (pair.1 < m))
-                  (λ pair q. (omega (arith, q.0), omega (arith, q.1))) d.pairs o.0.2)
+              (λ pair. (pair.0 < m) × (pair.1 < m))
+              (λ pair q. (omega (arith, q.0), omega (arith, q.1))) d.pairs o.0.2)
               (omega (arith, o.0.1), omega arith),
         ),
         open_more n m outer (omega arith) o.1,
@@ -209,7 +235,7 @@ value_ended-inside : (r : Reader) (at end limit : ℕ) (value : TreeValue) → I
 unfolding value_ended
 value_ended-inside r at end limit value i v =
     ended_in-inside (with_node r at end value) (length r.nodes) limit r.brackets refl
-        (length_push r.nodes (record { place = at; end = end; value = value }))
+    (length_push r.nodes (record { place = at; end = end; value = value }))
     (nodes_more r.nodes at end limit value i.nodes v) i.brackets
 
 value_ended-same : (r : Reader) (at end : ℕ) (value : TreeValue)
@@ -222,13 +248,13 @@ value_ended-same r at end value = ended_in-same (with_node r at end value) (leng
 pub value_ended-sound : (r : Reader) (at end place : ℕ) (value : TreeValue) → Inside r place
     → IsValueBy (length r.nodes) place value
     → length r.nodes + 1 + length r.brackets + token_weight r.token ≤ place
-        → length r.text + text_weight r.token ≤ place → length r.bytes ≤ place
+    → length r.text + text_weight r.token ≤ place → length r.bytes ≤ place
     → Sound (value_ended r at end value) place
 value_ended-sound r at end place value i v count text bytes =
     let same = value_ended-same r at end value in
     let s = value_ended r at end value in
     let nodes : length s.nodes ≡ length r.nodes + 1 = ap length same.nodes
-        ∙ length_push r.nodes (record { place = at; end = end; value = value }) in
+    ∙ length_push r.nodes (record { place = at; end = end; value = value }) in
     record {
       count = omega (arith, nodes, same.brackets, ap token_weight same.token, count);
       text = omega (arith, ap length same.text, ap text_weight same.token, text);

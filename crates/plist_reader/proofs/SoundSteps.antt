@@ -1,13 +1,13 @@
 -- Each step keeps what holds of a reader, and each tree that is given is one whose parts are among
 -- its values.
-use Rattle.std.proofs.Common.{◌≡◌, ℕ, ◌+◌, ◌-◌, ◌*◌, ◌<◌, ◌≤◌, Bool, true, false, cond, eqb, ltb,
-    leb, ◌&&◌, ◌||◌, List, [], ◌∷◌, ◌++◌, length, Option, Some, None, Result, Ok, Err, refl, ap,
-    arith, IfOk}
+use Rattle.std.proofs.Common.{◌≡◌, ℕ, ◌+◌, ◌-◌, ◌*◌, ◌<◌, ◌≤◌, Bool, true, false, cond, eqb, ltb}
+use Rattle.std.proofs.Common.{leb, ◌&&◌, ◌||◌, List, [], ◌∷◌, ◌++◌, length, Option, Some, None}
+use Rattle.std.proofs.Common.{Result, Ok, Err, refl, ap, arith, IfOk}
 use Rattle.std.specs.List.{AllByRecursion}
 use Rattle.std.proofs.lemmas.List.{length_push, length-append}
 use Rattle.std.proofs.lemmas.List.Elements.{All-weaker, All-nil}
-use Rattle.std.proofs.lemmas.Str.{length-encode, len_utf8_bounds, encodes-chars,
-    IsUtf8-from_is_utf8}
+use Rattle.std.proofs.lemmas.Str.{length-encode, len_utf8_bounds, encodes-chars}
+use Rattle.std.proofs.lemmas.Str.{IsUtf8-from_is_utf8}
 use Rattle.std.specs.Char.{len_utf8}
 use Rattle.std.specs.Str.{encode_utf8_all, is_utf8, chars}
 use Rattle.std.specs.Str.Lossy.{utf8_valid_len}
@@ -19,33 +19,39 @@ use Rattle.plist_reader.specs.declared.tree.TreeValue.{TreeValue}
 use Rattle.plist_reader.specs.declared.tree.TreeValue.TheVariants as tree
 use Rattle.plist_reader.specs.declared.reader.Reader.{Reader}
 use Rattle.plist_reader.specs.declared.reader.Phase.{Phase}
-use Rattle.plist_reader.specs.declared.reader.Phase.TheVariants.{Value, Item, ItemEnd, Key, KeyEnd,
-    PairEnd, End}
+use Rattle.plist_reader.specs.declared.reader.Phase.TheVariants.{Value, Item, ItemEnd, Key, KeyEnd}
+use Rattle.plist_reader.specs.declared.reader.Phase.TheVariants.{PairEnd, End}
 use Rattle.plist_reader.specs.declared.reader.Token.{Token}
-use Rattle.plist_reader.specs.declared.reader.Token.TheVariants.{Between, Word, Quoted, Escape,
-    Bytes, Half}
+use Rattle.plist_reader.specs.declared.reader.Token.TheVariants.{Between, Word, Quoted, Escape}
+use Rattle.plist_reader.specs.declared.reader.Token.TheVariants.{Bytes, Half}
 use Rattle.plist_reader.specs.declared.reader.Open.{Open}
 use Rattle.plist_reader.specs.declared.reader.Open.TheVariants.{Items, Pairs}
 use Rattle.plist_reader.specs.declared.escape.Escape.{Escape as EscapeState}
-use Rattle.plist_reader.specs.declared.escape.Escape.TheVariants.{Begun, Octal, Octals, Unit0,
-    Unit1, Unit2, Unit3, High, HighBackslash, Low, Low1, Low2, Low3}
+use Rattle.plist_reader.specs.declared.escape.Escape.TheVariants.{Begun, Octal, Octals, Unit0}
+use Rattle.plist_reader.specs.declared.escape.Escape.TheVariants.{Unit1, Unit2, Unit3, High}
+use Rattle.plist_reader.specs.declared.escape.Escape.TheVariants.{HighBackslash, Low, Low1, Low2}
+use Rattle.plist_reader.specs.declared.escape.Escape.TheVariants.{Low3}
 use Rattle.plist_reader.specs.declared.escape.Escaped.{Escaped}
 use Rattle.plist_reader.specs.declared.escape.Escaped.TheVariants.{More, Whole, Wrong}
 use Rattle.plist_reader.specs.Tree.{IsTree, IsValue, source_limit}
 use Rattle.plist_reader.specs.Characters.{is_space, is_word, octal_value, hex_value, byte_of}
-use Rattle.plist_reader.specs.Escapes.{character_of, escape_begun, escape_unit, escape_digit,
-    with_hex, with_octal, with_last_octal, escape_next}
+use Rattle.plist_reader.specs.Escapes.{character_of, escape_begun, escape_unit, escape_digit}
+use Rattle.plist_reader.specs.Escapes.{with_hex, with_octal, with_last_octal, escape_next}
 use Rattle.plist_reader.specs.Keys.{is_among}
 use Rattle.plist_reader.specs.Refusals.{refusal}
 use Rattle.refusal_codes.specs.Gives.{◌>>=◌}
-use Rattle.plist_reader.specs.Reading.{start, is_key, is_bracket, max_depth, key_ended_in,
-    key_ended, text_ended, text_begun, list_opened, dictionary_opened, bracket_opened, value_begun,
-    list_closed_in, list_closed, dictionary_closed_in, dictionary_closed, awaited, between, in_word,
-    in_quoted, after_escape, after_half, after_hex, in_bytes, in_half, step_in, step, whole_in,
-    whole, finish_in, finish, run, read_of}
-use Rattle.plist_reader.proofs.SoundLemmas.{token_weight, escape_weight, text_weight, IsValueBy,
-    IsOpenBy, IsPhaseBy, Inside, Sound, open_more, Inside-later, Sound-later, nodes_more,
-    value_ended-sound}
+use Rattle.plist_reader.specs.Reading.{start, is_key, is_bracket, max_depth, key_ended_in}
+use Rattle.plist_reader.specs.Reading.{key_ended, text_ended, text_begun, list_opened}
+use Rattle.plist_reader.specs.Reading.{dictionary_opened, bracket_opened, value_begun}
+use Rattle.plist_reader.specs.Reading.{list_closed_in, list_closed, dictionary_closed_in}
+use Rattle.plist_reader.specs.Reading.{dictionary_closed, awaited, between, in_word, in_quoted}
+use Rattle.plist_reader.specs.Reading.{after_escape, after_half, after_hex, in_bytes, in_half}
+use Rattle.plist_reader.specs.Reading.{step_in, step, whole_in, whole, finish_in, finish, run}
+use Rattle.plist_reader.specs.Reading.{read_of}
+use Rattle.plist_reader.proofs.SoundLemmas.{token_weight, escape_weight, text_weight, IsValueBy}
+use Rattle.plist_reader.proofs.SoundLemmas.{IsOpenBy, IsPhaseBy, Inside, Sound, open_more}
+use Rattle.plist_reader.proofs.SoundLemmas.{Inside-later, Sound-later, nodes_more}
+use Rattle.plist_reader.proofs.SoundLemmas.{value_ended-sound}
 
 -- ---- choices
 
@@ -91,7 +97,7 @@ escape_unit-weighs : (n a b c d : ℕ) → 6 ≤ n → Weighs n (escape_unit a b
 unfolding escape_unit
 escape_unit-weighs n a b c d h = let u = a * 4096 + b * 256 + c * 16 + d in
     holds-cond (Weighs n) (leb 0xD800 u && ltb u 0xDC00) _ _ (omega arith)
-        (character_of-weighs n u (omega arith))
+    (character_of-weighs n u (omega arith))
 
 escape_digit-weighs : (n : ℕ) (e : EscapeState) (d : ℕ) → escape_weight e + 1 ≤ n
     → Weighs n (escape_digit e d)
@@ -161,7 +167,7 @@ key_ended_in-sound : (r : Reader) (at end place : ℕ) (text : List ℕ) (bracke
     → brackets ≡ r.brackets → AllByRecursion (IsOpenBy (length r.nodes)) brackets
     → Inside r place → length text ≤ place
     → length r.nodes + 1 + length r.brackets + token_weight r.token ≤ place
-        → length r.text + text_weight r.token ≤ place → length r.bytes ≤ place
+    → length r.text + text_weight r.token ≤ place → length r.bytes ≤ place
     → IfOk (key_ended_in r at end text brackets) (λ s. Sound s place)
 key_ended_in-sound r at end place text [] e o i t count tx b = tt
 key_ended_in-sound r at end place text (Items p items ∷ outer) e o i t count tx b = tt
@@ -197,10 +203,10 @@ unfolding text_ended key_ended
 text_ended-sound r at end place i t count b =
     let s : Reader = record r { token = Between; text = [] } in
     let inside : Inside s place = record { nodes = i.nodes; brackets = i.brackets; phase = i.phase }
-        in
+    in
     if_ok-cond (λ s. Sound s place) (is_key r.phase) _ _
     (key_ended_in-sound s at end place r.text r.brackets refl i.brackets inside t (omega arith)
-        (omega arith) b)
+    (omega arith) b)
     (value_ended-sound s at end place (tree.Text r.text) inside t (omega arith) (omega arith) b)
 
 -- ---- between tokens
@@ -214,14 +220,24 @@ text_begun-sound r place c h =
     let P = λ (s : Reader). Sound s q in
     let i = Inside-later r place q (omega arith) h.inside in
     if_ok-cond P (eqb c 34) _ _
-    (record { count = omega (arith, h.count); text = omega (arith, h.text); bytes
-        = omega (arith, h.bytes); inside = record
-        { nodes = i.nodes; brackets = i.brackets; phase = i.phase } })
+    (record {
+      count = omega (arith, h.count);
+      text = omega (arith, h.text);
+      bytes
+          = omega (arith, h.bytes);
+      inside = record
+          { nodes = i.nodes; brackets = i.brackets; phase = i.phase };
+    })
     (if_ok-cond P (is_word c) _ _
-    (record { count = omega (arith, h.count); text
-        = omega (arith, h.text, length-append r.text (encode c), length-encode c); bytes
-        = omega (arith, h.bytes); inside = record
-        { nodes = i.nodes; brackets = i.brackets; phase = i.phase } })
+    (record {
+      count = omega (arith, h.count);
+      text
+          = omega (arith, h.text, length-append r.text (encode c), length-encode c);
+      bytes
+          = omega (arith, h.bytes);
+      inside = record
+          { nodes = i.nodes; brackets = i.brackets; phase = i.phase };
+    })
     tt)
 
 bracket_opened-sound : (r : Reader) (place c : ℕ) → Sound r place
@@ -234,15 +250,39 @@ bracket_opened-sound r place c h =
     let i = Inside-later r place q (omega arith) h.inside in
     if_ok-cond P (ltb (length r.brackets) max_depth) _ _
     (holds-cond P (eqb c 40) (list_opened r place) (dictionary_opened r place)
-    (record { count = omega (arith, h.count); text = omega (arith, h.text); bytes
-        = omega (arith, h.bytes); inside = record
-        { nodes = i.nodes; brackets = ((omega arith, All-nil (λ n. n < length r.nodes)),
-        i.brackets); phase = tt } })
-    (record { count = omega (arith, h.count); text = omega (arith, h.text); bytes
-        = omega (arith, h.bytes); inside = record
-        { nodes = i.nodes; brackets = ((omega arith, omega arith, All-nil
-        (λ pair. (pair.0 < length r.nodes) × (pair.1 < length r.nodes))), i.brackets); phase = tt }
-        }))
+    (record {
+      count = omega (arith, h.count);
+      text = omega (arith, h.text);
+      bytes
+          = omega (arith, h.bytes);
+      inside = record {
+        nodes = i.nodes;
+        brackets = (
+          (omega arith, All-nil (λ n. n < length r.nodes)),
+          i.brackets,
+        );
+        phase = tt;
+      };
+    })
+    (record {
+      count = omega (arith, h.count);
+      text = omega (arith, h.text);
+      bytes
+          = omega (arith, h.bytes);
+      inside = record {
+        nodes = i.nodes;
+        brackets = (
+          (
+            omega arith,
+            omega arith,
+            All-nil
+                (λ pair. (pair.0 < length r.nodes) × (pair.1 < length r.nodes)),
+          ),
+          i.brackets,
+        );
+        phase = tt;
+      };
+    }))
     tt
 
 value_begun-sound : (r : Reader) (place c : ℕ) → Sound r place
@@ -255,9 +295,14 @@ value_begun-sound r place c h =
     let i = Inside-later r place q (omega arith) h.inside in
     if_ok-cond P (is_bracket c) _ _ (bracket_opened-sound r place c h)
     (if_ok-cond P (eqb c 60) _ _
-    (record { count = omega (arith, h.count); text = omega (arith, h.text); bytes
-        = omega (arith, h.bytes); inside = record
-        { nodes = i.nodes; brackets = i.brackets; phase = i.phase } })
+    (record {
+      count = omega (arith, h.count);
+      text = omega (arith, h.text);
+      bytes
+          = omega (arith, h.bytes);
+      inside = record
+          { nodes = i.nodes; brackets = i.brackets; phase = i.phase };
+    })
     (text_begun-sound r place c h))
 
 list_closed_in-sound : (r : Reader) (place q : ℕ) (brackets : List Open) → brackets ≡ r.brackets
@@ -269,7 +314,7 @@ list_closed_in-sound r place q (Items at items ∷ outer) e o h g =
     let s : Reader = record r { brackets = outer } in
     let i = Inside-later r place q (omega arith) h.inside in
     value_ended-sound s at (place + 1) q (tree.Items items)
-        (record { nodes = i.nodes; brackets = o.1; phase = i.phase })
+    (record { nodes = i.nodes; brackets = o.1; phase = i.phase })
     (omega (arith, o.0.0, h.count), o.0.1)
     (omega (arith, h.count, ap length e)) (omega (arith, h.text)) (omega (arith, h.bytes))
 
@@ -282,7 +327,7 @@ dictionary_closed_in-sound r place q (Pairs d ∷ outer) e o h g =
     let s : Reader = record r { brackets = outer } in
     let i = Inside-later r place q (omega arith) h.inside in
     value_ended-sound s d.place (place + 1) q (tree.Pairs d.pairs)
-        (record { nodes = i.nodes; brackets = o.1; phase = i.phase })
+    (record { nodes = i.nodes; brackets = o.1; phase = i.phase })
     (omega (arith, o.0.0, h.count), o.0.2)
     (omega (arith, h.count, ap length e)) (omega (arith, h.text)) (omega (arith, h.bytes))
 
@@ -290,9 +335,14 @@ with_phase-sound : (r : Reader) (phase : Phase) (place q : ℕ) → IsPhaseBy (l
     → place ≤ q → Sound r place → Sound (record r { phase = phase }) q
 with_phase-sound r phase place q p g h =
     let i = Inside-later r place q g h.inside in
-    record { count = omega (arith, h.count); text = omega (arith, h.text); bytes
-        = omega (arith, h.bytes); inside = record
-        { nodes = i.nodes; brackets = i.brackets; phase = p } }
+    record {
+      count = omega (arith, h.count);
+      text = omega (arith, h.text);
+      bytes
+          = omega (arith, h.bytes);
+      inside = record
+          { nodes = i.nodes; brackets = i.brackets; phase = p };
+    }
 
 awaited-sound : (r : Reader) (place c : ℕ) (phase : Phase) → Sound r place
     → IfOk (awaited r place c phase) (λ s. Sound s (place + len_utf8 c))
@@ -300,21 +350,21 @@ unfolding list_closed dictionary_closed
 awaited-sound r place c Value h = value_begun-sound r place c h
 awaited-sound r place c Item h = let P = λ (s : Reader). Sound s (place + len_utf8 c) in
     if_ok-cond P (eqb c 41) _ _ (list_closed_in-sound r place (place + len_utf8 c) r.brackets refl
-        h.inside.brackets h (omega (arith, len_utf8_bounds c))) (value_begun-sound r place c h)
+    h.inside.brackets h (omega (arith, len_utf8_bounds c))) (value_begun-sound r place c h)
 awaited-sound r place c ItemEnd h = let P = λ (s : Reader). Sound s (place + len_utf8 c) in
     if_ok-cond P (eqb c 41) _ _ (list_closed_in-sound r place (place + len_utf8 c) r.brackets refl
-        h.inside.brackets h (omega (arith, len_utf8_bounds c)))
+    h.inside.brackets h (omega (arith, len_utf8_bounds c)))
     (if_ok-cond P (eqb c 44) _ _ (with_phase-sound r Item place (place + len_utf8 c) tt
-        (omega arith) h) tt)
+    (omega arith) h) tt)
 awaited-sound r place c Key h = let P = λ (s : Reader). Sound s (place + len_utf8 c) in
     if_ok-cond P (eqb c 125) _ _ (dictionary_closed_in-sound r place (place + len_utf8 c) r.brackets
-        refl h.inside.brackets h (omega (arith, len_utf8_bounds c))) (text_begun-sound r place c h)
+    refl h.inside.brackets h (omega (arith, len_utf8_bounds c))) (text_begun-sound r place c h)
 awaited-sound r place c KeyEnd h = let P = λ (s : Reader). Sound s (place + len_utf8 c) in
     if_ok-cond P (eqb c 61) _ _ (with_phase-sound r Value place (place + len_utf8 c) tt
-        (omega arith) h) tt
+    (omega arith) h) tt
 awaited-sound r place c PairEnd h = let P = λ (s : Reader). Sound s (place + len_utf8 c) in
     if_ok-cond P (eqb c 59) _ _ (with_phase-sound r Key place (place + len_utf8 c) tt (omega arith)
-        h) tt
+    h) tt
 awaited-sound r place c (End number) h = tt
 
 between-sound : (r : Reader) (place c : ℕ) → Sound r place
@@ -333,13 +383,18 @@ in_word-sound r at place c e h =
     let P = λ (s : Reader). Sound s q in
     let i = Inside-later r place q (omega arith) h.inside in
     if_ok-cond P (is_word c) _ _
-    (record { count = omega (arith, h.count); text
-        = omega (arith, h.text, length-append r.text (encode c), length-encode c); bytes
-        = omega (arith, h.bytes); inside = record
-        { nodes = i.nodes; brackets = i.brackets; phase = i.phase } })
+    (record {
+      count = omega (arith, h.count);
+      text
+          = omega (arith, h.text, length-append r.text (encode c), length-encode c);
+      bytes
+          = omega (arith, h.bytes);
+      inside = record
+          { nodes = i.nodes; brackets = i.brackets; phase = i.phase };
+    })
     (if_ok-bind (λ s. Sound s place) P (text_ended r at place) (λ s. between s place c)
     (text_ended-sound r at place place h.inside (omega (arith, h.text))
-        (omega (arith, h.count, ap token_weight e)) h.bytes)
+    (omega (arith, h.count, ap token_weight e)) h.bytes)
     (λ s k. between-sound s place c k))
 
 in_quoted-sound : (r : Reader) (at place c : ℕ) → r.token ≡ Quoted at → Sound r place
@@ -352,31 +407,57 @@ in_quoted-sound r at place c e h =
     let i = Inside-later r place q (omega arith) h.inside in
     if_ok-cond P (eqb c 34) _ _
     (text_ended-sound r at (place + 1) q i (omega (arith, h.text))
-        (omega (arith, h.count, ap token_weight e)) (omega (arith, h.bytes)))
+    (omega (arith, h.count, ap token_weight e)) (omega (arith, h.bytes)))
     (if_ok-cond P (eqb c 92) _ _
-    (record { count = omega (arith, h.count, ap token_weight e); text = omega (arith, h.text); bytes
-        = omega (arith, h.bytes); inside = record
-        { nodes = i.nodes; brackets = i.brackets; phase = i.phase } })
-    (record { count = omega (arith, h.count); text
-        = omega (arith, h.text, length-append r.text (encode c), length-encode c); bytes
-        = omega (arith, h.bytes); inside = record
-        { nodes = i.nodes; brackets = i.brackets; phase = i.phase } }))
+    (record {
+      count = omega (arith, h.count, ap token_weight e);
+      text = omega (arith, h.text);
+      bytes
+          = omega (arith, h.bytes);
+      inside = record
+          { nodes = i.nodes; brackets = i.brackets; phase = i.phase };
+    })
+    (record {
+      count = omega (arith, h.count);
+      text
+          = omega (arith, h.text, length-append r.text (encode c), length-encode c);
+      bytes
+          = omega (arith, h.bytes);
+      inside = record
+          { nodes = i.nodes; brackets = i.brackets; phase = i.phase };
+    }))
 
 after_escape-sound : (r : Reader) (at backslash place q : ℕ) (escape : EscapeState)
     (escaped : Escaped) → r.token ≡ Escape at backslash escape
     → Weighs (escape_weight escape + (q - place)) escaped → place ≤ q → Sound r place
-        → IfOk (after_escape r at backslash escaped) (λ s. Sound s q)
+    → IfOk (after_escape r at backslash escaped) (λ s. Sound s q)
 after_escape-sound r at backslash place q escape (More next) e w g h =
     let i = Inside-later r place q g h.inside in
-    record { count = omega (arith, h.count, ap token_weight e); text
-        = omega (arith, h.text, ap text_weight e, w); bytes = omega (arith, h.bytes); inside
-        = record { nodes = i.nodes; brackets = i.brackets; phase = i.phase } }
+    record {
+      count = omega (arith, h.count, ap token_weight e);
+      text
+          = omega (arith, h.text, ap text_weight e, w);
+      bytes = omega (arith, h.bytes);
+      inside
+          = record { nodes = i.nodes; brackets = i.brackets; phase = i.phase };
+    }
 after_escape-sound r at backslash place q escape (Whole character) e w g h =
     let i = Inside-later r place q g h.inside in
-    record { count = omega (arith, h.count, ap token_weight e); text
-        = omega (arith, h.text, ap text_weight e, w, length-append r.text (encode character),
-        length-encode character); bytes = omega (arith, h.bytes); inside
-        = record { nodes = i.nodes; brackets = i.brackets; phase = i.phase } }
+    record {
+      count = omega (arith, h.count, ap token_weight e);
+      text
+          = omega (
+            arith,
+            h.text,
+            ap text_weight e,
+            w,
+            length-append r.text (encode character),
+            length-encode character,
+          );
+      bytes = omega (arith, h.bytes);
+      inside
+          = record { nodes = i.nodes; brackets = i.brackets; phase = i.phase };
+    }
 after_escape-sound r at backslash place q escape Wrong e w g h = tt
 
 after_hex-sound : (r : Reader) (at place c q : ℕ) (digit : Option ℕ) → r.token ≡ Bytes at
@@ -384,18 +465,28 @@ after_hex-sound : (r : Reader) (at place c q : ℕ) (digit : Option ℕ) → r.t
 after_hex-sound r at place c q None e g h = tt
 after_hex-sound r at place c q (Some digit) e g h =
     let i = Inside-later r place q g h.inside in
-    record { count = omega (arith, h.count, ap token_weight e); text = omega (arith, h.text); bytes
-        = omega (arith, h.bytes); inside = record
-        { nodes = i.nodes; brackets = i.brackets; phase = i.phase } }
+    record {
+      count = omega (arith, h.count, ap token_weight e);
+      text = omega (arith, h.text);
+      bytes
+          = omega (arith, h.bytes);
+      inside = record
+          { nodes = i.nodes; brackets = i.brackets; phase = i.phase };
+    }
 
 after_half-sound : (r : Reader) (at high place c q : ℕ) (byte : Option ℕ) → r.token ≡ Half at high
     → place + 1 ≤ q → Sound r place → IfOk (after_half r at place c byte) (λ s. Sound s q)
 after_half-sound r at high place c q None e g h = tt
 after_half-sound r at high place c q (Some byte) e g h =
     let i = Inside-later r place q (omega arith) h.inside in
-    record { count = omega (arith, h.count, ap token_weight e); text = omega (arith, h.text); bytes
-        = omega (arith, h.bytes, length_push r.bytes byte); inside
-        = record { nodes = i.nodes; brackets = i.brackets; phase = i.phase } }
+    record {
+      count = omega (arith, h.count, ap token_weight e);
+      text = omega (arith, h.text);
+      bytes
+          = omega (arith, h.bytes, length_push r.bytes byte);
+      inside
+          = record { nodes = i.nodes; brackets = i.brackets; phase = i.phase };
+    }
 
 in_bytes-sound : (r : Reader) (at place c : ℕ) → r.token ≡ Bytes at → Sound r place
     → IfOk (in_bytes r at place c) (λ s. Sound s (place + len_utf8 c))
@@ -408,9 +499,9 @@ in_bytes-sound r at place c e h =
     if_ok-cond P (is_space c) _ _ (Sound-later r place q (omega arith) h)
     (if_ok-cond P (eqb c 62) _ _
     (value_ended-sound s at (place + 1) q (tree.Bytes r.bytes)
-        (record { nodes = i.nodes; brackets = i.brackets; phase = i.phase })
-        (omega (arith, h.bytes)) (omega (arith, h.count, ap token_weight e)) (omega (arith, h.text))
-        (omega arith))
+    (record { nodes = i.nodes; brackets = i.brackets; phase = i.phase })
+    (omega (arith, h.bytes)) (omega (arith, h.count, ap token_weight e)) (omega (arith, h.text))
+    (omega arith))
     (after_hex-sound r at place c q (hex_value c) e (omega arith) h))
 
 in_half-sound : (r : Reader) (at high place c : ℕ) → r.token ≡ Half at high → Sound r place
@@ -428,7 +519,7 @@ step_in-sound r place c (Word at) e h = in_word-sound r at place c e h
 step_in-sound r place c (Quoted at) e h = in_quoted-sound r at place c e h
 step_in-sound r place c (Escape at backslash escape) e h =
     after_escape-sound r at backslash place (place + len_utf8 c) escape (escape_next escape c) e
-        (escape_next-weighs _ escape c (omega arith)) (omega arith) h
+    (escape_next-weighs _ escape c (omega arith)) (omega arith) h
 step_in-sound r place c (Bytes at) e h = in_bytes-sound r at place c e h
 step_in-sound r place c (Half at high) e h = in_half-sound r at high place c e h
 
@@ -473,7 +564,7 @@ finish_in-sound r place end Between e g h = whole-sound r place end g h
 finish_in-sound r place end (Word at) e g h = if_ok-cond IsTree (eqb (length r.brackets) 0) _ _
     (if_ok-bind (λ s. Sound s place) IsTree (text_ended r at end) (λ s. whole s end)
     (text_ended-sound r at end place h.inside (omega (arith, h.text))
-        (omega (arith, h.count, ap token_weight e)) h.bytes)
+    (omega (arith, h.count, ap token_weight e)) h.bytes)
     (λ s k. whole-sound s place end g k))
     tt
 finish_in-sound r place end (Quoted at) e g h = tt
@@ -493,12 +584,17 @@ run-sound [] r place g h = finish-sound r place (omega arith) h
 run-sound (c ∷ cs) r place g h = if_ok-bind (λ s. Sound s (place + len_utf8 c)) IsTree
     (step r place c) (λ s. run s (place + len_utf8 c) cs) (step-sound r place c h)
     (λ s k. run-sound cs s (place + len_utf8 c)
-        (omega (arith, g, length-append (encode c) (encode_utf8_all cs), length-encode c)) k)
+    (omega (arith, g, length-append (encode c) (encode_utf8_all cs), length-encode c)) k)
 
 start-sound : Sound start 0
 unfolding start
-start-sound = record { count = omega arith; text = omega arith; bytes = omega arith; inside
-    = record { nodes = All-nil (λ node. IsValueBy 0 0 node.value); brackets = tt; phase = tt } }
+start-sound = record {
+  count = omega arith;
+  text = omega arith;
+  bytes = omega arith;
+  inside
+      = record { nodes = All-nil (λ node. IsValueBy 0 0 node.value); brackets = tt; phase = tt };
+}
 
 read_of-sound_if : (source : List ℕ) (b : Bool) → is_utf8 source ≡ b → length source ≤ source_limit
     → IfOk (cond b (run start 0 (chars source)) (Err (refusal NotUtf8 (utf8_valid_len source))))

@@ -1,6 +1,7 @@
 -- What holds of each tree of a source.
-use Rattle.std.proofs.Common.{inl, inr, ◌≡◌, ℕ, ◌+◌, ◌<◌, ◌≤◌, Bool, true, false, cond, ltb, List,
-    [], ◌∷◌, ◌++◌, length, Ok, refl, sym, ap, subst, ◌∙◌, arith, append_assoc}
+use Rattle.std.proofs.Common.{inl, inr, ◌≡◌, ℕ, ◌+◌, ◌<◌, ◌≤◌, Bool, true, false, cond, ltb, List}
+use Rattle.std.proofs.Common.{[], ◌∷◌, ◌++◌, length, Ok, refl, sym, ap, subst, ◌∙◌, arith}
+use Rattle.std.proofs.Common.{append_assoc}
 use Rattle.std.specs.List.{All}
 use Rattle.std.proofs.lemmas.Bool.{cases_lt}
 use Rattle.std.proofs.lemmas.List.{length-append, append-nil}
@@ -25,16 +26,18 @@ use Rattle.plist_reader.proofs.RunLemmas.{read_of-text}
 use Rattle.plist_reader.proofs.Scalars.{AreScalars, source-scalars}
 use Rattle.plist_reader.proofs.GivenTokens.{settled, width-append, width-long}
 use Rattle.plist_reader.proofs.GivenTexts.{given}
-use Rattle.plist_reader.proofs.Moves.{TextEnds, as_value, as_key, Moves, space_between,
-    string_begins, word_begins, bytes_begin, list_begins, dictionary_begins, comma, equals,
-    semicolon, list_ends, dictionary_ends, word_more, word_ends, string_more, string_ends,
-    escape_begins, escape_more, escape_ends, space_in_bytes, first_digit, space_in_half,
-    second_digit, bytes_end, Closes, closes_between, closes_word}
+use Rattle.plist_reader.proofs.Moves.{TextEnds, as_value, as_key, Moves, space_between}
+use Rattle.plist_reader.proofs.Moves.{string_begins, word_begins, bytes_begin, list_begins}
+use Rattle.plist_reader.proofs.Moves.{dictionary_begins, comma, equals, semicolon, list_ends}
+use Rattle.plist_reader.proofs.Moves.{dictionary_ends, word_more, word_ends, string_more}
+use Rattle.plist_reader.proofs.Moves.{string_ends, escape_begins, escape_more, escape_ends}
+use Rattle.plist_reader.proofs.Moves.{space_in_bytes, first_digit, space_in_half, second_digit}
+use Rattle.plist_reader.proofs.Moves.{bytes_end, Closes, closes_between, closes_word}
 use Rattle.plist_reader.proofs.Fronts.{WordIn, StringIn, TokenIn, ends-between}
-use Rattle.plist_reader.proofs.Reached.{Reached, at_start, onward, reached-moves, reached-token,
-    width-push}
-use Rattle.plist_reader.proofs.Depths.{at_of, In, before, Placed, Count, moves-placed, moves-count,
-    closes-count, reached-placed, runs-keep}
+use Rattle.plist_reader.proofs.Reached.{Reached, at_start, onward, reached-moves, reached-token}
+use Rattle.plist_reader.proofs.Reached.{width-push}
+use Rattle.plist_reader.proofs.Depths.{at_of, In, before, Placed, Count, moves-placed, moves-count}
+use Rattle.plist_reader.proofs.Depths.{closes-count, reached-placed, runs-keep}
 use Rattle.plist_reader.proofs.InEscapes.{reached-end}
 use Rattle.plist_reader.proofs.Dictionaries.{tree-dictionaries}
 
@@ -53,9 +56,11 @@ few-open p r h = omega (arith, h.nodes p (omega arith), h.shallow, before-few p 
 
 few-kept : (p place c : ℕ) (r s : Reader) → Moves place c r s → Placed r place → Count p r ≤ 64
     → Count p s ≤ 64
-few-kept p place c r s m h l = elim (cases_lt place p)
-    [ inl k ↦ few-open p s (moves-placed place c p r s k m h) | inr k ↦ omega
-    (arith, moves-count p place c r s k m, l) ]
+few-kept p place c r s m h l = elim (cases_lt place p) [
+  | inl k ↦ few-open p s (moves-placed place c p r s k m h)
+  | inr k ↦ omega
+      (arith, moves-count p place c r s k m, l)
+]
 
 start-few : (p : ℕ) → Count p start ≤ 64
 unfolding start
@@ -71,15 +76,27 @@ tree-few cs t p i e = runs-keep (λ u. Count p u ≤ 64) (λ x. open_at p x.node
 -- ---- values stand in the text
 
 stands-later : (front more : List ℕ) (n : TreeNode) → StandsIn front n → StandsIn (front ++ more) n
-stands-later front more n h = record { some = h.some; inside
-    = omega (arith, h.inside, width-append front more); says = on n.value h.says }
+stands-later front more n h = record {
+  some = h.some;
+  inside
+      = omega (arith, h.inside, width-append front more);
+  says = on n.value h.says;
+}
   where
     on : (v : TreeValue) → SaysText front n.place n.end v → SaysText (front ++ more) n.place n.end v
-    on (tree.Text bytes) k = record { before = k.before; text = k.text; after = k.after
-        ++ more; parts = ap (λ x. x ++ more) k.parts
-        ∙ append_assoc k.before (k.text ++ k.after) more
-        ∙ ap (λ x. k.before ++ x) (append_assoc k.text k.after more); place_is = k.place_is; end_is
-        = k.end_is; spelled = k.spelled }
+    on (tree.Text bytes) k = record {
+      before = k.before;
+      text = k.text;
+      after = k.after
+          ++ more;
+      parts = ap (λ x. x ++ more) k.parts
+          ∙ append_assoc k.before (k.text ++ k.after) more
+          ∙ ap (λ x. k.before ++ x) (append_assoc k.text k.after more);
+      place_is = k.place_is;
+      end_is
+          = k.end_is;
+      spelled = k.spelled;
+    }
     on (tree.Bytes bytes) k = tt
     on (tree.Items items) k = tt
     on (tree.Pairs pairs) k = tt
@@ -109,7 +126,7 @@ stand-value front nodes n brackets h k = subst (λ (x : List TreeNode). Stand fr
 stand-ended : (front : List ℕ) (nodes : List TreeNode) (brackets : List Open) (phase : Phase)
     (at end : ℕ) (text : List ℕ) (u : Reader)
     → TextEnds nodes brackets phase at end text u → Stand front nodes
-        → StandsIn front (node at end (tree.Text text)) → Stand front u.nodes
+    → StandsIn front (node at end (tree.Text text)) → Stand front u.nodes
 stand-ended front nodes _ _ _ _ _ _ (as_value brackets phase at end text a) h k
     = stand-value front nodes (node at end (tree.Text text)) brackets h k
 stand-ended front nodes _ _ _ _ _ _ (as_key d outer at end text e) h k
@@ -119,27 +136,51 @@ stands-word : (front text : List ℕ) (at : ℕ) → WordIn front at text
     → StandsIn front (node at (width front) (tree.Text text))
 stands-word front text at i =
     let w : width front ≡ width i.before + width i.word = ap width i.parts
-        ∙ width-append i.before i.word in
-    record { some = omega (arith, w, i.place, i.own.some, width-long i.word); inside
-        = omega arith; says = record { before = i.before; text = i.word; after = []; parts = i.parts
-        ∙ ap (λ x. i.before ++ x) (sym (append-nil i.word)); place_is = i.place; end_is = w; spelled
-        = inl i.own } }
+    ∙ width-append i.before i.word in
+    record {
+      some = omega (arith, w, i.place, i.own.some, width-long i.word);
+      inside
+          = omega arith;
+      says = record {
+        before = i.before;
+        text = i.word;
+        after = [];
+        parts = i.parts
+            ∙ ap (λ x. i.before ++ x) (sym (append-nil i.word));
+        place_is = i.place;
+        end_is = w;
+        spelled
+            = inl i.own;
+      };
+    }
 
 stands-string : (front text : List ℕ) (at c : ℕ) → c ≡ 34 → StringIn front at text
     → StandsIn (front ++ c ∷ []) (node at (width front + 1) (tree.Text text))
 stands-string front text at c e i =
     let quoted = 34 ∷ (i.inner ++ 34 ∷ []) in
     let all : front ++ c ∷ [] ≡ i.before ++ (quoted ++ []) = ap (λ x. front ++ x ∷ []) e
-        ∙ ap (λ x. x ++ 34 ∷ []) i.parts ∙ append_assoc i.before (34 ∷ i.inner) (34 ∷ [])
-        ∙ ap (λ x. i.before ++ x) (sym (append-nil quoted)) in
+    ∙ ap (λ x. x ++ 34 ∷ []) i.parts ∙ append_assoc i.before (34 ∷ i.inner) (34 ∷ [])
+    ∙ ap (λ x. i.before ++ x) (sym (append-nil quoted)) in
     let w : width front ≡ width i.before + (1 + width i.inner) = ap width i.parts
-        ∙ width-append i.before (34 ∷ i.inner) in
+    ∙ width-append i.before (34 ∷ i.inner) in
     let q : width quoted ≡ 1 + (width i.inner + 1) = omega (arith, width-append i.inner (34 ∷ []))
-        in
-    record { some = omega (arith, w, i.place); inside
-        = omega (arith, width-push front c, len_utf8_bounds c); says
-        = record { before = i.before; text = quoted; after = []; parts = all; place_is
-        = i.place; end_is = omega (arith, w, q); spelled = inr (i.inner, refl, i.quoted) } }
+    in
+    record {
+      some = omega (arith, w, i.place);
+      inside
+          = omega (arith, width-push front c, len_utf8_bounds c);
+      says
+          = record {
+            before = i.before;
+            text = quoted;
+            after = [];
+            parts = all;
+            place_is
+                = i.place;
+            end_is = omega (arith, w, q);
+            spelled = inr (i.inner, refl, i.quoted);
+          };
+    }
 
 -- a value that is no text
 abbrev SaysNone : TreeValue → Type 0
@@ -147,9 +188,13 @@ SaysNone v = (cs : List ℕ) (place end : ℕ) → SaysText cs place end v
 
 stands-other : (front : List ℕ) (c at : ℕ) (v : TreeValue) → at < width front + 1 → SaysNone v
     → StandsIn (front ++ c ∷ []) (node at (width front + 1) v)
-stands-other front c at v l s = record { some = l; inside
-    = omega (arith, width-push front c, len_utf8_bounds c); says
-    = s (front ++ c ∷ []) at (width front + 1) }
+stands-other front c at v l s = record {
+  some = l;
+  inside
+      = omega (arith, width-push front c, len_utf8_bounds c);
+  says
+      = s (front ++ c ∷ []) at (width front + 1);
+}
 
 at_place : (front : List ℕ) (c at end : ℕ) (v : TreeValue) → at < width front + 1
     → width front + 1 ≡ end → SaysNone v → StandsIn (front ++ c ∷ []) (node at end v)
@@ -192,29 +237,29 @@ moves-stand front place c _ _ e (semicolon nodes brackets) k b h
     = stand-later front (c ∷ []) nodes h
 moves-stand front place c _ _ e (list_ends nodes at done outer phase) k b h =
     stand-value (front ++ c ∷ []) nodes (node at (place + 1) (tree.Items done)) outer
-        (stand-later front (c ∷ []) nodes h)
-        (at_place front c at (place + 1) (tree.Items done) (omega (arith, b.0, e))
-        (omega (arith, e)) (λ cs p q. tt))
+    (stand-later front (c ∷ []) nodes h)
+    (at_place front c at (place + 1) (tree.Items done) (omega (arith, b.0, e))
+    (omega (arith, e)) (λ cs p q. tt))
 moves-stand front place c _ _ e (dictionary_ends nodes d outer) k b h =
     stand-value (front ++ c ∷ []) nodes (node d.place (place + 1) (tree.Pairs d.pairs)) outer
-        (stand-later front (c ∷ []) nodes h)
-        (at_place front c d.place (place + 1) (tree.Pairs d.pairs) (omega (arith, b.0, e))
-        (omega (arith, e)) (λ cs p q. tt))
+    (stand-later front (c ∷ []) nodes h)
+    (at_place front c d.place (place + 1) (tree.Pairs d.pairs) (omega (arith, b.0, e))
+    (omega (arith, e)) (λ cs p q. tt))
 moves-stand front place c _ _ e (word_more nodes brackets phase at text a w) k b h
     = stand-later front (c ∷ []) nodes h
 moves-stand front place c _ _ e (word_ends nodes brackets phase at text u s w t m) k b h =
     moves-stand front place c u s e m (between_token front nodes brackets phase at place text u t)
-        (ended-in place nodes brackets phase at place text u t b)
+    (ended-in place nodes brackets phase at place text u t b)
     (stand-ended front nodes brackets phase at place text u t h
-        (subst (λ (x : ℕ). StandsIn front (node at x (tree.Text text))) (sym e)
-        (stands-word front text at k)))
+    (subst (λ (x : ℕ). StandsIn front (node at x (tree.Text text))) (sym e)
+    (stands-word front text at k)))
 moves-stand front place c _ _ e (string_more nodes brackets phase at text a n m) k b h
     = stand-later front (c ∷ []) nodes h
 moves-stand front place c _ _ e (string_ends nodes brackets phase at text s x t) k b h =
     stand-ended (front ++ c ∷ []) nodes brackets phase at (place + 1) text s t
-        (stand-later front (c ∷ []) nodes h)
-        (subst (λ (y : ℕ). StandsIn (front ++ c ∷ []) (node at (y + 1) (tree.Text text))) (sym e)
-        (stands-string front text at c x k))
+    (stand-later front (c ∷ []) nodes h)
+    (subst (λ (y : ℕ). StandsIn (front ++ c ∷ []) (node at (y + 1) (tree.Text text))) (sym e)
+    (stands-string front text at c x k))
 moves-stand front place c _ _ e (escape_begins nodes brackets phase at text a x) k b h
     = stand-later front (c ∷ []) nodes h
 moves-stand front place c _ _ e (escape_more nodes brackets phase at backslash text escape next a x)
@@ -231,9 +276,9 @@ moves-stand front place c _ _ e (second_digit nodes brackets phase at high byte 
     = stand-later front (c ∷ []) nodes h
 moves-stand front place c _ _ e (bytes_end nodes brackets phase at bytes a) k b h =
     stand-value (front ++ c ∷ []) nodes (node at (place + 1) (tree.Bytes bytes)) brackets
-        (stand-later front (c ∷ []) nodes h)
-        (at_place front c at (place + 1) (tree.Bytes bytes) (omega (arith, k)) (omega (arith, e))
-        (λ cs p q. tt))
+    (stand-later front (c ∷ []) nodes h)
+    (at_place front c at (place + 1) (tree.Bytes bytes) (omega (arith, k)) (omega (arith, e))
+    (λ cs p q. tt))
 
 start-stand : Stand [] start.nodes
 unfolding start
@@ -243,7 +288,7 @@ reached-stand : (front : List ℕ) (r : Reader) → Reached front r → Stand fr
 reached-stand _ _ at_start = start-stand
 reached-stand _ _ (onward front r s c i h e) =
     moves-stand front (width front) c r s refl (reached-moves front r s c h e)
-        (reached-token front r h) (reached-placed front r h).brackets (reached-stand front r h)
+    (reached-token front r h) (reached-placed front r h).brackets (reached-stand front r h)
 
 closes-stand : (front : List ℕ) (r : Reader) (t : Tree) → Closes (width front) r t
     → TokenIn r.token front r.text → Stand front r.nodes → Stand front t.nodes
@@ -260,8 +305,12 @@ tree-stand cs t i e = let b = reached-end cs t i e
 
 pub width-bytes : (cs : List ℕ) → width cs ≡ length (encode_utf8_all cs)
 width-bytes [] = refl
-width-bytes (c ∷ cs) = omega (arith, width-bytes cs, length-append (encode c) (encode_utf8_all cs),
-    length-encode c)
+width-bytes (c ∷ cs) = omega (
+  arith,
+  width-bytes cs,
+  length-append (encode c) (encode_utf8_all cs),
+  length-encode c,
+)
 
 pub stands_in_source : (source : List ℕ) (t : Tree) (h : HasTree source t) → StandsInSource source t
 stands_in_source source t h =

@@ -1,6 +1,7 @@
 -- What is read is spelled by the grammar: each step back from a rest that fits is a rest that fits.
-use Rattle.std.proofs.Common.{◌≡◌, ℕ, suc, ◌+◌, ◌*◌, ◌<◌, Bool, true, false, cond, List, [], ◌∷◌,
-    ◌++◌, length, Some, Result, refl, sym, ap, subst, ◌∙◌, arith, append_assoc, IfOk}
+use Rattle.std.proofs.Common.{◌≡◌, ℕ, suc, ◌+◌, ◌*◌, ◌<◌, Bool, true, false, cond, List, [], ◌∷◌}
+use Rattle.std.proofs.Common.{◌++◌, length, Some, Result, refl, sym, ap, subst, ◌∙◌, arith}
+use Rattle.std.proofs.Common.{append_assoc, IfOk}
 use Rattle.std.specs.List.{AllByRecursion}
 use Rattle.std.proofs.lemmas.List.{length-append}
 use Rattle.std.specs.Char.{len_utf8}
@@ -10,25 +11,27 @@ use Rattle.plist_reader.specs.declared.tree.TreeNode.{TreeNode}
 use Rattle.plist_reader.specs.declared.tree.TreeValue.TheVariants as tree
 use Rattle.plist_reader.specs.declared.reader.Reader.{Reader}
 use Rattle.plist_reader.specs.declared.reader.Phase.{Phase}
-use Rattle.plist_reader.specs.declared.reader.Phase.TheVariants.{Value, Item, ItemEnd, Key, KeyEnd,
-    PairEnd, End}
+use Rattle.plist_reader.specs.declared.reader.Phase.TheVariants.{Value, Item, ItemEnd, Key, KeyEnd}
+use Rattle.plist_reader.specs.declared.reader.Phase.TheVariants.{PairEnd, End}
 use Rattle.plist_reader.specs.declared.reader.Token.{Token}
-use Rattle.plist_reader.specs.declared.reader.Token.TheVariants.{Between, Word, Quoted, Escape,
-    Bytes, Half}
+use Rattle.plist_reader.specs.declared.reader.Token.TheVariants.{Between, Word, Quoted, Escape}
+use Rattle.plist_reader.specs.declared.reader.Token.TheVariants.{Bytes, Half}
 use Rattle.plist_reader.specs.declared.reader.Open.{Open}
 use Rattle.plist_reader.specs.declared.reader.Open.TheVariants.{Items, Pairs}
 use Rattle.plist_reader.specs.Characters.{is_word, hex_value}
 use Rattle.plist_reader.specs.Keys.{is_among}
 use Rattle.plist_reader.specs.Grammar as grammar
-use Rattle.plist_reader.specs.Grammar.{node, width, AreSpaces, IsText, IsWord, IsQuoted, IsHex,
-    IsEscape, IsTail, IsItem, IsEntry, AreNone, Spells, SpellItems, SpellEntries, inner_of, own_of,
-    items_nodes, items_numbers, entries_nodes, entries_numbers}
+use Rattle.plist_reader.specs.Grammar.{node, width, AreSpaces, IsText, IsWord, IsQuoted, IsHex}
+use Rattle.plist_reader.specs.Grammar.{IsEscape, IsTail, IsItem, IsEntry, AreNone, Spells}
+use Rattle.plist_reader.specs.Grammar.{SpellItems, SpellEntries, inner_of, own_of, items_nodes}
+use Rattle.plist_reader.specs.Grammar.{items_numbers, entries_nodes, entries_numbers}
 use Rattle.plist_reader.specs.Reading.{ended_in}
 use Rattle.plist_reader.proofs.GivenTokens.{ready, settled, width-append, CanBegin, IsAwaiting}
 use Rattle.plist_reader.proofs.GivenTexts.{opened}
 use Rattle.plist_reader.proofs.SpelledEscapes.{Front}
-use Rattle.plist_reader.proofs.SpelledRests.{Onward, carry, ItemTail, InItems, InEntries, EntryTail,
-    After, AtValue, AtSign, item-from_value, entry-from_key}
+use Rattle.plist_reader.proofs.SpelledRests.{Onward, carry, ItemTail, InItems, InEntries, EntryTail}
+use Rattle.plist_reader.proofs.SpelledRests.{After, AtValue, AtSign, item-from_value}
+use Rattle.plist_reader.proofs.SpelledRests.{entry-from_key}
 
 -- ---- rests between tokens
 
@@ -77,8 +80,8 @@ AfterKey [] t nodes at bytes place cs = ⊥
 AfterKey (Items p done ∷ outer) t nodes at bytes place cs = ⊥
 AfterKey (Pairs d ∷ outer) t nodes at bytes place cs =
     (is_among bytes d.keys ≡ false) × AtSign
-        (After (Pairs (record d { keys = d.keys ++ bytes ∷ []; key = length nodes }) ∷ outer) t)
-        (suc (length outer)) (nodes ++ node at place (tree.Text bytes) ∷ []) place cs
+    (After (Pairs (record d { keys = d.keys ++ bytes ∷ []; key = length nodes }) ∷ outer) t)
+    (suc (length outer)) (nodes ++ node at place (tree.Text bytes) ∷ []) place cs
 
 abbrev pub AfterText : Phase → List Open → Tree → List TreeNode → ℕ → List ℕ → ℕ → List ℕ → Type 0
 AfterText Value brackets t nodes at bytes place cs
@@ -223,7 +226,7 @@ settled-good nodes brackets number = settled_in-good nodes brackets brackets num
 settled_in-rest : (nodes : List TreeNode) (brackets around : List Open) (number : ℕ) (t : Tree)
     (place : ℕ) (cs : List ℕ)
     → Rest (ended_in (ready nodes brackets Value) number around) t place cs
-        → After around t nodes number place cs
+    → After around t nodes number place cs
 settled_in-rest nodes brackets [] number t place cs h = h
 settled_in-rest nodes brackets (Items at done ∷ outer) number t place cs h = h
 settled_in-rest nodes brackets (Pairs d ∷ outer) number t place cs h = h
@@ -239,7 +242,7 @@ settled-rest nodes brackets number t place cs h
 pub awaiting-from_value : (phase : Phase) (brackets : List Open) → IsAwaiting phase
     → Agrees phase brackets → (t : Tree) (nodes : List TreeNode) (place : ℕ) (cs : List ℕ)
     → AtValue (After brackets t) (length brackets) nodes place cs
-        → RestIn phase brackets t nodes place cs
+    → RestIn phase brackets t nodes place cs
 awaiting-from_value Value brackets a g t nodes place cs h = h
 awaiting-from_value Item [] a g t nodes place cs h = elim g [ ]
 awaiting-from_value Item (Pairs d ∷ outer) a g t nodes place cs h = elim g [ ]
@@ -255,7 +258,7 @@ awaiting-from_value (End n) brackets a g t nodes place cs h = elim a [ ]
 text-value : (K : Onward) (depth : ℕ) (nodes : List TreeNode) (place : ℕ) (text bytes rest : List ℕ)
     → IsText text bytes
     → K (nodes ++ node place (place + width text) (tree.Text bytes) ∷ []) (length nodes)
-        (place + width text) rest → AtValue K depth nodes place (text ++ rest)
+    (place + width text) rest → AtValue K depth nodes place (text ++ rest)
 text-value K depth nodes place text bytes rest w h = record {
   value = grammar.Text place (place + width text) bytes;
   gap = [];
@@ -272,7 +275,7 @@ text-value K depth nodes place text bytes rest w h = record {
 pub bytes-value : (K : Onward) (depth : ℕ) (nodes : List TreeNode) (place : ℕ)
     (inner bytes rest : List ℕ) → IsHex inner bytes
     → K (nodes ++ node place (place + 1 + width inner + 1) (tree.Bytes bytes) ∷ []) (length nodes)
-        (place + 1 + width inner + 1) rest
+    (place + 1 + width inner + 1) rest
     → AtValue K depth nodes place (60 ∷ (inner ++ 62 ∷ rest))
 bytes-value K depth nodes place inner bytes rest q h =
     let text = 60 ∷ (inner ++ 62 ∷ []) in
@@ -310,8 +313,15 @@ list-value K depth count nodes place cs l e h =
       rest = h.rest;
       parts = ap (λ x. 40 ∷ x) (h.parts ∙ sym (append_assoc h.inner (41 ∷ []) h.rest));
       spaces = tt;
-      spelled = (omega arith, omega (arith, w), l, h.inner, refl, subst U one
-          (subst S e h.spelled));
+      spelled = (
+        omega arith,
+        omega (arith, w),
+        l,
+        h.inner,
+        refl,
+        subst U one
+            (subst S e h.spelled),
+      );
       onward = carry K _ _ _ _ end (place + 0 + width text) h.rest
           (append_assoc nodes inside (own ∷ [])) (length-append nodes inside) (omega (arith, w))
           h.onward;
@@ -338,8 +348,15 @@ dictionary-value K depth count nodes place cs l e h =
       rest = h.rest;
       parts = ap (λ x. 123 ∷ x) (h.parts ∙ sym (append_assoc h.inner (125 ∷ []) h.rest));
       spaces = tt;
-      spelled = (omega arith, omega (arith, w), l, h.inner, refl, subst U one
-          (subst S e h.spelled));
+      spelled = (
+        omega arith,
+        omega (arith, w),
+        l,
+        h.inner,
+        refl,
+        subst U one
+            (subst S e h.spelled),
+      );
       onward = carry K _ _ _ _ end (place + 0 + width text) h.rest
           (append_assoc nodes inside (own ∷ [])) (length-append nodes inside) (omega (arith, w))
           h.onward;
@@ -349,22 +366,22 @@ dictionary-value K depth count nodes place cs l e h =
 pub begun-text : (phase : Phase) (brackets : List Open) → CanBegin phase → Agrees phase brackets
     → (t : Tree) (nodes : List TreeNode) (place : ℕ) (text bytes rest : List ℕ)
     → IsText text bytes → AfterText phase brackets t nodes place bytes (place + width text) rest
-        → RestIn phase brackets t nodes place (text ++ rest)
+    → RestIn phase brackets t nodes place (text ++ rest)
 begun-text Value brackets b g t nodes place text bytes rest w h
     = text-value (After brackets t) (length brackets) nodes place text bytes rest w h
 begun-text Item [] b g t nodes place text bytes rest w h = elim g [ ]
 begun-text Item (Pairs d ∷ outer) b g t nodes place text bytes rest w h = elim g [ ]
 begun-text Item (Items at done ∷ outer) b g t nodes place text bytes rest w h =
     item-from_value outer t at done nodes place (text ++ rest)
-        (text-value (After (Items at done ∷ outer) t) (suc (length outer)) nodes place text bytes
-        rest w h)
+    (text-value (After (Items at done ∷ outer) t) (suc (length outer)) nodes place text bytes
+    rest w h)
 begun-text Key [] b g t nodes place text bytes rest w h = elim g [ ]
 begun-text Key (Items at done ∷ outer) b g t nodes place text bytes rest w h = elim g [ ]
 begun-text Key (Pairs d ∷ outer) b g t nodes place text bytes rest w h =
     let P : ℕ → Type 0 = λ x. AtSign (After
-        (Pairs (record d { keys = d.keys ++ bytes ∷ []; key = length nodes }) ∷ outer) t)
-        (suc (length outer)) (nodes ++ node x (x + width text) (tree.Text bytes) ∷ [])
-        (x + width text) rest in
+    (Pairs (record d { keys = d.keys ++ bytes ∷ []; key = length nodes }) ∷ outer) t)
+    (suc (length outer)) (nodes ++ node x (x + width text) (tree.Text bytes) ∷ [])
+    (x + width text) rest in
     let none : place ≡ place + 0 = omega arith in
     entry-from_key outer t d nodes place [] text bytes rest tt w h.0 (subst P none h.1)
 begun-text ItemEnd brackets b g t nodes place text bytes rest w h = elim b [ ]

@@ -1,7 +1,7 @@
 -- What is read is spelled by the grammar: steps in tokens, and whole texts.
-use Rattle.std.proofs.Common.{◌≡◌, ℕ, ◌+◌, ◌*◌, Bool, true, false, cond, eqb, List, [], ◌∷◌, ◌++◌,
-    length, Option, Some, None, Result, Ok, Err, refl, sym, ap, subst, ◌∙◌, arith, append_assoc,
-    IfOk}
+use Rattle.std.proofs.Common.{◌≡◌, ℕ, ◌+◌, ◌*◌, Bool, true, false, cond, eqb, List, [], ◌∷◌, ◌++◌}
+use Rattle.std.proofs.Common.{length, Option, Some, None, Result, Ok, Err, refl, sym, ap, subst}
+use Rattle.std.proofs.Common.{◌∙◌, arith, append_assoc, IfOk}
 use Rattle.std.specs.Prelude.{option_and_then}
 use Rattle.std.proofs.lemmas.Bool.{eqb-false}
 use Rattle.std.proofs.lemmas.List.{append-nil}
@@ -18,11 +18,11 @@ use Rattle.plist_reader.specs.declared.tree.TreeNode.{TreeNode}
 use Rattle.plist_reader.specs.declared.tree.TreeValue.TheVariants as tree
 use Rattle.plist_reader.specs.declared.reader.Reader.{Reader}
 use Rattle.plist_reader.specs.declared.reader.Phase.{Phase}
-use Rattle.plist_reader.specs.declared.reader.Phase.TheVariants.{Value, Item, ItemEnd, Key, KeyEnd,
-    PairEnd, End}
+use Rattle.plist_reader.specs.declared.reader.Phase.TheVariants.{Value, Item, ItemEnd, Key, KeyEnd}
+use Rattle.plist_reader.specs.declared.reader.Phase.TheVariants.{PairEnd, End}
 use Rattle.plist_reader.specs.declared.reader.Token.{Token}
-use Rattle.plist_reader.specs.declared.reader.Token.TheVariants.{Between, Word, Quoted, Escape,
-    Bytes, Half}
+use Rattle.plist_reader.specs.declared.reader.Token.TheVariants.{Between, Word, Quoted, Escape}
+use Rattle.plist_reader.specs.declared.reader.Token.TheVariants.{Bytes, Half}
 use Rattle.plist_reader.specs.declared.reader.Open.{Open}
 use Rattle.plist_reader.specs.declared.reader.Open.TheVariants.{Items, Pairs}
 use Rattle.plist_reader.specs.declared.escape.Escape.{Escape as EscapeState}
@@ -33,21 +33,24 @@ use Rattle.plist_reader.specs.Characters.{is_space, is_word, hex_value, byte_of}
 use Rattle.plist_reader.specs.Escapes.{escape_next}
 use Rattle.plist_reader.specs.Keys.{is_among}
 use Rattle.plist_reader.specs.Grammar as grammar
-use Rattle.plist_reader.specs.Grammar.{Spells, inner_of, own_of, node, width, AreSpaces, IsQuoted,
-    no_more, plain, escaped, IsHex, no_digits, space, digits, IsEscape, IsTextOf, HasTree, tree_of}
+use Rattle.plist_reader.specs.Grammar.{Spells, inner_of, own_of, node, width, AreSpaces, IsQuoted}
+use Rattle.plist_reader.specs.Grammar.{no_more, plain, escaped, IsHex, no_digits, space, digits}
+use Rattle.plist_reader.specs.Grammar.{IsEscape, IsTextOf, HasTree, tree_of}
 use Rattle.plist_reader.specs.Refusals.{refusal}
 use Rattle.refusal_codes.specs.Gives.{◌>>=◌}
-use Rattle.plist_reader.specs.Reading.{start, value_ended, key_ended, text_ended, between, in_word,
-    in_quoted, after_escape, after_hex, after_half, in_bytes, in_half, step_in, step, whole_in,
-    whole, finish_in, finish, run, read_of}
-use Rattle.plist_reader.proofs.GivenTokens.{ready, in_token, settled, settled_any, settled-between,
-    width-append, word-ascii, CanBegin, IsAwaiting}
+use Rattle.plist_reader.specs.Reading.{start, value_ended, key_ended, text_ended, between, in_word}
+use Rattle.plist_reader.specs.Reading.{in_quoted, after_escape, after_hex, after_half, in_bytes}
+use Rattle.plist_reader.specs.Reading.{in_half, step_in, step, whole_in, whole, finish_in, finish}
+use Rattle.plist_reader.specs.Reading.{run, read_of}
+use Rattle.plist_reader.proofs.GivenTokens.{ready, in_token, settled, settled_any, settled-between}
+use Rattle.plist_reader.proofs.GivenTokens.{width-append, word-ascii, CanBegin, IsAwaiting}
 use Rattle.plist_reader.proofs.GivenStrings.{text-ended}
 use Rattle.plist_reader.proofs.Scalars.{AreScalars, source-scalars}
 use Rattle.plist_reader.proofs.SpelledEscapes.{Front, begun, Means, means-next}
 use Rattle.plist_reader.proofs.SpelledRests.{After}
-use Rattle.plist_reader.proofs.SpelledSteps.{RestIn, RestOf, AfterText, InWord, InQuoted,
-    EscapeRest, Rest, Agrees, GoodIn, Good, Back, if_ok-known, settled-good, settled-rest}
+use Rattle.plist_reader.proofs.SpelledSteps.{RestIn, RestOf, AfterText, InWord, InQuoted}
+use Rattle.plist_reader.proofs.SpelledSteps.{EscapeRest, Rest, Agrees, GoodIn, Good, Back}
+use Rattle.plist_reader.proofs.SpelledSteps.{if_ok-known, settled-good, settled-rest}
 use Rattle.plist_reader.proofs.SpelledRuns.{after_text_same, at_char, back-between}
 
 -- ---- readers between tokens
@@ -56,7 +59,7 @@ ready_is : (r : Reader) → r.token ≡ Between → r.text ≡ [] → r.bytes �
     → ready r.nodes r.brackets r.phase ≡ r
 ready_is r e f g =
     ap (λ x. in_token r.nodes r.brackets r.phase x [] []) (sym e)
-        ∙ ap (λ x. in_token r.nodes r.brackets r.phase r.token x []) (sym f)
+    ∙ ap (λ x. in_token r.nodes r.brackets r.phase r.token x []) (sym f)
     ∙ ap (λ x. in_token r.nodes r.brackets r.phase r.token r.text x) (sym g)
 
 back-between_any : (r : Reader) (place c : ℕ) → Good r → r.token ≡ Between
@@ -81,40 +84,43 @@ EndsText nodes brackets phase at end text s = Good s × (s.token ≡ Between)
 
 ends_value : (nodes : List TreeNode) (brackets : List Open) (at end : ℕ) (text : List ℕ)
     → Good (settled (nodes ++ node at end (tree.Text text) ∷ []) brackets (length nodes))
-        × ((settled (nodes ++ node at end (tree.Text text) ∷ []) brackets (length nodes)).token
-        ≡ Between) × ((t : Tree) (cs : List ℕ)
-        → Rest (settled (nodes ++ node at end (tree.Text text) ∷ []) brackets (length nodes)) t end
-        cs → After brackets t (nodes ++ node at end (tree.Text text) ∷ []) (length nodes) end cs)
+    × ((settled (nodes ++ node at end (tree.Text text) ∷ []) brackets (length nodes)).token
+    ≡ Between) × ((t : Tree) (cs : List ℕ)
+    → Rest (settled (nodes ++ node at end (tree.Text text) ∷ []) brackets (length nodes)) t end
+    cs → After brackets t (nodes ++ node at end (tree.Text text) ∷ []) (length nodes) end cs)
 ends_value nodes brackets at end text =
-    let made = nodes ++ node at end (tree.Text text) ∷ [] in
-    (settled-good made brackets (length nodes), settled-between made brackets (length nodes), λ t cs
-        h. settled-rest made brackets (length nodes) t end cs h)
+    let made = nodes ++ node at end (tree.Text text) ∷ [] in (
+      settled-good made brackets (length nodes),
+      settled-between made brackets (length nodes),
+      λ t cs
+          h. settled-rest made brackets (length nodes) t end cs h,
+    )
 
 back-key_ended : (nodes : List TreeNode) (brackets : List Open) (token : Token) (at end : ℕ)
     (text : List ℕ) → Agrees Key brackets
     → IfOk (text_ended (in_token nodes brackets Key token text []) at end)
-        (EndsText nodes brackets Key at end text)
+    (EndsText nodes brackets Key at end text)
 unfolding text_ended key_ended
 back-key_ended nodes [] token at end text g = tt
 back-key_ended nodes (Items p done ∷ outer) token at end text g = tt
 back-key_ended nodes (Pairs d ∷ outer) token at end text g =
     if_ok-known (EndsText nodes (Pairs d ∷ outer) Key at end text) (is_among text d.keys) _ _
-        (λ _. tt) (λ e. ((tt, refl, refl), refl, λ t cs h. (e, h)))
+    (λ _. tt) (λ e. ((tt, refl, refl), refl, λ t cs h. (e, h)))
 
 pub back-text_ended : (nodes : List TreeNode) (brackets : List Open) (phase : Phase) (token : Token)
     (at end : ℕ) (text : List ℕ) → CanBegin phase → Agrees phase brackets
     → IfOk (text_ended (in_token nodes brackets phase token text []) at end)
-        (EndsText nodes brackets phase at end text)
+    (EndsText nodes brackets phase at end text)
 back-text_ended nodes brackets Value token at end text b g =
     let P : Result Reader Refusal → Type 0 = λ d. IfOk d (EndsText nodes brackets Value at end text)
-        in
+    in
     subst P (sym (text-ended nodes brackets Value token at end text tt))
-        (ends_value nodes brackets at end text)
+    (ends_value nodes brackets at end text)
 back-text_ended nodes brackets Item token at end text b g =
     let P : Result Reader Refusal → Type 0 = λ d. IfOk d (EndsText nodes brackets Item at end text)
-        in
+    in
     subst P (sym (text-ended nodes brackets Item token at end text tt))
-        (ends_value nodes brackets at end text)
+    (ends_value nodes brackets at end text)
 back-text_ended nodes brackets Key token at end text b g
     = back-key_ended nodes brackets token at end text g
 back-text_ended nodes brackets ItemEnd token at end text b g = elim b [ ]
@@ -127,28 +133,37 @@ back-text_ended nodes brackets (End n) token at end text b g = elim b [ ]
 word_end : (nodes : List TreeNode) (brackets : List Open) (phase : Phase) (at place : ℕ)
     (text : List ℕ) (t : Tree) (cs : List ℕ)
     → AfterText phase brackets t nodes at text place cs
-        → InWord phase brackets nodes text t at place cs
+    → InWord phase brackets nodes text t at place cs
 word_end nodes brackets phase at place text t cs h
-    = record { more = []; rest = cs; parts = refl; own = tt; onward
-    = after_text_same phase brackets t nodes at text (text ++ []) place (place + 0) cs
-    (sym (append-nil text)) (omega arith) h }
+    = record {
+      more = [];
+      rest = cs;
+      parts = refl;
+      own = tt;
+      onward
+          = after_text_same phase brackets t nodes at text (text ++ []) place (place + 0) cs
+          (sym (append-nil text)) (omega arith) h;
+    }
 
 back-in_word : (nodes : List TreeNode) (brackets : List Open) (phase : Phase) (at place c : ℕ)
     (text : List ℕ) → CanBegin phase → Agrees phase brackets
     → IfOk (in_word (in_token nodes brackets phase (Word at) text []) at place c)
-        (Back (in_token nodes brackets phase (Word at) text []) place c)
+    (Back (in_token nodes brackets phase (Word at) text []) place c)
 unfolding in_word
 back-in_word nodes brackets phase at place c text b g =
     let r = in_token nodes brackets phase (Word at) text [] in
     if_ok-known (Back r place c) (is_word c) _ _
     (λ w. ((g, b, refl), λ t cs h. word_more w t cs h))
     (λ _. if_ok-bind (EndsText nodes brackets phase at place text) (Back r place c)
-        (text_ended r at place) (λ s. between s place c)
-        (back-text_ended nodes brackets phase (Word at) at place text b g)
+    (text_ended r at place) (λ s. between s place c)
+    (back-text_ended nodes brackets phase (Word at) at place text b g)
     (λ s k. IfOk-weaker (between s place c) (Back s place c) (Back r place c)
-        (λ u h. (h.0, λ t cs q. word_end nodes brackets phase at place text t (c ∷ cs)
-        (k.2 t (c ∷ cs) (between_rest s place t (c ∷ cs) (h.1 t cs q)))))
-        (back-between_any s place c k.0 k.1)))
+    (λ u h. (
+      h.0,
+      λ t cs q. word_end nodes brackets phase at place text t (c ∷ cs)
+          (k.2 t (c ∷ cs) (between_rest s place t (c ∷ cs) (h.1 t cs q))),
+    ))
+    (back-between_any s place c k.0 k.1)))
   where
     word_more : is_word c ≡ true → (t : Tree) (cs : List ℕ)
         → InWord phase brackets nodes (text ++ encode c) t at (place + len_utf8 c) cs
@@ -164,7 +179,7 @@ back-in_word nodes brackets phase at place c text b g =
               (text ++ c ∷ h.more) (place + len_utf8 c + width h.more)
               (place + (len_utf8 c + width h.more)) h.rest
               (append_assoc text (encode c) h.more ∙ ap (λ x. text ++ (x ++ h.more)) one)
-                  (omega arith) h.onward;
+              (omega arith) h.onward;
         }
 
     between_rest : (s : Reader) (place : ℕ) (t : Tree) (cs : List ℕ) → Rest s t place cs
@@ -176,25 +191,35 @@ back-in_word nodes brackets phase at place c text b g =
 back-in_quoted : (nodes : List TreeNode) (brackets : List Open) (phase : Phase) (at place c : ℕ)
     (text : List ℕ) → IsScalar c → CanBegin phase → Agrees phase brackets
     → IfOk (in_quoted (in_token nodes brackets phase (Quoted at) text []) at place c)
-        (Back (in_token nodes brackets phase (Quoted at) text []) place c)
+    (Back (in_token nodes brackets phase (Quoted at) text []) place c)
 unfolding in_quoted
 back-in_quoted nodes brackets phase at place c text i b g =
     let r = in_token nodes brackets phase (Quoted at) text [] in
     if_ok-known (Back r place c) (eqb c 34) _ _
     (λ e. IfOk-weaker (text_ended r at (place + 1))
-        (EndsText nodes brackets phase at (place + 1) text) (Back r place c)
-        (λ s k. (k.0, at_char r s place c 34 e (λ t cs h. string_end t cs (k.2 t cs h))))
-        (back-text_ended nodes brackets phase (Quoted at) at (place + 1) text b g))
+    (EndsText nodes brackets phase at (place + 1) text) (Back r place c)
+    (λ s k. (k.0, at_char r s place c 34 e (λ t cs h. string_end t cs (k.2 t cs h))))
+    (back-text_ended nodes brackets phase (Quoted at) at (place + 1) text b g))
     (λ n. if_ok-known (Back r place c) (eqb c 92) _ _
-    (λ e. ((g, b, refl), at_char r (in_token nodes brackets phase (Escape at place Begun) text [])
-        place c 92 e (λ t cs h. escape_begins t cs (h [] begun))))
+    (λ e. (
+      (g, b, refl),
+      at_char r (in_token nodes brackets phase (Escape at place Begun) text [])
+          place c 92 e (λ t cs h. escape_begins t cs (h [] begun)),
+    ))
     (λ m. ((g, b, refl), λ t cs h. plain_more n m t cs h)))
   where
     string_end : (t : Tree) (cs : List ℕ) → AfterText phase brackets t nodes at text (place + 1) cs
         → InQuoted phase brackets nodes text t at place (34 ∷ cs)
-    string_end t cs h = record { more = []; bytes = []; rest = cs; parts = refl; quoted
-        = no_more; onward = after_text_same phase brackets t nodes at text (text ++ []) (place + 1)
-        (place + 0 + 1) cs (sym (append-nil text)) (omega arith) h }
+    string_end t cs h = record {
+      more = [];
+      bytes = [];
+      rest = cs;
+      parts = refl;
+      quoted
+          = no_more;
+      onward = after_text_same phase brackets t nodes at text (text ++ []) (place + 1)
+          (place + 0 + 1) cs (sym (append-nil text)) (omega arith) h;
+    }
 
     escape_begins : (t : Tree) (cs : List ℕ)
         → EscapeRest phase brackets nodes text t at (place + 1) [] cs
@@ -202,9 +227,9 @@ back-in_quoted nodes brackets phase at place c text i b g =
     escape_begins t cs k =
         let q = k.onward in
         let all : cs ≡ k.escape ++ (q.more ++ 34 ∷ q.rest) = k.parts
-            ∙ ap (λ x. k.escape ++ x) q.parts in
+        ∙ ap (λ x. k.escape ++ x) q.parts in
         let w : width cs ≡ width k.escape + width k.tail = ap width k.parts
-            ∙ width-append k.escape k.tail in
+        ∙ width-append k.escape k.tail in
         record {
           more = 92 ∷ (k.escape ++ q.more);
           bytes = encode k.character ++ q.bytes;
@@ -215,7 +240,7 @@ back-in_quoted nodes brackets phase at place c text i b g =
               ((text ++ encode k.character) ++ q.bytes) (text ++ (encode k.character ++ q.bytes))
               (k.behind + width q.more + 1) (place + (1 + width (k.escape ++ q.more)) + 1) q.rest
               (append_assoc text (encode k.character) q.bytes)
-                  (omega (arith, w, k.behind_is, width-append k.escape q.more)) q.onward;
+              (omega (arith, w, k.behind_is, width-append k.escape q.more)) q.onward;
         }
 
     plain_more : eqb c 34 ≡ false → eqb c 92 ≡ false → (t : Tree) (cs : List ℕ)
@@ -236,24 +261,43 @@ back-in_quoted nodes brackets phase at place c text i b g =
 back-after_escape : (nodes : List TreeNode) (brackets : List Open) (phase : Phase)
     (at backslash place c : ℕ) (escape : EscapeState) (text : List ℕ) (out : Escaped)
     → CanBegin phase → Agrees phase brackets
-        → ((front : List ℕ) → Front escape front → Means (front ++ c ∷ []) out)
+    → ((front : List ℕ) → Front escape front → Means (front ++ c ∷ []) out)
     → IfOk (after_escape (in_token nodes brackets phase (Escape at backslash escape) text []) at
-        backslash out) (Back (in_token nodes brackets phase (Escape at backslash escape) text [])
-        place c)
+    backslash out) (Back (in_token nodes brackets phase (Escape at backslash escape) text [])
+    place c)
 back-after_escape nodes brackets phase at backslash place c escape text (More next) b g m
     = ((g, b, refl), λ t cs h front f. goes_on t cs front (h (front ++ c ∷ []) (m front f)))
   where
     goes_on : (t : Tree) (cs front : List ℕ)
         → EscapeRest phase brackets nodes text t at (place + len_utf8 c) (front ++ c ∷ []) cs
         → EscapeRest phase brackets nodes text t at place front (c ∷ cs)
-    goes_on t cs front k = record { escape = k.escape; character = k.character; tail
-        = k.tail; behind = k.behind; parts = sym (append_assoc front (c ∷ []) cs)
-        ∙ k.parts; known = k.known; behind_is = k.behind_is ∙ omega arith; onward = k.onward }
-back-after_escape nodes brackets phase at backslash place c escape text (Whole character) b g m =
-    ((g, b, refl), λ t cs h front f. record
-        { escape = front ++ c ∷ []; character = character; tail = cs; behind = place
-        + len_utf8 c; parts = sym (append_assoc front (c ∷ []) cs); known = m front f; behind_is
-        = omega arith; onward = h })
+    goes_on t cs front k = record {
+      escape = k.escape;
+      character = k.character;
+      tail
+          = k.tail;
+      behind = k.behind;
+      parts = sym (append_assoc front (c ∷ []) cs)
+          ∙ k.parts;
+      known = k.known;
+      behind_is = k.behind_is ∙ omega arith;
+      onward = k.onward;
+    }
+back-after_escape nodes brackets phase at backslash place c escape text (Whole character) b g m = (
+  (g, b, refl),
+  λ t cs h front f. record {
+    escape = front ++ c ∷ [];
+    character = character;
+    tail = cs;
+    behind = place
+        + len_utf8 c;
+    parts = sym (append_assoc front (c ∷ []) cs);
+    known = m front f;
+    behind_is
+        = omega arith;
+    onward = h;
+  },
+)
 back-after_escape nodes brackets phase at backslash place c escape text Wrong b g m = tt
 
 -- ---- byte strings
@@ -261,18 +305,18 @@ back-after_escape nodes brackets phase at backslash place c escape text Wrong b 
 after_bytes_same : (brackets : List Open) (t : Tree) (nodes : List TreeNode) (at : ℕ)
     (xs ys : List ℕ) (p q : ℕ) (rest : List ℕ) → xs ≡ ys → p ≡ q
     → After brackets t (nodes ++ node at p (tree.Bytes xs) ∷ []) (length nodes) p rest
-        → After brackets t (nodes ++ node at q (tree.Bytes ys) ∷ []) (length nodes) q rest
+    → After brackets t (nodes ++ node at q (tree.Bytes ys) ∷ []) (length nodes) q rest
 after_bytes_same brackets t nodes at xs ys p q rest e f h =
     let A : List ℕ → Type 0 = λ x. After brackets t (nodes ++ node at p (tree.Bytes x) ∷ [])
-        (length nodes) p rest in
+    (length nodes) p rest in
     let B : ℕ → Type 0 = λ x. After brackets t (nodes ++ node at x (tree.Bytes ys) ∷ [])
-        (length nodes) x rest in
+    (length nodes) x rest in
     subst B f (subst A e h)
 
 back-after_hex : (nodes : List TreeNode) (brackets : List Open) (phase : Phase) (at place c : ℕ)
     (bytes : List ℕ) (o : Option ℕ) → hex_value c ≡ o → IsAwaiting phase
     → Agrees phase brackets → IfOk (after_hex (in_token nodes brackets phase (Bytes at) [] bytes) at
-        place c o) (Back (in_token nodes brackets phase (Bytes at) [] bytes) place c)
+    place c o) (Back (in_token nodes brackets phase (Bytes at) [] bytes) place c)
 back-after_hex nodes brackets phase at place c bytes None e a g = tt
 back-after_hex nodes brackets phase at place c bytes (Some v) e a g = (
   (g, a, refl),
@@ -293,7 +337,7 @@ back-after_hex nodes brackets phase at place c bytes (Some v) e a g = (
 back-in_bytes : (nodes : List TreeNode) (brackets : List Open) (phase : Phase) (at place c : ℕ)
     (bytes : List ℕ) → IsAwaiting phase → Agrees phase brackets
     → IfOk (in_bytes (in_token nodes brackets phase (Bytes at) [] bytes) at place c)
-        (Back (in_token nodes brackets phase (Bytes at) [] bytes) place c)
+    (Back (in_token nodes brackets phase (Bytes at) [] bytes) place c)
 unfolding in_bytes value_ended
 back-in_bytes nodes brackets phase at place c bytes a g =
     let r = in_token nodes brackets phase (Bytes at) [] bytes in
@@ -340,14 +384,20 @@ both_digits : (o p : Option ℕ) (v : ℕ) → option_and_then
     → (x : ℕ) × (y : ℕ) × (o ≡ Some x) × (p ≡ Some y) × (x * 16 + y ≡ v)
 both_digits None p v e = absurd (no_value v None refl e)
 both_digits (Some x) None v e = absurd (no_value v None refl e)
-both_digits (Some x) (Some y) v e = (x, y, refl, refl, some_same (x * 16 + y) v (Some (x * 16 + y))
-    refl e)
+both_digits (Some x) (Some y) v e = (
+  x,
+  y,
+  refl,
+  refl,
+  some_same (x * 16 + y) v (Some (x * 16 + y))
+      refl e,
+)
 
 back-after_half : (nodes : List TreeNode) (brackets : List Open) (phase : Phase)
     (at high place c : ℕ) (bytes : List ℕ) (o : Option ℕ) → byte_of high c ≡ o → IsAwaiting phase
     → Agrees phase brackets
     → IfOk (after_half (in_token nodes brackets phase (Half at high) [] bytes) at place c o)
-        (Back (in_token nodes brackets phase (Half at high) [] bytes) place c)
+    (Back (in_token nodes brackets phase (Half at high) [] bytes) place c)
 unfolding byte_of
 back-after_half nodes brackets phase at high place c bytes None e a g = tt
 back-after_half nodes brackets phase at high place c bytes (Some v) e a g = (
@@ -370,14 +420,14 @@ back-after_half nodes brackets phase at high place c bytes (Some v) e a g = (
             (bytes ++ (d.0 * 16 + d.1) ∷ h.made) (place + len_utf8 c + width h.more + 1)
             (place + 0 + len_utf8 c + width h.more + 1) h.rest
             (append_assoc bytes (v ∷ []) h.made ∙ ap (λ x. bytes ++ x ∷ h.made) (sym d.4))
-                (omega arith) h.onward;
+            (omega arith) h.onward;
       }),
 )
 
 back-in_half : (nodes : List TreeNode) (brackets : List Open) (phase : Phase) (at high place c : ℕ)
     (bytes : List ℕ) → IsAwaiting phase → Agrees phase brackets
     → IfOk (in_half (in_token nodes brackets phase (Half at high) [] bytes) at high place c)
-        (Back (in_token nodes brackets phase (Half at high) [] bytes) place c)
+    (Back (in_token nodes brackets phase (Half at high) [] bytes) place c)
 unfolding in_half
 back-in_half nodes brackets phase at high place c bytes a g =
     let r = in_token nodes brackets phase (Half at high) [] bytes in
@@ -412,28 +462,28 @@ back-in_half nodes brackets phase at high place c bytes a g =
 with_no_bytes : (nodes : List TreeNode) (brackets : List Open) (phase : Phase) (token : Token)
     (text bytes : List ℕ) (place c : ℕ) → bytes ≡ []
     → IfOk (step_in (in_token nodes brackets phase token text []) place c token)
-        (Back (in_token nodes brackets phase token text []) place c)
+    (Back (in_token nodes brackets phase token text []) place c)
     → IfOk (step_in (in_token nodes brackets phase token text bytes) place c token)
-        (Back (in_token nodes brackets phase token text bytes) place c)
+    (Back (in_token nodes brackets phase token text bytes) place c)
 with_no_bytes nodes brackets phase token text bytes place c e h =
     let P : List ℕ → Type 0 = λ x. IfOk (step_in (in_token nodes brackets phase token text x) place
-        c token) (Back (in_token nodes brackets phase token text x) place c) in subst P (sym e) h
+    c token) (Back (in_token nodes brackets phase token text x) place c) in subst P (sym e) h
 
 with_no_text : (nodes : List TreeNode) (brackets : List Open) (phase : Phase) (token : Token)
     (text bytes : List ℕ) (place c : ℕ) → text ≡ []
     → IfOk (step_in (in_token nodes brackets phase token [] bytes) place c token)
-        (Back (in_token nodes brackets phase token [] bytes) place c)
+    (Back (in_token nodes brackets phase token [] bytes) place c)
     → IfOk (step_in (in_token nodes brackets phase token text bytes) place c token)
-        (Back (in_token nodes brackets phase token text bytes) place c)
+    (Back (in_token nodes brackets phase token text bytes) place c)
 with_no_text nodes brackets phase token text bytes place c e h =
     let P : List ℕ → Type 0 = λ x. IfOk (step_in (in_token nodes brackets phase token x bytes) place
-        c token) (Back (in_token nodes brackets phase token x bytes) place c) in subst P (sym e) h
+    c token) (Back (in_token nodes brackets phase token x bytes) place c) in subst P (sym e) h
 
 back-step_in : (nodes : List TreeNode) (brackets : List Open) (phase : Phase) (token : Token)
     (text bytes : List ℕ) (place c : ℕ) → IsScalar c
     → Good (in_token nodes brackets phase token text bytes)
     → IfOk (step_in (in_token nodes brackets phase token text bytes) place c token)
-        (Back (in_token nodes brackets phase token text bytes) place c)
+    (Back (in_token nodes brackets phase token text bytes) place c)
 back-step_in nodes brackets phase Between text bytes place c i g
     = back-between_any (in_token nodes brackets phase Between text bytes) place c g refl
 back-step_in nodes brackets phase (Word at) text bytes place c i g
@@ -441,17 +491,17 @@ back-step_in nodes brackets phase (Word at) text bytes place c i g
     (back-in_word nodes brackets phase at place c text g.1 g.0)
 back-step_in nodes brackets phase (Quoted at) text bytes place c i g =
     with_no_bytes nodes brackets phase (Quoted at) text bytes place c g.2
-        (back-in_quoted nodes brackets phase at place c text i g.1 g.0)
+    (back-in_quoted nodes brackets phase at place c text i g.1 g.0)
 back-step_in nodes brackets phase (Escape at backslash escape) text bytes place c i g
     = with_no_bytes nodes brackets phase (Escape at backslash escape) text bytes place c g.2
     (back-after_escape nodes brackets phase at backslash place c escape text (escape_next escape c)
-        g.1 g.0 (λ front f. means-next escape front f c))
+    g.1 g.0 (λ front f. means-next escape front f c))
 back-step_in nodes brackets phase (Bytes at) text bytes place c i g
     = with_no_text nodes brackets phase (Bytes at) text bytes place c g.2
     (back-in_bytes nodes brackets phase at place c bytes g.1 g.0)
 back-step_in nodes brackets phase (Half at high) text bytes place c i g =
     with_no_text nodes brackets phase (Half at high) text bytes place c g.2
-        (back-in_half nodes brackets phase at high place c bytes g.1 g.0)
+    (back-in_half nodes brackets phase at high place c bytes g.1 g.0)
 
 pub back-step : (r : Reader) (place c : ℕ) → IsScalar c → Good r
     → IfOk (step r place c) (Back r place c)
@@ -479,7 +529,7 @@ whole_any-rest : (s : Reader) (place : ℕ) → s.token ≡ Between
     → IfOk (whole s place) (λ t. Rest s t place [])
 whole_any-rest s place e =
     IfOk-weaker (whole s place) (λ t. RestIn s.phase s.brackets t s.nodes place [])
-        (λ t. Rest s t place []) (λ t h. between_is s t place e h) (whole-rest s place)
+    (λ t. Rest s t place []) (λ t h. between_is s t place e h) (whole-rest s place)
   where
     between_is : (s : Reader) (t : Tree) (place : ℕ) → s.token ≡ Between
         → RestIn s.phase s.brackets t s.nodes place [] → Rest s t place []
@@ -490,21 +540,21 @@ finish_in-rest : (nodes : List TreeNode) (brackets : List Open) (phase : Phase) 
     (text bytes : List ℕ) (place : ℕ)
     → Good (in_token nodes brackets phase token text bytes)
     → IfOk (finish_in (in_token nodes brackets phase token text bytes) place token)
-        (λ t. Rest (in_token nodes brackets phase token text bytes) t place [])
+    (λ t. Rest (in_token nodes brackets phase token text bytes) t place [])
 finish_in-rest nodes brackets phase Between text bytes place g
     = whole-rest (in_token nodes brackets phase Between text bytes) place
 finish_in-rest nodes brackets phase (Word at) text bytes place g =
     let P : List ℕ → Type 0 = λ x. IfOk (finish_in (in_token nodes brackets phase (Word at) text x)
-        place (Word at)) (λ t. Rest (in_token nodes brackets phase (Word at) text x) t place []) in
+    place (Word at)) (λ t. Rest (in_token nodes brackets phase (Word at) text x) t place []) in
     let r = in_token nodes brackets phase (Word at) text [] in
     subst P (sym g.2)
     (if_ok-known (λ t. Rest r t place []) (eqb (length brackets) 0) _ _
     (λ _. if_ok-bind (EndsText nodes brackets phase at place text) (λ t. Rest r t place [])
-        (text_ended r at place) (λ s. whole s place)
-        (back-text_ended nodes brackets phase (Word at) at place text g.1 g.0)
+    (text_ended r at place) (λ s. whole s place)
+    (back-text_ended nodes brackets phase (Word at) at place text g.1 g.0)
     (λ s k. IfOk-weaker (whole s place) (λ t. Rest s t place []) (λ t. Rest r t place [])
-        (λ t h. word_end nodes brackets phase at place text t [] (k.2 t [] h))
-        (whole_any-rest s place k.1)))
+    (λ t h. word_end nodes brackets phase at place text t [] (k.2 t [] h))
+    (whole_any-rest s place k.1)))
     (λ _. tt))
 finish_in-rest nodes brackets phase (Quoted at) text bytes place g = tt
 finish_in-rest nodes brackets phase (Escape at backslash escape) text bytes place g = tt
@@ -521,8 +571,8 @@ run-rest [] r place i g = finish-rest r place g
 run-rest (c ∷ cs) r place i g = if_ok-bind (Back r place c) (λ t. Rest r t place (c ∷ cs))
     (step r place c) (λ s. run s (place + len_utf8 c) cs) (back-step r place c i.0 g)
     (λ s b. IfOk-weaker (run s (place + len_utf8 c) cs) (λ t. Rest s t (place + len_utf8 c) cs)
-        (λ t. Rest r t place (c ∷ cs)) (λ t h. b.1 t cs h)
-        (run-rest cs s (place + len_utf8 c) i.1 b.0))
+    (λ t. Rest r t place (c ∷ cs)) (λ t h. b.1 t cs h)
+    (run-rest cs s (place + len_utf8 c) i.1 b.0))
 
 -- a text with a tree
 abbrev pub Spelled : List ℕ → Tree → Type 0
@@ -537,11 +587,23 @@ pub run-spelled : (cs : List ℕ) → AreScalars cs → IfOk (run start 0 cs) (S
 unfolding start
 run-spelled cs i = IfOk-weaker (run (ready [] [] Value) 0 cs) (λ t. Rest (ready [] [] Value) t 0 cs)
     (Spelled cs)
-    (λ t h. (h.value, record { gap = h.gap; text = h.text; after = h.rest; parts
-        = h.parts; gap_spaces = h.spaces; spelled
-        = from_zero h.value h.gap h.text h.spelled; after_spaces = h.onward.0 }, h.onward.1
-        ∙ ap (λ n. record { nodes = inner_of h.value 0 ++ own_of h.value 0 ∷ []; top = n })
-        (omega arith)))
+    (λ t h. (
+      h.value,
+      record {
+        gap = h.gap;
+        text = h.text;
+        after = h.rest;
+        parts
+            = h.parts;
+        gap_spaces = h.spaces;
+        spelled
+            = from_zero h.value h.gap h.text h.spelled;
+        after_spaces = h.onward.0;
+      },
+      h.onward.1
+          ∙ ap (λ n. record { nodes = inner_of h.value 0 ++ own_of h.value 0 ∷ []; top = n })
+          (omega arith),
+    ))
     (run-rest cs (ready [] [] Value) 0 i (tt, refl, refl))
 
 read_of-spelled_if : (source : List ℕ) (b : Bool) → is_utf8 source ≡ b
@@ -549,8 +611,13 @@ read_of-spelled_if : (source : List ℕ) (b : Bool) → is_utf8 source ≡ b
     (HasTree source)
 read_of-spelled_if source true e =
     IfOk-weaker (run start 0 (chars source)) (Spelled (chars source)) (HasTree source)
-        (λ t h. record { utf8 = IsUtf8-from_is_utf8 source e; value = h.0; spelled = h.1; numbered
-        = h.2 }) (run-spelled (chars source) (source-scalars source (IsUtf8-from_is_utf8 source e)))
+    (λ t h. record {
+      utf8 = IsUtf8-from_is_utf8 source e;
+      value = h.0;
+      spelled = h.1;
+      numbered
+          = h.2;
+    }) (run-spelled (chars source) (source-scalars source (IsUtf8-from_is_utf8 source e)))
 read_of-spelled_if source false e = tt
 
 -- what a source gives is spelled so

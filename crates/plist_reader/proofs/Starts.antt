@@ -1,6 +1,6 @@
 -- The reader at which an open word or string has begun.
-use Rattle.std.proofs.Common.{◌≡◌, ℕ, ◌+◌, List, [], ◌∷◌, ◌++◌, refl, sym, ap, subst, ◌∙◌, arith,
-    append_assoc, length}
+use Rattle.std.proofs.Common.{◌≡◌, ℕ, ◌+◌, List, [], ◌∷◌, ◌++◌, refl, sym, ap, subst, ◌∙◌, arith}
+use Rattle.std.proofs.Common.{append_assoc, length}
 use Rattle.std.proofs.lemmas.Str.{len_utf8_bounds}
 use Rattle.std.specs.Char.{len_utf8}
 use Rattle.plist_reader.specs.declared.tree.TreeNode.{TreeNode}
@@ -8,18 +8,20 @@ use Rattle.plist_reader.specs.declared.tree.TreeValue.TheVariants as tree
 use Rattle.plist_reader.specs.declared.reader.Reader.{Reader}
 use Rattle.plist_reader.specs.declared.reader.Phase.{Phase}
 use Rattle.plist_reader.specs.declared.reader.Token.{Token}
-use Rattle.plist_reader.specs.declared.reader.Token.TheVariants.{Between, Word, Quoted, Escape,
-    Bytes, Half}
+use Rattle.plist_reader.specs.declared.reader.Token.TheVariants.{Between, Word, Quoted, Escape}
+use Rattle.plist_reader.specs.declared.reader.Token.TheVariants.{Bytes, Half}
 use Rattle.plist_reader.specs.declared.reader.Open.{Open}
 use Rattle.plist_reader.specs.declared.reader.Open.TheVariants.{Items, Pairs}
 use Rattle.plist_reader.specs.Grammar.{node, width}
 use Rattle.plist_reader.specs.Reading.{start}
 use Rattle.plist_reader.proofs.GivenTokens.{ready, settled, settled-between, CanBegin}
-use Rattle.plist_reader.proofs.Moves.{TextEnds, as_value, as_key, Moves, space_between,
-    string_begins, word_begins, bytes_begin, list_begins, dictionary_begins, comma, equals,
-    semicolon, list_ends, dictionary_ends, word_more, word_ends, string_more, string_ends,
-    escape_begins, escape_more, escape_ends, space_in_bytes, first_digit, space_in_half,
-    second_digit, bytes_end}
+use Rattle.plist_reader.proofs.Moves.{TextEnds, as_value, as_key, Moves, space_between}
+use Rattle.plist_reader.proofs.Moves.{string_begins, word_begins, bytes_begin, list_begins}
+use Rattle.plist_reader.proofs.Moves.{dictionary_begins, comma, equals, semicolon, list_ends}
+use Rattle.plist_reader.proofs.Moves.{dictionary_ends, word_more, word_ends, string_more}
+use Rattle.plist_reader.proofs.Moves.{string_ends, escape_begins, escape_more, escape_ends}
+use Rattle.plist_reader.proofs.Moves.{space_in_bytes, first_digit, space_in_half, second_digit}
+use Rattle.plist_reader.proofs.Moves.{bytes_end}
 use Rattle.plist_reader.proofs.Fronts.{ends-between}
 use Rattle.plist_reader.proofs.Reached.{Reached, at_start, onward, reached-moves}
 
@@ -56,8 +58,14 @@ started-more : (front : List ℕ) (c at : ℕ) (nodes : List TreeNode) (brackets
     (phase : Phase) → Started front at nodes brackets phase
     → Started (front ++ c ∷ []) at nodes brackets phase
 started-more front c at nodes brackets phase h
-    = record { before = h.before; more = h.more ++ c ∷ []; parts = ap (λ x. x ++ c ∷ []) h.parts
-    ∙ append_assoc h.before h.more (c ∷ []); place = h.place; reached = h.reached }
+    = record {
+      before = h.before;
+      more = h.more ++ c ∷ [];
+      parts = ap (λ x. x ++ c ∷ []) h.parts
+          ∙ append_assoc h.before h.more (c ∷ []);
+      place = h.place;
+      reached = h.reached;
+    }
 
 started-here : (front : List ℕ) (place c : ℕ) (nodes : List TreeNode) (brackets : List Open)
     (phase : Phase) → place ≡ width front → Reached front (ready nodes brackets phase)
@@ -98,8 +106,8 @@ moves-started front place c _ _ e (word_more nodes brackets phase at text b w) f
     = started-more front c at nodes brackets phase h
 moves-started front place c _ _ e (word_ends nodes brackets phase at text u s w t m) f h =
     moves-started front place c u s e m (λ b. absurd
-        (ended-none nodes brackets phase at place text u t b))
-        (none-started u front (ends-between nodes brackets phase at place text u t))
+    (ended-none nodes brackets phase at place text u t b))
+    (none-started u front (ends-between nodes brackets phase at place text u t))
 moves-started front place c _ _ e (string_more nodes brackets phase at text b n m) f h
     = started-more front c at nodes brackets phase h
 moves-started front place c _ _ e (string_ends nodes brackets phase at text s x t) f h

@@ -1,8 +1,8 @@
 -- A pool that only gets more at its end holds what it held before, in the same parts.
-use Rattle.std.proofs.Common.{◌≡◌, ◌-◌, arith, List, [], ◌∷◌, ◌++◌, length, take, drop, map, Result,
-    Ok, Err, OnErr, ap, sym, ◌∙◌, refl, subst}
-use Rattle.std.proofs.lemmas.List.{take-append-le, drop-append-le, length-append, length-drop,
-    map-append}
+use Rattle.std.proofs.Common.{◌≡◌, ◌-◌, arith, List, [], ◌∷◌, ◌++◌, length, take, drop, map, Result}
+use Rattle.std.proofs.Common.{Ok, Err, OnErr, ap, sym, ◌∙◌, refl, subst}
+use Rattle.std.proofs.lemmas.List.{take-append-le, drop-append-le, length-append, length-drop}
+use Rattle.std.proofs.lemmas.List.{map-append}
 use Rattle.std.proofs.lemmas.List.Elements.{All-push, All-tail, All-weaker}
 use Rattle.std.specs.List.{All}
 use Rattle.std.specs.Str.{IsUtf8}
@@ -18,9 +18,9 @@ part-append : {T : Type 0} (old more : List T) (span : Span) → IsPart old span
     → part (old ++ more) span ≡ part old span
 part-append old more span h =
     ap (λ xs. take (span.end - span.start) xs)
-        (drop-append-le span.start old more (omega (arith, h.0, h.1)))
+    (drop-append-le span.start old more (omega (arith, h.0, h.1)))
     ∙ take-append-le (span.end - span.start) (drop span.start old) more
-        (omega (arith, h.0, h.1, length-drop span.start old))
+    (omega (arith, h.0, h.1, length-drop span.start old))
 
 part-kept : {T : Type 0} (old new : List T) (span : Span) → Grows old new → IsPart old span
     → part new span ≡ part old span
@@ -43,8 +43,11 @@ value_of-kept old new (content.Pairs span) g h
 
 pub IsIn-kept : (old new : Pools) (c : Content) → Extends old new → IsIn old c → IsIn new c
 IsIn-kept old new (content.Text span) g h
-    = (IsPart-kept old.bytes.items new.bytes.items span g.bytes h.0, subst IsUtf8
-    (sym (part-kept old.bytes.items new.bytes.items span g.bytes h.0)) h.1)
+    = (
+      IsPart-kept old.bytes.items new.bytes.items span g.bytes h.0,
+      subst IsUtf8
+          (sym (part-kept old.bytes.items new.bytes.items span g.bytes h.0)) h.1,
+    )
 IsIn-kept old new (content.Bytes span) g h
     = IsPart-kept old.bytes.items new.bytes.items span g.bytes h
 IsIn-kept old new (content.Items span) g h
@@ -59,10 +62,10 @@ pub nodes-kept : (old new : Pools) (entries : List StoredNode) → Extends old n
 nodes-kept old new [] g h = refl
 nodes-kept old new (entry ∷ entries) g h =
     ap (λ value. record { place = entry.place; end = entry.end; value = value }
-        ∷ map (node_of new) entries) (value_of-kept old new entry.content g
-        (h 0 entry (omega arith)))
+    ∷ map (node_of new) entries) (value_of-kept old new entry.content g
+    (h 0 entry (omega arith)))
     ∙ ap (λ nodes. node_of old entry ∷ nodes)
-        (nodes-kept old new entries g (All-tail (λ e. IsIn old e.content) entry entries h))
+    (nodes-kept old new entries g (All-tail (λ e. IsIn old e.content) entry entries h))
 
 -- behind them stands a new one
 pub nodes-pushed : (old new : Pools) (entries : List StoredNode) (entry : StoredNode)

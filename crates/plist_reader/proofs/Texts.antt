@@ -1,6 +1,6 @@
 -- Where the words and strings of a tree begin: each is begun by the character at its place.
-use Rattle.std.proofs.Common.{inl, inr, ◌≡◌, ℕ, ◌+◌, ◌<◌, ◌≤◌, Bool, true, false, cond, eqb, ◌&&◌,
-    List, [], ◌∷◌, ◌++◌, length, Ok, refl, sym, ap, subst, ◌∙◌, arith}
+use Rattle.std.proofs.Common.{inl, inr, ◌≡◌, ℕ, ◌+◌, ◌<◌, ◌≤◌, Bool, true, false, cond, eqb, ◌&&◌}
+use Rattle.std.proofs.Common.{List, [], ◌∷◌, ◌++◌, length, Ok, refl, sym, ap, subst, ◌∙◌, arith}
 use Rattle.std.specs.Prelude.{◌⊎◌}
 use Rattle.std.proofs.lemmas.Bool.{eqb-true, cases_Bool}
 use Rattle.std.proofs.lemmas.Str.{len_utf8_bounds}
@@ -11,8 +11,8 @@ use Rattle.plist_reader.specs.declared.tree.TreeValue.TheVariants as tree
 use Rattle.plist_reader.specs.declared.reader.Reader.{Reader}
 use Rattle.plist_reader.specs.declared.reader.Phase.{Phase}
 use Rattle.plist_reader.specs.declared.reader.Token.{Token}
-use Rattle.plist_reader.specs.declared.reader.Token.TheVariants.{Between, Word, Quoted, Escape,
-    Bytes, Half}
+use Rattle.plist_reader.specs.declared.reader.Token.TheVariants.{Between, Word, Quoted, Escape}
+use Rattle.plist_reader.specs.declared.reader.Token.TheVariants.{Bytes, Half}
 use Rattle.plist_reader.specs.declared.reader.Open.{Open}
 use Rattle.plist_reader.specs.declared.reader.Open.TheVariants.{Items, Pairs}
 use Rattle.plist_reader.specs.Characters.{is_word}
@@ -20,14 +20,16 @@ use Rattle.plist_reader.specs.Grammar.{node, width, tree_of}
 use Rattle.plist_reader.specs.Refusals.{is_text, texts_at, HasText}
 use Rattle.plist_reader.specs.Reading.{start, step, run}
 use Rattle.plist_reader.proofs.GivenTokens.{ready, in_token, settled, run_same, CanBegin}
-use Rattle.plist_reader.proofs.Moves.{TextEnds, as_value, as_key, Moves, space_between,
-    string_begins, word_begins, bytes_begin, list_begins, dictionary_begins, comma, equals,
-    semicolon, list_ends, dictionary_ends, word_more, word_ends, string_more, string_ends,
-    escape_begins, escape_more, escape_ends, space_in_bytes, first_digit, space_in_half,
-    second_digit, bytes_end, Closes, closes_between, closes_word}
+use Rattle.plist_reader.proofs.Moves.{TextEnds, as_value, as_key, Moves, space_between}
+use Rattle.plist_reader.proofs.Moves.{string_begins, word_begins, bytes_begin, list_begins}
+use Rattle.plist_reader.proofs.Moves.{dictionary_begins, comma, equals, semicolon, list_ends}
+use Rattle.plist_reader.proofs.Moves.{dictionary_ends, word_more, word_ends, string_more}
+use Rattle.plist_reader.proofs.Moves.{string_ends, escape_begins, escape_more, escape_ends}
+use Rattle.plist_reader.proofs.Moves.{space_in_bytes, first_digit, space_in_half, second_digit}
+use Rattle.plist_reader.proofs.Moves.{bytes_end, Closes, closes_between, closes_word}
 use Rattle.plist_reader.proofs.Scalars.{AreScalars, front-scalars}
-use Rattle.plist_reader.proofs.Reached.{Reached, at_start, onward, reached-moves, reached-tree,
-    width-push}
+use Rattle.plist_reader.proofs.Reached.{Reached, at_start, onward, reached-moves, reached-tree}
+use Rattle.plist_reader.proofs.Reached.{width-push}
 use Rattle.plist_reader.proofs.Depths.{runs-keep, ok_bind}
 
 -- ---- texts in nodes and in readers
@@ -83,7 +85,7 @@ ended-texts : (q : ℕ) (nodes : List TreeNode) (brackets : List Open) (phase : 
     → Texts q u ≡ texts_at q nodes + bit (eqb at q)
 ended-texts q nodes _ _ _ _ _ _ (as_value brackets phase at end text a) =
     settled-texts q (length nodes) (nodes ++ node at end (tree.Text text) ∷ []) brackets
-        ∙ omega (arith, texts_at-push q nodes (node at end (tree.Text text)))
+    ∙ omega (arith, texts_at-push q nodes (node at end (tree.Text text)))
 ended-texts q nodes _ _ _ _ _ _ (as_key d outer at end text e)
     = omega (arith, texts_at-push q nodes (node at end (tree.Text text)))
 
@@ -116,14 +118,28 @@ moves-texts : (q place c : ℕ) (r s : Reader) → Moves place c r s → TextsAf
 moves-texts q place c _ _ (space_between nodes brackets phase e) = inl refl
 moves-texts q place c _ _ (string_begins nodes brackets phase b e) =
     begun-texts q place c (texts_at q nodes) (ready nodes brackets phase)
-        (in_token nodes brackets phase (Quoted place) [] []) refl refl
-        (record { nodes = nodes; brackets = brackets; phase = phase; same = refl; can_begin
-        = b; first = inl e })
+    (in_token nodes brackets phase (Quoted place) [] []) refl refl
+    (record {
+      nodes = nodes;
+      brackets = brackets;
+      phase = phase;
+      same = refl;
+      can_begin
+          = b;
+      first = inl e;
+    })
 moves-texts q place c _ _ (word_begins nodes brackets phase b w) =
     begun-texts q place c (texts_at q nodes) (ready nodes brackets phase)
-        (in_token nodes brackets phase (Word place) (c ∷ []) []) refl refl
-        (record { nodes = nodes; brackets = brackets; phase = phase; same = refl; can_begin
-        = b; first = inr w })
+    (in_token nodes brackets phase (Word place) (c ∷ []) []) refl refl
+    (record {
+      nodes = nodes;
+      brackets = brackets;
+      phase = phase;
+      same = refl;
+      can_begin
+          = b;
+      first = inr w;
+    })
 moves-texts q place c _ _ (bytes_begin nodes brackets phase a) = inl refl
 moves-texts q place c _ _ (list_begins nodes brackets phase a d) = inl refl
 moves-texts q place c _ _ (dictionary_begins nodes brackets phase a d) = inl refl
@@ -137,9 +153,9 @@ moves-texts q place c _ _ (dictionary_ends nodes d outer)
 moves-texts q place c _ _ (word_more nodes brackets phase at text b w) = inl refl
 moves-texts q place c _ _ (word_ends nodes brackets phase at text u s w t m)
     = elim (moves-texts q place c u s m) [
-  | inl e ↦ inl (e ∙ ended-texts q nodes brackets phase at place text u t)
-  | inr b ↦ absurd (ended-begins_none nodes brackets phase at place text u c t b.1)
-]
+      | inl e ↦ inl (e ∙ ended-texts q nodes brackets phase at place text u t)
+      | inr b ↦ absurd (ended-begins_none nodes brackets phase at place text u c t b.1)
+    ]
 moves-texts q place c _ _ (string_more nodes brackets phase at text b n m) = inl refl
 moves-texts q place c _ _ (string_ends nodes brackets phase at text s e t)
     = inl (ended-texts q nodes brackets phase at (place + 1) text s t)
@@ -180,7 +196,7 @@ reached-texts _ _ q at_start l = start-texts q
 reached-texts _ _ q (onward front r s c i h e) l =
     let w = width-push front c in
     elsewhere-texts q (width front) c r s (λ n. absurd (omega (arith, w, n, l, len_utf8_bounds c)))
-        (reached-moves front r s c h e) ∙ reached-texts front r q h (omega (arith, w, l))
+    (reached-moves front r s c h e) ∙ reached-texts front r q h (omega (arith, w, l))
 
 -- the texts that have begun behind a front are those of each tree of a text that begins so
 tree-texts : (front rest : List ℕ) (r : Reader) (t : Tree) (q n : ℕ) → AreScalars rest
@@ -189,7 +205,7 @@ tree-texts : (front rest : List ℕ) (r : Reader) (t : Tree) (q n : ℕ) → Are
 tree-texts front rest r t q n a h l e f = runs-keep (λ u. Texts q u ≡ n)
     (λ x. texts_at q x.nodes ≡ n) (width front)
     (λ k u w c b i m j. elsewhere-texts q (width k) c u w (λ z. absurd (omega (arith, z, b, l))) m
-        ∙ j) (λ k u x i m j. closes-texts q (width k) u x m ∙ j)
+    ∙ j) (λ k u x i m j. closes-texts q (width k) u x m ∙ j)
     rest front r t a (omega arith) h e f
 
 -- a text that is open begins there
@@ -199,7 +215,7 @@ open-text front before r h l e rest v s =
     let q = width before in
     let n = Texts q r in
     let k = tree-texts front rest r (tree_of v) q n (front-scalars v front rest s).1 h l
-        (reached-tree front rest r v h s) refl in
+    (reached-tree front rest r v h s) refl in
     omega (arith, k, e)
 
 -- and where a text begins, its first character has begun it
@@ -211,8 +227,8 @@ text-begun before c rest r t a h e l =
     let u = ok_bind (step r q c) (λ s. run s (q + len_utf8 c) rest) t e in
     let w = width-push before c in
     let k = tree-texts (before ++ c ∷ []) rest u.0 t q (Texts q u.0) a.1
-        (onward before r u.0 c a.0 h u.1) (omega (arith, w, len_utf8_bounds c))
-        (run_same u.0 u.0 (width (before ++ c ∷ [])) (q + len_utf8 c) rest refl w ∙ u.2) refl in
+    (onward before r u.0 c a.0 h u.1) (omega (arith, w, len_utf8_bounds c))
+    (run_same u.0 u.0 (width (before ++ c ∷ [])) (q + len_utf8 c) rest refl w ∙ u.2) refl in
     elim (moves-texts q q c r u.0 (reached-moves before r u.0 c h u.1)) [
       | inl x ↦ (let none = reached-texts before r q h (omega arith)
           in absurd (omega (arith, none, x, k, l)))

@@ -1,7 +1,7 @@
 -- The characters of a property list, by their codes: white space, those of bare words, and digits.
 -- Fontc's own, narrowed from the format of NeXTSTEP that Glyphs writes.
-use Rattle.std.specs.Prelude.{ℕ, ◌+◌, ◌-◌, ◌*◌, option_and_then, Bool, ◌&&◌, ◌||◌, not, ◌==◌,
-    nat_le, Option, Some, None, if◌then◌else◌}
+use Rattle.std.specs.Prelude.{ℕ, ◌+◌, ◌-◌, ◌*◌, option_and_then, Bool, ◌&&◌, ◌||◌, not, ◌==◌}
+use Rattle.std.specs.Prelude.{nat_le, Option, Some, None, if◌then◌else◌}
 
 -- space, tab, carriage return and line feed
 unfoldable pub is_space : ℕ → Bool

@@ -3,13 +3,15 @@
 -- digits up to 177, and \U with four hexadecimal digits, where a high surrogate is followed by \U
 -- and a low one. Which escapes there are is fontc's own; surrogates are those of UTF-16 (the
 -- Unicode Standard, section 3.9).
-use Rattle.std.specs.Prelude.{ℕ, ◌+◌, ◌-◌, ◌*◌, ◌&&◌, ◌||◌, ◌==◌, nat_lt, nat_le, Option, Some,
-    None, if◌then◌else◌}
+use Rattle.std.specs.Prelude.{ℕ, ◌+◌, ◌-◌, ◌*◌, ◌&&◌, ◌||◌, ◌==◌, nat_lt, nat_le, Option, Some}
+use Rattle.std.specs.Prelude.{None, if◌then◌else◌}
 use lib.Utf8.{scalar}
 use Rattle.plist_reader.specs.Characters.{octal_value, hex_value}
 use Rattle.plist_reader.specs.declared.escape.Escape.{Escape}
-use Rattle.plist_reader.specs.declared.escape.Escape.TheVariants.{Begun, Octal, Octals, Unit0,
-    Unit1, Unit2, Unit3, High, HighBackslash, Low, Low1, Low2, Low3}
+use Rattle.plist_reader.specs.declared.escape.Escape.TheVariants.{Begun, Octal, Octals, Unit0}
+use Rattle.plist_reader.specs.declared.escape.Escape.TheVariants.{Unit1, Unit2, Unit3, High}
+use Rattle.plist_reader.specs.declared.escape.Escape.TheVariants.{HighBackslash, Low, Low1, Low2}
+use Rattle.plist_reader.specs.declared.escape.Escape.TheVariants.{Low3}
 use Rattle.plist_reader.specs.declared.escape.Escaped.{Escaped}
 use Rattle.plist_reader.specs.declared.escape.Escaped.TheVariants.{More, Whole, Wrong}
 
@@ -31,7 +33,7 @@ escape_begun c = if c == 34 || c == 92 then Whole c
 unfoldable pub escape_unit : ℕ → ℕ → ℕ → ℕ → Escaped
 escape_unit a b c d = let unit = a * 4096 + b * 256 + c * 16 + d in
     if nat_le 0xD800 unit && nat_lt unit 0xDC00 then More (High (unit - 0xD800)) else character_of
-        unit
+    unit
 
 -- a hexadecimal digit; no unit that stands first is a low surrogate, and each that stands second is
 unfoldable pub escape_digit : Escape → ℕ → Escaped

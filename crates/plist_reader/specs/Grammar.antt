@@ -17,8 +17,8 @@
 -- Behind \U and a high surrogate stands \U and a low one, and the two are one character.
 --
 -- Spaces may stand between any two tokens. At most 64 brackets are open at once.
-use Rattle.std.specs.Prelude.{◌≡◌, ℕ, ◌+◌, ◌-◌, ◌*◌, ◌<◌, ◌≤◌, true, false, List, [], ◌∷◌, ◌++◌,
-    length, Some, ◌⊎◌, encode_utf8}
+use Rattle.std.specs.Prelude.{◌≡◌, ℕ, ◌+◌, ◌-◌, ◌*◌, ◌<◌, ◌≤◌, true, false, List, [], ◌∷◌, ◌++◌}
+use Rattle.std.specs.Prelude.{length, Some, ◌⊎◌, encode_utf8}
 use Rattle.std.specs.List.{AllByRecursion}
 use Rattle.std.specs.Char.{IsScalar, len_utf8}
 use Rattle.std.specs.Str.{IsUtf8, chars}
@@ -85,7 +85,7 @@ abbrev mutual
   entries_nodes NoEntries first = []
   entries_nodes (AndEntry place end key v entries) first = node place end (tree.Text key)
       ∷ (inner_of v (first + 1) ++ own_of v (first + 1)
-          ∷ entries_nodes entries (first + 1 + length (inner_of v (first + 1)) + 1))
+      ∷ entries_nodes entries (first + 1 + length (inner_of v (first + 1)) + 1))
 
   pub entries_numbers : Entries → ℕ → List (ℕ × ℕ)
   entries_numbers NoEntries first = []
@@ -146,7 +146,7 @@ pub data IsEscape : List ℕ → ℕ → Type 0 where
   units : (a b c d e f g h high low : ℕ) → IsUnit a b c d high → IsUnit e f g h low → IsHigh high
       → IsLow low
       → IsEscape (85 ∷ a ∷ b ∷ c ∷ d ∷ 92 ∷ 85 ∷ e ∷ f ∷ g ∷ h ∷ [])
-          (0x1_0000 + (high - 0xD800) * 1024 + (low - 0xDC00))
+      (0x1_0000 + (high - 0xD800) * 1024 + (low - 0xDC00))
 
 -- what stands between two quotes, and its bytes after escapes are undone
 pub data IsQuoted : List ℕ → List ℕ → Type 0 where
@@ -225,11 +225,11 @@ abbrev mutual
   Spells (Items at end items) depth place cs = (at ≡ place) × (end ≡ place + width cs)
       × (depth < 64)
       × (inner : List ℕ) × (cs ≡ 40 ∷ (inner ++ 41 ∷ []))
-          × SpellItems items (depth + 1) (place + 1) inner
+      × SpellItems items (depth + 1) (place + 1) inner
   Spells (Pairs at end entries) depth place cs = (at ≡ place) × (end ≡ place + width cs)
       × (depth < 64)
       × (inner : List ℕ) × (cs ≡ 123 ∷ (inner ++ 125 ∷ []))
-          × SpellEntries entries (depth + 1) [] (place + 1) inner
+      × SpellEntries entries (depth + 1) [] (place + 1) inner
 
   -- what stands between ( and )
   pub SpellItems : Values → ℕ → ℕ → List ℕ → Type 0
@@ -243,7 +243,7 @@ abbrev mutual
   SpellEntries NoEntries depth keys place cs = AreSpaces cs
   SpellEntries (AndEntry at end key v entries) depth keys place cs = (is_among key keys ≡ false)
       × IsEntry at end key (λ p text. Spells v depth p text)
-          (λ p rest. SpellEntries entries depth (keys ++ key ∷ []) p rest) place cs
+      (λ p rest. SpellEntries entries depth (keys ++ key ∷ []) p rest) place cs
 
 -- ---- whole texts
 

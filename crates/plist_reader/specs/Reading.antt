@@ -1,27 +1,29 @@
 -- What a source gives, computed a character at a time: its tree, or the refusal of the first
 -- character with which it can't go on. Fontc's own. Nobody has to believe it: it computes what
 -- Grammar and Refusals say of whole texts, by the law `sources_have_one_answer`.
-use Rattle.std.specs.Prelude.{ℕ, ◌+◌, ◌≡◌, Bool, true, false, not, ◌&&◌, ◌||◌, ◌==◌, nat_lt, List,
-    [], ◌∷◌, ◌++◌, length, Option, Some, None, Result, Ok, Err, if◌then◌else◌, encode_utf8}
+use Rattle.std.specs.Prelude.{ℕ, ◌+◌, ◌≡◌, Bool, true, false, not, ◌&&◌, ◌||◌, ◌==◌, nat_lt, List}
+use Rattle.std.specs.Prelude.{[], ◌∷◌, ◌++◌, length, Option, Some, None, Result, Ok, Err}
+use Rattle.std.specs.Prelude.{if◌then◌else◌, encode_utf8}
 use Rattle.std.specs.Char.{len_utf8}
 use Rattle.std.specs.Str.{is_utf8, chars}
 use Rattle.std.specs.Str.Lossy.{utf8_valid_len}
 use Rattle.refusal_codes.specs.declared.refusal.Refusal.{Refusal}
 use Rattle.refusal_codes.specs.declared.errors.ReadError.{ReadError}
 use Rattle.refusal_codes.specs.declared.rule.Rule.{Rule}
-use Rattle.refusal_codes.specs.declared.rule.Rule.TheVariants.{NotUtf8, UnexpectedByte,
-    UnexpectedEnd, BadEscape, DuplicateKey, TooDeep, TrailingText}
+use Rattle.refusal_codes.specs.declared.rule.Rule.TheVariants.{NotUtf8, UnexpectedByte}
+use Rattle.refusal_codes.specs.declared.rule.Rule.TheVariants.{UnexpectedEnd, BadEscape}
+use Rattle.refusal_codes.specs.declared.rule.Rule.TheVariants.{DuplicateKey, TooDeep, TrailingText}
 use Rattle.refusal_codes.specs.Gives.{RefusesRead, ◌>>=◌}
 use Rattle.plist_reader.specs.declared.tree.Tree.{Tree}
 use Rattle.plist_reader.specs.declared.tree.TreeValue.{TreeValue}
 use Rattle.plist_reader.specs.declared.tree.TreeValue.TheVariants as tree
 use Rattle.plist_reader.specs.declared.reader.Reader.{Reader}
 use Rattle.plist_reader.specs.declared.reader.Phase.{Phase}
-use Rattle.plist_reader.specs.declared.reader.Phase.TheVariants.{Value, Item, ItemEnd, Key, KeyEnd,
-    PairEnd, End}
+use Rattle.plist_reader.specs.declared.reader.Phase.TheVariants.{Value, Item, ItemEnd, Key, KeyEnd}
+use Rattle.plist_reader.specs.declared.reader.Phase.TheVariants.{PairEnd, End}
 use Rattle.plist_reader.specs.declared.reader.Token.{Token}
-use Rattle.plist_reader.specs.declared.reader.Token.TheVariants.{Between, Word, Quoted, Escape,
-    Bytes, Half}
+use Rattle.plist_reader.specs.declared.reader.Token.TheVariants.{Between, Word, Quoted, Escape}
+use Rattle.plist_reader.specs.declared.reader.Token.TheVariants.{Bytes, Half}
 use Rattle.plist_reader.specs.declared.reader.Open.{Open}
 use Rattle.plist_reader.specs.declared.reader.Open.TheVariants.{Items, Pairs}
 use Rattle.plist_reader.specs.declared.escape.Escape.TheVariants.{Begun}
@@ -45,17 +47,21 @@ start = record { nodes = []; brackets = []; phase = Value; token = Between; text
 
 -- one more value has ended; its number is how many there were
 abbrev pub with_node : Reader → ℕ → ℕ → TreeValue → Reader
-with_node r place end value = record r { nodes = r.nodes
-    ++ record { place = place; end = end; value = value } ∷ [] }
+with_node r place end value = record r {
+  nodes = r.nodes
+      ++ record { place = place; end = end; value = value } ∷ [];
+}
 
 -- where the number of a value goes: into what is open around it
 abbrev pub ended_in : Reader → ℕ → List Open → Reader
 ended_in r number [] = record r { phase = End number }
 ended_in r number (Items place items ∷ outer)
     = record r { brackets = Items place (items ++ number ∷ []) ∷ outer; phase = ItemEnd }
-ended_in r number (Pairs d ∷ outer) = record r
-    { brackets = Pairs (record d { pairs = d.pairs ++ (d.key, number) ∷ [] })
-    ∷ outer; phase = PairEnd }
+ended_in r number (Pairs d ∷ outer) = record r {
+  brackets = Pairs (record d { pairs = d.pairs ++ (d.key, number) ∷ [] })
+      ∷ outer;
+  phase = PairEnd;
+}
 
 unfoldable pub value_ended : Reader → ℕ → ℕ → TreeValue → Reader
 value_ended r place end value = ended_in (with_node r place end value) (length r.nodes) r.brackets
@@ -88,7 +94,7 @@ is_key (End number) = false
 unfoldable pub text_ended : Reader → ℕ → ℕ → Result Reader Refusal
 text_ended r place end = let s : Reader = record r { token = Between; text = [] } in
     if is_key r.phase then key_ended s place end r.text else Ok
-        (value_ended s place end (tree.Text r.text))
+    (value_ended s place end (tree.Text r.text))
 
 -- ---- refusals
 
@@ -121,15 +127,18 @@ unexpected r place c = Err (refusal (unexpected_rule r c) place)
 unfoldable pub text_begun : Reader → ℕ → ℕ → Result Reader Refusal
 text_begun r place c = if c == 34 then Ok (record r { token = Quoted place })
     else (if is_word c then Ok (record r { token = Word place; text = r.text ++ encode_utf8 c })
-        else unexpected r place c)
+    else unexpected r place c)
 
 -- a bracket opens
 abbrev pub list_opened : Reader → ℕ → Reader
 list_opened r place = record r { brackets = Items place [] ∷ r.brackets; phase = Item }
 
 abbrev pub dictionary_opened : Reader → ℕ → Reader
-dictionary_opened r place = record r { brackets
-    = Pairs (record { place = place; keys = []; pairs = []; key = 0 }) ∷ r.brackets; phase = Key }
+dictionary_opened r place = record r {
+  brackets
+      = Pairs (record { place = place; keys = []; pairs = []; key = 0 }) ∷ r.brackets;
+  phase = Key;
+}
 
 unfoldable pub bracket_opened : Reader → ℕ → ℕ → Result Reader Refusal
 bracket_opened r place c = if nat_lt (length r.brackets) max_depth then Ok
@@ -184,7 +193,7 @@ in_word r at place c = if is_word c then Ok (record r { text = r.text ++ encode_
 unfoldable pub in_quoted : Reader → ℕ → ℕ → ℕ → Result Reader Refusal
 in_quoted r at place c = if c == 34 then text_ended r at (place + 1)
     else (if c == 92 then Ok (record r { token = Escape at place Begun }) else Ok
-        (record r { text = r.text ++ encode_utf8 c }))
+    (record r { text = r.text ++ encode_utf8 c }))
 
 abbrev pub after_escape : Reader → ℕ → ℕ → Escaped → Result Reader Refusal
 after_escape r at backslash (More escape) = Ok (record r { token = Escape at backslash escape })
@@ -205,7 +214,7 @@ after_hex r at place c (Some digit) = Ok (record r { token = Half at c })
 unfoldable pub in_bytes : Reader → ℕ → ℕ → ℕ → Result Reader Refusal
 in_bytes r at place c = if is_space c then Ok r
     else (if c == 62 then Ok (value_ended (record r { token = Between; bytes = [] }) at (place + 1)
-        (tree.Bytes r.bytes)) else after_hex r at place c (hex_value c))
+    (tree.Bytes r.bytes)) else after_hex r at place c (hex_value c))
 
 unfoldable pub in_half : Reader → ℕ → ℕ → ℕ → ℕ → Result Reader Refusal
 in_half r at high place c = if is_space c then Ok r else after_half r at place c (byte_of high c)

@@ -1,7 +1,7 @@
 -- Why a source without a tree is refused, over whole texts: reading stops behind the longest front,
 -- or prefix, of the text with which some text with a tree begins. Fontc's own.
-use Rattle.std.specs.Prelude.{◌≡◌, ℕ, ◌+◌, ◌<◌, ◌≤◌, Bool, true, false, ◌&&◌, ◌==◌, nat_lt,
-    if◌then◌else◌, List, [], ◌∷◌, ◌++◌, length, take, Some, ◌⊎◌}
+use Rattle.std.specs.Prelude.{◌≡◌, ℕ, ◌+◌, ◌<◌, ◌≤◌, Bool, true, false, ◌&&◌, ◌==◌, nat_lt}
+use Rattle.std.specs.Prelude.{if◌then◌else◌, List, [], ◌∷◌, ◌++◌, length, take, Some, ◌⊎◌}
 use Rattle.std.specs.List.{list_any}
 use Rattle.std.specs.Str.{IsUtf8, chars}
 use Rattle.std.specs.Str.Lossy.{utf8_valid_len}
@@ -11,14 +11,15 @@ use Rattle.refusal_codes.specs.declared.errors.ReadError.TheVariants as read_err
 use Rattle.refusal_codes.specs.declared.job.TheConstants.{TREE}
 use Rattle.refusal_codes.specs.First.{refusal_of}
 use Rattle.refusal_codes.specs.declared.rule.Rule.{Rule}
-use Rattle.refusal_codes.specs.declared.rule.Rule.TheVariants.{NotUtf8, UnexpectedByte,
-    UnexpectedEnd, BadEscape, DuplicateKey, TooDeep, TrailingText}
+use Rattle.refusal_codes.specs.declared.rule.Rule.TheVariants.{NotUtf8, UnexpectedByte}
+use Rattle.refusal_codes.specs.declared.rule.Rule.TheVariants.{UnexpectedEnd, BadEscape}
+use Rattle.refusal_codes.specs.declared.rule.Rule.TheVariants.{DuplicateKey, TooDeep, TrailingText}
 use Rattle.plist_reader.specs.declared.tree.Tree.{Tree}
 use Rattle.plist_reader.specs.declared.tree.TreeNode.{TreeNode}
 use Rattle.plist_reader.specs.declared.tree.TreeValue.{TreeValue}
 use Rattle.plist_reader.specs.declared.tree.TreeValue.TheVariants as tree
-use Rattle.plist_reader.specs.Grammar.{Value, node, width, IsWord, IsEscape, IsQuoted, IsTextOf,
-    tree_of}
+use Rattle.plist_reader.specs.Grammar.{Value, node, width, IsWord, IsEscape, IsQuoted, IsTextOf}
+use Rattle.plist_reader.specs.Grammar.{tree_of}
 use Rattle.plist_reader.specs.Characters.{is_word}
 use Rattle.plist_reader.specs.Tree.{node_at, is_key}
 

@@ -1,8 +1,8 @@
 -- When two nodes of trees are the same: they have one place and one end, and their values are of
 -- one kind and alike, item by item. Fontc's own. The test says exactly whether they are the same to
 -- a contract.
-use Rattle.std.proofs.Common.{◌≡◌, ℕ, Bool, false, ◌&&◌, ◌==◌, List, [], nat_eq, ap, sym,
-    true≢false, arith}
+use Rattle.std.proofs.Common.{◌≡◌, ℕ, Bool, false, ◌&&◌, ◌==◌, List, [], nat_eq, ap, sym}
+use Rattle.std.proofs.Common.{true≢false, arith}
 use Rattle.std.specs.Bool.{Decides}
 use Rattle.std.specs.Cmp.{IsEquivalence, decided, unsigned_Decides}
 use Rattle.std.specs.Cmp.Lexicographic.{pointwise, pointwise_decides, bytes_decides, lists_equiv}
@@ -101,9 +101,9 @@ same_value-decides (tree.Pairs a) (tree.Pairs b) = let d = pointwise_decides sam
 pub same_node-decides : (m n : TreeNode) → Decides (same_node m n) (m ≡ n)
 same_node-decides m n =
     let d = Decides-and (m.place == n.place) (m.end == n.end && same_value m.value n.value)
-        (unsigned_Decides m.place n.place)
+    (unsigned_Decides m.place n.place)
     (Decides-and (m.end == n.end) (same_value m.value n.value) (unsigned_Decides m.end n.end)
-        (same_value-decides m.value n.value)) in (
+    (same_value-decides m.value n.value)) in (
       λ e. let h = d.0 e in λ i. record { place = h.0 i; end = h.1.0 i; value = h.1.1 i },
       λ e. d.1 (ap (λ x. x.place) e, (ap (λ x. x.end) e, ap (λ x. x.value) e)),
     )

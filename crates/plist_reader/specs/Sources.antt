@@ -2,8 +2,8 @@
 -- brackets are open at a place, that the keys of a dictionary differ, and what is found under a
 -- key. Fontc's own; all of it follows from Grammar, by the laws `trees_stand_in_their_sources` and
 -- `keys_lead_to_their_values`.
-use Rattle.std.specs.Prelude.{◌≡◌, ℕ, ◌+◌, ◌<◌, ◌≤◌, false, List, [], ◌∷◌, ◌++◌, ◌↔◌, length, map,
-    Some, All}
+use Rattle.std.specs.Prelude.{◌≡◌, ℕ, ◌+◌, ◌<◌, ◌≤◌, false, List, [], ◌∷◌, ◌++◌, ◌↔◌, length, map}
+use Rattle.std.specs.Prelude.{Some, All}
 use Rattle.std.specs.Str.{chars}
 use Rattle.plist_reader.specs.declared.tree.Tree.{Tree}
 use Rattle.plist_reader.specs.declared.tree.TreeNode.{TreeNode}

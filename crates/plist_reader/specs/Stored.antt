@@ -27,8 +27,12 @@ value_of pools (content.Items span) = tree.Items (part pools.items.items span)
 value_of pools (content.Pairs span) = tree.Pairs (part pools.pairs.items span)
 
 abbrev pub node_of : Pools → StoredNode → TreeNode
-node_of pools entry = record { place = entry.place; end = entry.end; value
-    = value_of pools entry.content }
+node_of pools entry = record {
+  place = entry.place;
+  end = entry.end;
+  value
+      = value_of pools entry.content;
+}
 
 -- a part lies inside its pool
 abbrev pub IsPart : {T : Type 0} → List T → Span → Type 0

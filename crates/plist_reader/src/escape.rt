@@ -1,6 +1,6 @@
 ghost use Rattle.std.specs.Prelude.{◌≡◌};
-ghost use Rattle.plist_reader.specs.Escapes.{escape_begun, escape_digit, escape_next, escape_unit,
-    character_of};
+ghost use Rattle.plist_reader.specs.Escapes.{escape_begun, escape_digit, escape_next, escape_unit};
+ghost use Rattle.plist_reader.specs.Escapes.{character_of};
 
 use crate::characters::{hex_value, octal_value};
 

@@ -1,5 +1,5 @@
-ghost use Rattle.std.specs.Prelude.{◌≡◌, ◌+◌, ◌<◌, ◌^◌, [], ◌∷◌, ◌++◌, length, if◌then◌else◌, not,
-    nat_lt, IfOk, IfErr, Ok, Err};
+ghost use Rattle.std.specs.Prelude.{◌≡◌, ◌+◌, ◌<◌, ◌^◌, [], ◌∷◌, ◌++◌, length, if◌then◌else◌, not};
+ghost use Rattle.std.specs.Prelude.{nat_lt, IfOk, IfErr, Ok, Err};
 ghost use Rattle.refusal_codes.specs.declared.errors.ReadError.TheVariants as read_errors;
 ghost use Rattle.refusal_codes.specs.Gives.{Gives};
 ghost use Rattle.plist_reader.specs.Refusals.{refusal};
@@ -105,11 +105,13 @@ pub(crate) fn refusal(alloc: Global, rule: Rule, place: u32) -> ReadError
 }
 
 impl Reader {
-    ghost use Rattle.plist_reader.specs.Reading.{start, Changes, with_node, value_ended, key_ended,
-        text_ended, unexpected_rule, unexpected, text_begun};
-    ghost use Rattle.plist_reader.specs.Reading.{bracket_opened, value_begun, list_closed,
-        dictionary_closed, between, in_word, in_quoted, after_escape, in_bytes, in_half, step,
-        whole, finish};
+    ghost use Rattle.plist_reader.specs.Reading.{start, Changes, with_node, value_ended, key_ended};
+    ghost use Rattle.plist_reader.specs.Reading.{text_ended, unexpected_rule, unexpected};
+    ghost use Rattle.plist_reader.specs.Reading.{text_begun};
+    ghost use Rattle.plist_reader.specs.Reading.{bracket_opened, value_begun, list_closed};
+    ghost use Rattle.plist_reader.specs.Reading.{dictionary_closed, between, in_word, in_quoted};
+    ghost use Rattle.plist_reader.specs.Reading.{after_escape, in_bytes, in_half, step, whole};
+    ghost use Rattle.plist_reader.specs.Reading.{finish};
 
     /// What is known before the first character.
     #[tactic(auto, unfolding(crate::specs::Reading::start))]

@@ -1,10 +1,10 @@
-ghost use Rattle.std.specs.Prelude.{[], ◌∷◌, ◌++◌, ◌≡◌, ◌≤◌, length, ◌⊎◌, ◌↔◌, IfOk, IfErr, Ok, Err,
-    List, ℕ};
+ghost use Rattle.std.specs.Prelude.{[], ◌∷◌, ◌++◌, ◌≡◌, ◌≤◌, length, ◌⊎◌, ◌↔◌, IfOk, IfErr, Ok};
+ghost use Rattle.std.specs.Prelude.{Err, List, ℕ};
 ghost use Rattle.refusal_codes.specs.Gives.{Gives};
 ghost use Rattle.plist_reader.specs.Tree.{IsTree, source_limit};
 ghost use Rattle.plist_reader.specs.Grammar.{HasTree, IsTextOf, Value, tree_of, width};
-ghost use Rattle.plist_reader.specs.Refusals.{AgreeInBytes, CanGoOn, IsLongest, IsErrorOf,
-    IsRefusal, refusal};
+ghost use Rattle.plist_reader.specs.Refusals.{AgreeInBytes, CanGoOn, IsLongest, IsErrorOf};
+ghost use Rattle.plist_reader.specs.Refusals.{IsRefusal, refusal};
 ghost use Rattle.refusal_codes.specs.declared.refusal.Refusal.{Refusal};
 ghost use Rattle.plist_reader.specs.Sources.{FindsPairs, StandsInSource};
 ghost use Rattle.plist_reader.specs.declared.tree.Tree.{Tree};

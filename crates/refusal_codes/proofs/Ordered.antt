@@ -9,16 +9,30 @@ use Rattle.std.proofs.lemmas.Map.Lookups.{exact_unsigned, exact_bytes, exact_pai
 use Rattle.refusal_codes.specs.Order.{refusal_cmp}
 use Rattle.refusal_codes.specs.Rules.{rule_number}
 use Rattle.refusal_codes.specs.declared.rule.Rule.{Rule}
-use Rattle.refusal_codes.specs.declared.rule.Rule.TheVariants.{NotUtf8, UnexpectedByte,
-    UnexpectedEnd, BadEscape, DuplicateKey, TooDeep, TrailingText, WrongShape, MissingKey,
-    WrongVersion, NotWhole, OutOfRange, TooManyAxes, TooManyMasters, NoMaster, AxisCount,
-    SameLocation, AxisMapNotRising, DuplicateGlyph, OriginUnknown, BadTag, TooLarge,
-    DuplicateMaster, MissingLayer, CubicNode, OpenContour, Incompatible, UnknownComponent,
-    ComponentCycle, UnsupportedTransform, CoordinateTooLarge, DeltaTooLarge, TooManyPoints,
-    TooManyComponents, DuplicateUnicode, LayerPlace, SameLayerPlace, TooManyLayers, AlternateName,
-    TooManyRules, Syntax, Unsupported, UnknownGlyph, UnknownName, ConflictingRule, ClassSizes,
-    MixedLookup, BadContextCall, TooManyGlyphs, CmapTooLarge, LayoutTooLarge, RowTooLarge,
-    TableTooLarge, TooManyRegions, TooManyCells}
+use Rattle.refusal_codes.specs.declared.rule.Rule.TheVariants.{NotUtf8, UnexpectedByte}
+use Rattle.refusal_codes.specs.declared.rule.Rule.TheVariants.{UnexpectedEnd, BadEscape}
+use Rattle.refusal_codes.specs.declared.rule.Rule.TheVariants.{DuplicateKey, TooDeep, TrailingText}
+use Rattle.refusal_codes.specs.declared.rule.Rule.TheVariants.{WrongShape, MissingKey, WrongVersion}
+use Rattle.refusal_codes.specs.declared.rule.Rule.TheVariants.{NotWhole, OutOfRange, TooManyAxes}
+use Rattle.refusal_codes.specs.declared.rule.Rule.TheVariants.{TooManyMasters, NoMaster, AxisCount}
+use Rattle.refusal_codes.specs.declared.rule.Rule.TheVariants.{SameLocation, AxisMapNotRising}
+use Rattle.refusal_codes.specs.declared.rule.Rule.TheVariants.{DuplicateGlyph, OriginUnknown}
+use Rattle.refusal_codes.specs.declared.rule.Rule.TheVariants.{BadTag, TooLarge, DuplicateMaster}
+use Rattle.refusal_codes.specs.declared.rule.Rule.TheVariants.{MissingLayer, CubicNode, OpenContour}
+use Rattle.refusal_codes.specs.declared.rule.Rule.TheVariants.{Incompatible, UnknownComponent}
+use Rattle.refusal_codes.specs.declared.rule.Rule.TheVariants.{ComponentCycle, UnsupportedTransform}
+use Rattle.refusal_codes.specs.declared.rule.Rule.TheVariants.{CoordinateTooLarge, DeltaTooLarge}
+use Rattle.refusal_codes.specs.declared.rule.Rule.TheVariants.{TooManyPoints, TooManyComponents}
+use Rattle.refusal_codes.specs.declared.rule.Rule.TheVariants.{DuplicateUnicode, LayerPlace}
+use Rattle.refusal_codes.specs.declared.rule.Rule.TheVariants.{SameLayerPlace, TooManyLayers}
+use Rattle.refusal_codes.specs.declared.rule.Rule.TheVariants.{AlternateName, TooManyRules, Syntax}
+use Rattle.refusal_codes.specs.declared.rule.Rule.TheVariants.{Unsupported, UnknownGlyph}
+use Rattle.refusal_codes.specs.declared.rule.Rule.TheVariants.{UnknownName, ConflictingRule}
+use Rattle.refusal_codes.specs.declared.rule.Rule.TheVariants.{ClassSizes, MixedLookup}
+use Rattle.refusal_codes.specs.declared.rule.Rule.TheVariants.{BadContextCall, TooManyGlyphs}
+use Rattle.refusal_codes.specs.declared.rule.Rule.TheVariants.{CmapTooLarge, LayoutTooLarge}
+use Rattle.refusal_codes.specs.declared.rule.Rule.TheVariants.{RowTooLarge, TableTooLarge}
+use Rattle.refusal_codes.specs.declared.rule.Rule.TheVariants.{TooManyRegions, TooManyCells}
 use Rattle.refusal_codes.specs.declared.refusal.Refusal.{Refusal}
 
 pub refusal_cmp_total : IsTotalOrder refusal_cmp
@@ -27,7 +41,7 @@ refusal_cmp_total =
     (then_total (on_total (λ (r : Refusal). r.kind) nat_cmp_total)
     (then_total (on_total (λ (r : Refusal). r.name) nat_list_cmp_total)
     (then_total (on_total (λ (r : Refusal). rule_number r.rule) nat_cmp_total)
-        (on_total (λ (r : Refusal). r.place) nat_cmp_total))))
+    (on_total (λ (r : Refusal). r.place) nat_cmp_total))))
 
 -- the rules in the order of their numbers
 abbrev rules : List Rule
@@ -112,8 +126,14 @@ abbrev parts : Refusal → ℕ × (ℕ × (List ℕ × (Rule × ℕ)))
 parts r = (r.stratum, (r.kind, (r.name, (r.rule, r.place))))
 
 abbrev whole : ℕ × (ℕ × (List ℕ × (Rule × ℕ))) → Refusal
-whole p = record { stratum = p.0; kind = p.1.0; name = p.1.1.0; rule = p.1.1.1.0; place
-    = p.1.1.1.1 }
+whole p = record {
+  stratum = p.0;
+  kind = p.1.0;
+  name = p.1.1.0;
+  rule = p.1.1.1.0;
+  place
+      = p.1.1.1.1;
+}
 
 pub refusal_cmp_exact : (a b : Refusal) → refusal_cmp a b ≡ Equal → a ≡ b
 refusal_cmp_exact a b e =
@@ -121,5 +141,5 @@ refusal_cmp_exact a b e =
     (exact_pairs nat_cmp _ exact_unsigned
     (exact_pairs (slice_cmp nat_cmp) _ exact_bytes
     (exact_pairs (λ (x y : Rule). nat_cmp (rule_number x) (rule_number y)) nat_cmp exact_rules
-        exact_unsigned)))
+    exact_unsigned)))
     (parts a) (parts b) e)

@@ -1,7 +1,7 @@
 -- The least of a list of failures: the least place wins, and at one place the rule that comes first
 -- in the list of rules. fontc's own.
-use Rattle.std.specs.Prelude.{◌≡◌, ℕ, Bool, false, Contains, ◌||◌, ◌&&◌, ◌==◌, nat_lt, List, [],
-    ◌∷◌, Option, Some, None, Result, Ok, Err, if◌then◌else◌}
+use Rattle.std.specs.Prelude.{◌≡◌, ℕ, Bool, false, Contains, ◌||◌, ◌&&◌, ◌==◌, nat_lt, List, []}
+use Rattle.std.specs.Prelude.{◌∷◌, Option, Some, None, Result, Ok, Err, if◌then◌else◌}
 use Rattle.std.specs.List.{AllByRecursion}
 use Rattle.refusal_codes.specs.Rules.{rule_number}
 use Rattle.refusal_codes.specs.declared.job.Job.{Job}
@@ -30,8 +30,14 @@ first_of fs = noted None fs
 
 -- the refusal of a failure that a job of this kind, with this name, finds
 abbrev pub refusal_of : Job → List ℕ → Failure → Refusal
-refusal_of job name f = record { stratum = job.stratum; kind = job.kind; name = name; rule
-    = f.rule; place = f.place }
+refusal_of job name f = record {
+  stratum = job.stratum;
+  kind = job.kind;
+  name = name;
+  rule
+      = f.rule;
+  place = f.place;
+}
 
 -- the first of a list of failures, which is in the order of the rules
 abbrev pub foremost : List Failure → Option Failure

@@ -1,6 +1,6 @@
 -- Laws of the least failure.
-use Rattle.std.proofs.Common.{◌≡◌, ℕ, zero, suc, Bool, true, false, ◌||◌, ◌&&◌, eqb, ltb, cond,
-    List, [], ◌∷◌, ◌++◌, Option, Some, None, refl, subst, arith}
+use Rattle.std.proofs.Common.{◌≡◌, ℕ, zero, suc, Bool, true, false, ◌||◌, ◌&&◌, eqb, ltb, cond}
+use Rattle.std.proofs.Common.{List, [], ◌∷◌, ◌++◌, Option, Some, None, refl, subst, arith}
 use Rattle.std.specs.List.{AllByRecursion, Contains}
 use Rattle.std.proofs.lemmas.Bool.Decides.{nat_tests}
 use Rattle.refusal_codes.specs.Rules.{rule_number}
@@ -51,18 +51,24 @@ not_before_itself f = not_below_itself f.place (rule_number f.rule)
 -- what comes before neither the lesser of two comes before both
 neither : (b : Bool) (least x f : Failure) → is_before x least ≡ b
     → is_before (cond b x least) f ≡ false → (is_before least f ≡ false) × (is_before x f ≡ false)
-neither true least x f lesser not = (not_below_first least.place (rule_number least.rule) x.place
-    (rule_number x.rule) f.place (rule_number f.rule) lesser not, not)
-neither false least x f lesser not = (not, not_below_second least.place (rule_number least.rule)
-    x.place (rule_number x.rule) f.place (rule_number f.rule) lesser not)
+neither true least x f lesser not = (
+  not_below_first least.place (rule_number least.rule) x.place
+      (rule_number x.rule) f.place (rule_number f.rule) lesser not,
+  not,
+)
+neither false least x f lesser not = (
+  not,
+  not_below_second least.place (rule_number least.rule)
+      x.place (rule_number x.rule) f.place (rule_number f.rule) lesser not,
+)
 
 noted_least : (least : Failure) (fs : List Failure) (f : Failure) → noted (Some least) fs ≡ Some f
     → Contains (least ∷ fs) f × (is_before least f ≡ false)
-        × AllByRecursion (λ g. is_before g f ≡ false) fs
+    × AllByRecursion (λ g. is_before g f ≡ false) fs
 noted_least least [] f e =
     let same : least ≡ f = cc in
     subst (λ (g : Failure). Contains (least ∷ []) g × (is_before least g ≡ false) × Unit {0}) same
-        (here least [], not_before_itself least, tt)
+    (here least [], not_before_itself least, tt)
 noted_least least (x ∷ xs) f e =
     let rest = noted_least (cond (is_before x least) x least) xs f e in
     let both = neither (is_before x least) least x f refl rest.1 in

@@ -14,5 +14,5 @@ noted_turn f xs i d least next all lt e h =
     ap (λ (n : Option Failure). noted n (flat_map f (drop (i + 1) xs))) e
     ∙ sym (noted-append least (f (get_or xs i d)) (flat_map f (drop (i + 1) xs)))
     ∙ sym (ap (λ (ys : List Failure). noted least ys)
-        (at_drop_more (λ ys. flat_map f ys) xs i d lt))
+    (at_drop_more (λ ys. flat_map f ys) xs i d lt))
     ∙ h

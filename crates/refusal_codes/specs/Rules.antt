@@ -2,16 +2,30 @@
 -- and its name. fontc's own.
 use Rattle.std.specs.Prelude.{ℕ, List, codes}
 use Rattle.refusal_codes.specs.declared.rule.Rule.{Rule}
-use Rattle.refusal_codes.specs.declared.rule.Rule.TheVariants.{NotUtf8, UnexpectedByte,
-    UnexpectedEnd, BadEscape, DuplicateKey, TooDeep, TrailingText, WrongShape, MissingKey,
-    WrongVersion, NotWhole, OutOfRange, TooManyAxes, TooManyMasters, NoMaster, AxisCount,
-    SameLocation, AxisMapNotRising, DuplicateGlyph, OriginUnknown, BadTag, TooLarge,
-    DuplicateMaster, MissingLayer, CubicNode, OpenContour, Incompatible, UnknownComponent,
-    ComponentCycle, UnsupportedTransform, CoordinateTooLarge, DeltaTooLarge, TooManyPoints,
-    TooManyComponents, DuplicateUnicode, LayerPlace, SameLayerPlace, TooManyLayers, AlternateName,
-    TooManyRules, Syntax, Unsupported, UnknownGlyph, UnknownName, ConflictingRule, ClassSizes,
-    MixedLookup, BadContextCall, TooManyGlyphs, CmapTooLarge, LayoutTooLarge, RowTooLarge,
-    TableTooLarge, TooManyRegions, TooManyCells}
+use Rattle.refusal_codes.specs.declared.rule.Rule.TheVariants.{NotUtf8, UnexpectedByte}
+use Rattle.refusal_codes.specs.declared.rule.Rule.TheVariants.{UnexpectedEnd, BadEscape}
+use Rattle.refusal_codes.specs.declared.rule.Rule.TheVariants.{DuplicateKey, TooDeep, TrailingText}
+use Rattle.refusal_codes.specs.declared.rule.Rule.TheVariants.{WrongShape, MissingKey, WrongVersion}
+use Rattle.refusal_codes.specs.declared.rule.Rule.TheVariants.{NotWhole, OutOfRange, TooManyAxes}
+use Rattle.refusal_codes.specs.declared.rule.Rule.TheVariants.{TooManyMasters, NoMaster, AxisCount}
+use Rattle.refusal_codes.specs.declared.rule.Rule.TheVariants.{SameLocation, AxisMapNotRising}
+use Rattle.refusal_codes.specs.declared.rule.Rule.TheVariants.{DuplicateGlyph, OriginUnknown}
+use Rattle.refusal_codes.specs.declared.rule.Rule.TheVariants.{BadTag, TooLarge, DuplicateMaster}
+use Rattle.refusal_codes.specs.declared.rule.Rule.TheVariants.{MissingLayer, CubicNode, OpenContour}
+use Rattle.refusal_codes.specs.declared.rule.Rule.TheVariants.{Incompatible, UnknownComponent}
+use Rattle.refusal_codes.specs.declared.rule.Rule.TheVariants.{ComponentCycle, UnsupportedTransform}
+use Rattle.refusal_codes.specs.declared.rule.Rule.TheVariants.{CoordinateTooLarge, DeltaTooLarge}
+use Rattle.refusal_codes.specs.declared.rule.Rule.TheVariants.{TooManyPoints, TooManyComponents}
+use Rattle.refusal_codes.specs.declared.rule.Rule.TheVariants.{DuplicateUnicode, LayerPlace}
+use Rattle.refusal_codes.specs.declared.rule.Rule.TheVariants.{SameLayerPlace, TooManyLayers}
+use Rattle.refusal_codes.specs.declared.rule.Rule.TheVariants.{AlternateName, TooManyRules, Syntax}
+use Rattle.refusal_codes.specs.declared.rule.Rule.TheVariants.{Unsupported, UnknownGlyph}
+use Rattle.refusal_codes.specs.declared.rule.Rule.TheVariants.{UnknownName, ConflictingRule}
+use Rattle.refusal_codes.specs.declared.rule.Rule.TheVariants.{ClassSizes, MixedLookup}
+use Rattle.refusal_codes.specs.declared.rule.Rule.TheVariants.{BadContextCall, TooManyGlyphs}
+use Rattle.refusal_codes.specs.declared.rule.Rule.TheVariants.{CmapTooLarge, LayoutTooLarge}
+use Rattle.refusal_codes.specs.declared.rule.Rule.TheVariants.{RowTooLarge, TableTooLarge}
+use Rattle.refusal_codes.specs.declared.rule.Rule.TheVariants.{TooManyRegions, TooManyCells}
 
 -- one row for each rule
 abbrev pub rule_row : Rule → ℕ × List ℕ × List ℕ

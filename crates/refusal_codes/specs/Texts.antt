@@ -12,7 +12,7 @@ abbrev pub kind_names : List (List ℕ)
 kind_names =
     codes "Tree" ∷ codes "Header" ∷ codes "Index" ∷ codes "Raw" ∷ codes "Flat" ∷ codes "Simple"
     ∷ codes "Composite" ∷ codes "Variations" ∷ codes "FeatureParse" ∷ codes "Order"
-        ∷ codes "Advances"
+    ∷ codes "Advances"
     ∷ codes "Kern" ∷ codes "Marks" ∷ codes "Rules" ∷ codes "Lookup" ∷ codes "Store" ∷ codes "Table"
     ∷ codes "Font" ∷ codes "Alternates" ∷ []
 

@@ -1,7 +1,7 @@
 -- A text spells a decimal exactly where the definition gives it.
-use Rattle.std.proofs.Common.{◌≡◌, ℕ, zero, suc, ◌+◌, ◌<◌, Bool, true, false, ◌&&◌, ◌==◌, cond,
-    List, [], ◌∷◌, ◌++◌, length, get_or, take, drop, Option, Some, None, refl, sym, ap, ◌∙◌, subst,
-    arith, add-one, append_assoc, true≢false}
+use Rattle.std.proofs.Common.{◌≡◌, ℕ, zero, suc, ◌+◌, ◌<◌, Bool, true, false, ◌&&◌, ◌==◌, cond}
+use Rattle.std.proofs.Common.{List, [], ◌∷◌, ◌++◌, length, get_or, take, drop, Option, Some, None}
+use Rattle.std.proofs.Common.{refl, sym, ap, ◌∙◌, subst, arith, add-one, append_assoc, true≢false}
 use Rattle.std.specs.Prelude.{position, slice_index, not, nat_lt}
 use Rattle.std.specs.List.{list_all, position_or_len}
 use Rattle.std.specs.Char.{is_ascii_digit}
@@ -10,8 +10,8 @@ use Rattle.std.proofs.lemmas.List.Quantifiers.{position-Some}
 use Rattle.std.proofs.lemmas.Bool.Decides.{nat_tests}
 use Rattle.std.proofs.Math.Seq.{take-append_seam, drop-append-add, drop-cons}
 use Rattle.source_values.specs.declared.decimals.Decimal.{Decimal}
-use Rattle.source_values.specs.Decimals.{are_digits, digits_value, billionths_of, first_digits,
-    fraction_of, unsigned_by, unsigned_of, decimal_of}
+use Rattle.source_values.specs.Decimals.{are_digits, digits_value, billionths_of, first_digits}
+use Rattle.source_values.specs.Decimals.{fraction_of, unsigned_by, unsigned_of, decimal_of}
 use Rattle.source_values.specs.Spelling.{sign, point_with, nine_digits, Spells}
 
 abbrev is_point : ℕ → Bool
@@ -64,7 +64,7 @@ past_digits (d ∷ ds) rest e =
     let k : position_or_len is_point (ds ++ rest) ≡ length ds + position_or_len is_point rest =
     past_digits ds rest parts.1 in
     ap (λ (b : Bool). cond (not b) (1 + position_or_len is_point (ds ++ rest)) 0)
-        (digit_no_byte 46 d (omega arith) parts.0)
+    (digit_no_byte 46 d (omega arith) parts.0)
     ∙ omega (arith, k)
 
 at_place : (p n k : ℕ) → p ≡ k → k < n → cond (nat_lt p n) (Some p) None ≡ Some k
@@ -80,7 +80,7 @@ passed : (ds rest : List ℕ) → list_all is_ascii_digit ds ≡ true
     → position is_point (ds ++ 46 ∷ rest) ≡ Some (length ds)
 passed ds rest e =
     let k : position_or_len is_point (ds ++ 46 ∷ rest)
-        ≡ length ds + 0 = past_digits ds (46 ∷ rest) e in
+    ≡ length ds + 0 = past_digits ds (46 ∷ rest) e in
     at_place _ _ (length ds) (omega (arith, k)) (omega (arith, length-append ds (46 ∷ rest)))
 
 nowhere : (ds : List ℕ) → list_all is_ascii_digit ds ≡ true → position is_point ds ≡ None
@@ -99,8 +99,12 @@ IsRest negative text d =
     × (text ≡ whole ++ point_with fraction)
     × (are_digits whole ≡ true)
     × (list_all is_ascii_digit fraction ≡ true)
-    × (d ≡ record { negative = negative; whole = digits_value whole; billionths
-        = digits_value (nine_digits fraction) })
+    × (d ≡ record {
+      negative = negative;
+      whole = digits_value whole;
+      billionths
+          = digits_value (nine_digits fraction);
+    })
 
 abbrev number : Bool → ℕ → ℕ → Decimal
 number negative whole billionths = record
@@ -138,7 +142,7 @@ rest_by negative text (Some k) d at e =
     let front = take k text in
     let back = drop (k + 1) text in
     let g = given (are_digits front && are_digits back)
-        (number negative (digits_value front) (billionths_of back)) d e in
+    (number negative (digits_value front) (billionths_of back)) d e in
     let tests = both (are_digits front) (are_digits back) g.0 in (
       front,
       back,
@@ -187,7 +191,7 @@ through b x e = ap (λ (b : Bool). cond b (Some x) None) e
 
 back_whole : (negative : Bool) (whole : List ℕ) → are_digits whole ≡ true
     → unsigned_of negative (whole ++ []) ≡ Some
-        (number negative (digits_value whole) (digits_value (nine_digits [])))
+    (number negative (digits_value whole) (digits_value (nine_digits [])))
 unfolding unsigned_of
 back_whole negative whole e =
     ap (λ (xs : List ℕ). unsigned_by negative xs (position is_point xs)) (append-nil whole)
@@ -205,24 +209,24 @@ digits_there f fs k =
 back_point : (negative : Bool) (whole : List ℕ) (f : ℕ) (fs : List ℕ) → are_digits whole ≡ true
     → list_all is_ascii_digit (f ∷ fs) ≡ true
     → unsigned_of negative (whole ++ 46 ∷ f ∷ fs)
-        ≡ Some (number negative (digits_value whole) (digits_value (nine_digits (f ∷ fs))))
+    ≡ Some (number negative (digits_value whole) (digits_value (nine_digits (f ∷ fs))))
 unfolding unsigned_of fraction_of
 back_point negative whole f fs e k =
     let text = whole ++ 46 ∷ f ∷ fs in
     ap (unsigned_by negative text) (passed whole (f ∷ fs) (some_digits whole e).1)
     ∙ ap (λ (xs : List ℕ). fraction_of negative xs (drop (length whole + 1) text))
-        (take-append_seam whole (46 ∷ f ∷ fs))
+    (take-append_seam whole (46 ∷ f ∷ fs))
     ∙ ap (λ (xs : List ℕ). fraction_of negative whole xs) (drop-append-add whole (46 ∷ f ∷ fs) 1)
     ∙ ap (λ (b : Bool). cond (b && are_digits (f ∷ fs))
-        (Some (number negative (digits_value whole) (billionths_of (f ∷ fs)))) None) e
+    (Some (number negative (digits_value whole) (billionths_of (f ∷ fs)))) None) e
     ∙ through (are_digits (f ∷ fs)) (number negative (digits_value whole) (billionths_of (f ∷ fs)))
-        (digits_there f fs k)
+    (digits_there f fs k)
     ∙ ap (λ (n : ℕ). Some (number negative (digits_value whole) n)) (nine (f ∷ fs))
 
 back_rest : (negative : Bool) (whole fraction : List ℕ) → are_digits whole ≡ true
     → list_all is_ascii_digit fraction ≡ true
     → unsigned_of negative (whole ++ point_with fraction)
-        ≡ Some (number negative (digits_value whole) (digits_value (nine_digits fraction)))
+    ≡ Some (number negative (digits_value whole) (digits_value (nine_digits fraction)))
 back_rest negative whole [] e k = back_whole negative whole e
 back_rest negative whole (f ∷ fs) e k = back_point negative whole f fs e k
 
@@ -231,7 +235,7 @@ unsigned_first : (whole rest : List ℕ) → are_digits whole ≡ true
 unsigned_first [] rest e = absurd (true≢false (sym (some_digits [] e).0))
 unsigned_first (d ∷ ds) rest e =
     digit_no_byte 45 d (omega arith) (both (is_ascii_digit d) (list_all is_ascii_digit ds)
-        (some_digits (d ∷ ds) e).1).0
+    (some_digits (d ∷ ds) e).1).0
 
 back_sign : (negative : Bool) (whole fraction : List ℕ) (o : Option Decimal)
     → are_digits whole ≡ true
@@ -242,15 +246,19 @@ back_sign true whole fraction o e k = k
 back_sign false whole fraction o e k =
     let text = whole ++ point_with fraction in
     ap (λ (b : Bool). cond b (unsigned_of true (drop 1 text)) (unsigned_of false text))
-        (unsigned_first whole (point_with fraction) e) ∙ k
+    (unsigned_first whole (point_with fraction) e) ∙ k
 
 pub given_back : (text : List ℕ) (d : Decimal) → Spells text d → decimal_of text ≡ Some d
 given_back text d s =
     let same : number d.negative (digits_value s.whole) (digits_value (nine_digits s.fraction))
-        ≡ d =
-    λ i. record { negative = d.negative; whole = sym s.whole_part i; billionths
-        = sym s.billionths i } in
+    ≡ d =
+    λ i. record {
+      negative = d.negative;
+      whole = sym s.whole_part i;
+      billionths
+          = sym s.billionths i;
+    } in
     ap decimal_of s.parts
     ∙ back_sign d.negative s.whole s.fraction (Some d) s.whole_digits
     (back_rest d.negative s.whole s.fraction s.whole_digits s.fraction_digits
-        ∙ ap (λ (x : Decimal). Some x) same)
+    ∙ ap (λ (x : Decimal). Some x) same)

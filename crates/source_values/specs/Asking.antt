@@ -2,20 +2,20 @@
 -- shape, a number with a fraction isn't whole, and a number or a length may be outside its range.
 -- Of these only the first is found at one value. A dictionary that lacks a key fails itself.
 -- fontc's own.
-use Rattle.std.specs.Prelude.{ℕ, Bool, false, ◌&&◌, ◌==◌, nat_le, List, [], ◌∷◌, length, Option,
-    Some, None, is_some, flat_map, if◌then◌else◌}
+use Rattle.std.specs.Prelude.{ℕ, Bool, false, ◌&&◌, ◌==◌, nat_le, List, [], ◌∷◌, length, Option}
+use Rattle.std.specs.Prelude.{Some, None, is_some, flat_map, if◌then◌else◌}
 use Rattle.plist_reader.specs.declared.tree.Tree.{Tree}
 use Rattle.plist_reader.specs.Tree.{text_at, find_in}
 use Rattle.refusal_codes.specs.declared.rule.Rule.{Rule}
-use Rattle.refusal_codes.specs.declared.rule.Rule.TheVariants.{WrongShape, MissingKey, NotWhole,
-    OutOfRange, CoordinateTooLarge}
+use Rattle.refusal_codes.specs.declared.rule.Rule.TheVariants.{WrongShape, MissingKey, NotWhole}
+use Rattle.refusal_codes.specs.declared.rule.Rule.TheVariants.{OutOfRange, CoordinateTooLarge}
 use Rattle.refusal_codes.specs.declared.first.Failure.{Failure}
 use Rattle.source_values.specs.declared.decimals.Decimal.{Decimal}
 use Rattle.source_values.specs.declared.kinds.Range.{Range}
 use Rattle.source_values.specs.declared.kinds.Range.TheVariants.{Any, Natural, Code, Coordinate}
 use Rattle.source_values.specs.Decimals.{is_whole}
-use Rattle.source_values.specs.Values.{place_at, items_at, pairs_at, is_dictionary, decimal_at,
-    in_range}
+use Rattle.source_values.specs.Values.{place_at, items_at, pairs_at, is_dictionary, decimal_at}
+use Rattle.source_values.specs.Values.{in_range}
 
 -- this rule fails at this value
 abbrev pub fails : Rule → Tree → ℕ → List Failure

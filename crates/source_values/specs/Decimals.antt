@@ -1,9 +1,9 @@
 -- Decimals, as a source writes them: an optional minus sign, digits, and maybe a point and more
 -- digits. A decimal is exact to nine digits of fraction; later digits are dropped. fontc's own
 -- reading of the numbers of the Glyphs file format, version 3.
-use Rattle.std.specs.Prelude.{ℕ, ◌+◌, ◌-◌, ◌*◌, zero, suc, min, Bool, true, false, ◌&&◌, ◌||◌, not,
-    ◌==◌, nat_lt, nat_le, List, take, drop, length, fold, position, slice_index, slice_index_or,
-    Option, Some, None, if◌then◌else◌}
+use Rattle.std.specs.Prelude.{ℕ, ◌+◌, ◌-◌, ◌*◌, zero, suc, min, Bool, true, false, ◌&&◌, ◌||◌, not}
+use Rattle.std.specs.Prelude.{◌==◌, nat_lt, nat_le, List, take, drop, length, fold, position}
+use Rattle.std.specs.Prelude.{slice_index, slice_index_or, Option, Some, None, if◌then◌else◌}
 use Rattle.std.specs.List.{list_all}
 use Rattle.std.specs.Char.{is_ascii_digit}
 use Rattle.source_values.specs.declared.decimals.Decimal.{Decimal}
@@ -29,8 +29,12 @@ billionths_of digits = first_digits digits 9
 unfoldable pub fraction_of : Bool → List ℕ → List ℕ → Option Decimal
 fraction_of negative front back =
     if are_digits front && are_digits back
-    then Some (record { negative = negative; whole = digits_value front; billionths
-        = billionths_of back })
+    then Some (record {
+      negative = negative;
+      whole = digits_value front;
+      billionths
+          = billionths_of back;
+    })
     else None
 
 -- a decimal without its sign: digits, or digits on both sides of the first point
@@ -53,8 +57,12 @@ decimal_of text = if slice_index text 0 == 45 then unsigned_of true (drop 1 text
 -- a decimal with its parts cut to 1000000000, which is greater than each number that any value of a
 -- source may have. Billionths are below it anyway
 abbrev pub cut : Decimal → Decimal
-cut d = record { negative = d.negative; whole = min d.whole 1000000000; billionths
-    = min d.billionths 1000000000 }
+cut d = record {
+  negative = d.negative;
+  whole = min d.whole 1000000000;
+  billionths
+      = min d.billionths 1000000000;
+}
 
 -- whether a decimal is a whole number
 abbrev pub is_whole : Decimal → Bool

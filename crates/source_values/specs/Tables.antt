@@ -4,13 +4,13 @@ use Rattle.std.specs.Option.{option_map_or}
 use Rattle.plist_reader.specs.declared.tree.Tree.{Tree}
 use Rattle.plist_reader.specs.Tree.{text_at}
 use Rattle.refusal_codes.specs.declared.rule.Rule.{Rule}
-use Rattle.refusal_codes.specs.declared.rule.Rule.TheVariants.{WrongShape, MissingKey, NotWhole,
-    OutOfRange}
+use Rattle.refusal_codes.specs.declared.rule.Rule.TheVariants.{WrongShape, MissingKey, NotWhole}
+use Rattle.refusal_codes.specs.declared.rule.Rule.TheVariants.{OutOfRange}
 use Rattle.source_values.specs.declared.decimals.Decimal.{Decimal}
 use Rattle.source_values.specs.declared.kinds.Range.{Range}
 use Rattle.source_values.specs.Decimals.{is_whole}
-use Rattle.source_values.specs.Values.{items_at, pairs_at, is_list, is_dictionary, decimal_at,
-    in_range}
+use Rattle.source_values.specs.Values.{items_at, pairs_at, is_list, is_dictionary, decimal_at}
+use Rattle.source_values.specs.Values.{in_range}
 use Rattle.source_values.specs.Asking.{range_rule, is_empty_list, is_empty_dictionary}
 use Rattle.source_values.specs.Ways.{Row, under, each_item, when, here, behind, has}
 

@@ -1,7 +1,7 @@
 -- How tables tell of rules that are made of others, as records whose parts a proof finds by itself:
 -- what the proofs of tables in other crates need, and no reader.
-use Rattle.std.proofs.Common.{inl, inr, ◌≡◌, not, ℕ, Bool, cond, List, [], ◌∷◌, ◌++◌, Option, Some,
-    None, refl, sym, ap, ◌∙◌, subst}
+use Rattle.std.proofs.Common.{inl, inr, ◌≡◌, not, ℕ, Bool, cond, List, [], ◌∷◌, ◌++◌, Option, Some}
+use Rattle.std.proofs.Common.{None, refl, sym, ap, ◌∙◌, subst}
 use Rattle.std.specs.Prelude.{flat_map, slice_get}
 use Rattle.std.specs.Option.{option_map_or}
 use Rattle.std.proofs.lemmas.List.Concat.{flat_map-cons}
@@ -12,17 +12,19 @@ use Rattle.refusal_codes.specs.declared.first.Failure.{Failure}
 use Rattle.source_values.specs.declared.decimals.Decimal.{Decimal}
 use Rattle.source_values.specs.declared.kinds.Range.{Range}
 use Rattle.source_values.specs.Values.{items_at, decimal_at}
-use Rattle.source_values.specs.Asking.{fails, whole_failures, text_failures, name_failures,
-    dictionary_failures, empty_list_failures, empty_dictionary_failures, each, dictionary, required,
-    optional}
+use Rattle.source_values.specs.Asking.{fails, whole_failures, text_failures, name_failures}
+use Rattle.source_values.specs.Asking.{dictionary_failures, empty_list_failures}
+use Rattle.source_values.specs.Asking.{empty_dictionary_failures, each, dictionary, required}
+use Rattle.source_values.specs.Asking.{optional}
 use Rattle.source_values.specs.Ways.{IsOneOf, Row, Fails, Tells, item, when, here, behind}
-use Rattle.source_values.specs.WayLaws.{among_left, among_right, among_cases, from_behind,
-    to_behind, tested, joined, allowed, needed, listed, inside, guarded, either}
-use Rattle.source_values.specs.Tables.{whole_table, decimal_table, text_table, name_table,
-    dictionary_table, empty_list_table, empty_dictionary_table, required_table, optional_table,
-    each_table, inside_table}
-use Rattle.source_values.specs.KindLaws.{decimal_tells, whole_tells, text_tells, name_tells,
-    dictionary_tells, empty_list_tells, empty_dictionary_tells}
+use Rattle.source_values.specs.WayLaws.{among_left, among_right, among_cases, from_behind}
+use Rattle.source_values.specs.WayLaws.{to_behind, tested, joined, allowed, needed, listed, inside}
+use Rattle.source_values.specs.WayLaws.{guarded, either}
+use Rattle.source_values.specs.Tables.{whole_table, decimal_table, text_table, name_table}
+use Rattle.source_values.specs.Tables.{dictionary_table, empty_list_table, empty_dictionary_table}
+use Rattle.source_values.specs.Tables.{required_table, optional_table, each_table, inside_table}
+use Rattle.source_values.specs.KindLaws.{decimal_tells, whole_tells, text_tells, name_tells}
+use Rattle.source_values.specs.KindLaws.{dictionary_tells, empty_list_tells, empty_dictionary_tells}
 
 -- a table that tells of rules
 pub record Told (rows : List Row) (g : Tree → ℕ → List Failure) : Type 0 where
@@ -99,14 +101,14 @@ within {rows} {g} a = record { tells = inside rows g a.tells }
 pub checked : {rows : List Row} {g : Tree → ℕ → List Failure} → Told rows g → (rule : Rule)
     → (test : Tree → ℕ → Bool)
     → Told (here rule test ++ behind (when test) rows)
-        (λ t n. cond (test t n) (g t n) (fails rule t n))
+    (λ t n. cond (test t n) (g t n) (fails rule t n))
 checked {rows} {g} a rule test = record { tells = guarded rows g a.tells rule test }
 
 -- one of two, by a test
 pub choice : {r s : List Row} {g h : Tree → ℕ → List Failure} → (test : Tree → ℕ → Bool)
     → Told r g → Told s h
     → Told (behind (when test) r ++ behind (when (λ t n. not (test t n))) s)
-        (λ t n. cond (test t n) (g t n) (h t n))
+    (λ t n. cond (test t n) (g t n) (h t n))
 choice {r} {s} {g} {h} test a b = record { tells = either test r s g h a.tells b.tells }
 
 -- ---- the value at a place of a list
@@ -163,7 +165,7 @@ module _ {X : Type 0} (g : X → List Failure) (f : Failure) where
   of_several [] p = absurd p
   of_several (x ∷ xs) p =
       elim (among_cases f (g x) (flat_map g xs)
-          (subst (λ (fs : List Failure). IsOneOf fs f) (flat_map-cons g x xs) p)) [
+      (subst (λ (fs : List Failure). IsOneOf fs f) (flat_map-cons g x xs) p)) [
         | inl q ↦ (x, inl refl, q)
         | inr q ↦ (let (y, is, r) = of_several xs q in (y, inr is, r))
       ]

@@ -1,7 +1,8 @@
 -- How tables tell of the combinators of rules: what the proofs of tables in other crates need, and
 -- no reader.
-use Rattle.std.proofs.Common.{inl, inr, ◌≡◌, ◌⊎◌, ◌==◌, not, arith, ℕ, Bool, true, false, cond,
-    List, [], ◌∷◌, ◌++◌, Option, Some, None, is_some, refl, sym, ap, ◌∙◌, subst, true≢false}
+use Rattle.std.proofs.Common.{inl, inr, ◌≡◌, ◌⊎◌, ◌==◌, not, arith, ℕ, Bool, true, false, cond}
+use Rattle.std.proofs.Common.{List, [], ◌∷◌, ◌++◌, Option, Some, None, is_some, refl, sym, ap, ◌∙◌}
+use Rattle.std.proofs.Common.{subst, true≢false}
 use Rattle.std.specs.Prelude.{flat_map}
 use Rattle.std.proofs.lemmas.List.Concat.{flat_map-cons}
 use Rattle.std.proofs.lemmas.Bool.Decides.{nat_tests}
@@ -12,10 +13,11 @@ use Rattle.refusal_codes.specs.Rules.{rule_number}
 use Rattle.refusal_codes.specs.declared.rule.Rule.TheVariants.{WrongShape, MissingKey}
 use Rattle.refusal_codes.specs.declared.first.Failure.{Failure}
 use Rattle.source_values.specs.Values.{place_at, items_at, is_list, is_dictionary}
-use Rattle.source_values.specs.Asking.{fails, each_by, each, dictionary, under_by, required,
-    optional}
-use Rattle.source_values.specs.Ways.{IsOneOf, Step, under, each_item, item, when, Leads, Reaches,
-    Row, FailsRow, Fails, Tells, rows_of, TellsByRule, here, behind, has}
+use Rattle.source_values.specs.Asking.{fails, each_by, each, dictionary, under_by, required}
+use Rattle.source_values.specs.Asking.{optional}
+use Rattle.source_values.specs.Ways.{IsOneOf, Step, under, each_item, item, when, Leads, Reaches}
+use Rattle.source_values.specs.Ways.{Row, FailsRow, Fails, Tells, rows_of, TellsByRule, here}
+use Rattle.source_values.specs.Ways.{behind, has}
 
 -- ---- lists
 
@@ -41,7 +43,7 @@ module _ (g : ℕ → List Failure) (f : Failure) where
   of_items [] p = absurd p
   of_items (n ∷ ns) p =
       elim (among_cases f (g n) (flat_map g ns)
-          (subst (λ (fs : List Failure). IsOneOf fs f) (flat_map-cons g n ns) p)) [
+      (subst (λ (fs : List Failure). IsOneOf fs f) (flat_map-cons g n ns) p)) [
         | inl q ↦ (n, inl refl, q)
         | inr q ↦ (let (m, is, r) = of_items ns q in (m, inr is, r))
       ]
@@ -120,8 +122,11 @@ module _ (rule : Rule) (holds : Tree → ℕ → Bool) (t : Tree) (n : ℕ) (f :
 
 pub tested : (rule : Rule) (holds : Tree → ℕ → Bool)
     → Tells (here rule holds) (λ t n. cond (holds t n) [] (fails rule t n))
-tested rule holds t n f = (by_test rule holds t n f (holds t n) refl, to_test rule holds t n f
-    (holds t n) refl)
+tested rule holds t n f = (
+  by_test rule holds t n f (holds t n) refl,
+  to_test rule holds t n f
+      (holds t n) refl,
+)
 
 -- ---- one after the other
 
@@ -152,7 +157,7 @@ module _ (rows : List Row) (g : Tree → ℕ → List Failure) (tells : Tells ro
     to_found o e p =
         let (k, leads, q) = from_behind t n f (under key) rows p in
         subst (λ (o : Option ℕ). IsOneOf (under_by (g t) [] o) f) (sym leads ∙ e)
-            ((tells t k f).1 q)
+        ((tells t k f).1 q)
 
     missed : (o : Option ℕ) → find_in t n key ≡ o
         → IsOneOf (under_by (g t) (fails MissingKey t n) o) f
@@ -172,8 +177,11 @@ module _ (rows : List Row) (g : Tree → ℕ → List Failure) (tells : Tells ro
     to_missed (Some k) e (inr p) = to_found (Some k) e p
 
   pub allowed : (key : List ℕ) → Tells (behind (under key) rows) (optional key g)
-  allowed key t n f = (found key t n f (find_in t n key) refl, to_found key t n f (find_in t n key)
-      refl)
+  allowed key t n f = (
+    found key t n f (find_in t n key) refl,
+    to_found key t n f (find_in t n key)
+        refl,
+  )
 
   pub needed : (key : List ℕ) → Tells (here MissingKey (has key) ++ behind (under key) rows)
       (required key g)
@@ -205,7 +213,7 @@ module _ (rows : List Row) (g : Tree → ℕ → List Failure) (tells : Tells ro
 
   pub guarded : (rule : Rule) (test : Tree → ℕ → Bool)
       → Tells (here rule test ++ behind (when test) rows)
-          (λ t n. cond (test t n) (g t n) (fails rule t n))
+      (λ t n. cond (test t n) (g t n) (fails rule t n))
   guarded rule test t n f = (
     guard rule test t n f (test t n) refl,
     λ p. to_guard rule test t n f (test t n) refl
@@ -230,7 +238,7 @@ module _ (rows : List Row) (g : Tree → ℕ → List Failure) (tells : Tells ro
         → IsOneOf (flat_map (g t) ms) f
     to_each ns ms e m is q =
         let same : ns ≡ ms = cc in to_items (g t) f ms m
-            (subst (λ (ks : List ℕ). IsOneOf ks m) same is) q
+        (subst (λ (ks : List ℕ). IsOneOf ks m) same is) q
 
     to_some : (o : Option (List ℕ)) → items_at t n ≡ o
         → Fails (here WrongShape is_list) t n f ⊎ Fails (behind each_item rows) t n f
@@ -238,12 +246,12 @@ module _ (rows : List Row) (g : Tree → ℕ → List Failure) (tells : Tells ro
     to_some None e (inl p) = (of_itself t n f WrongShape is_list p).1
     to_some None e (inr p) =
         let (m, (ns, at, is), q) = from_behind t n f each_item rows p
-            in never (is_list t n) (ap is_some at) (ap is_some e)
+        in never (is_list t n) (ap is_some at) (ap is_some e)
     to_some (Some ms) e (inl p) = never (is_list t n) (ap is_some e)
         (of_itself t n f WrongShape is_list p).0
     to_some (Some ms) e (inr p) =
         let (m, (ns, at, is), q) = from_behind t n f each_item rows p
-            in to_each ns ms (sym at ∙ e) m is ((tells t m f).1 q)
+        in to_each ns ms (sym at ∙ e) m is ((tells t m f).1 q)
 
   pub listed : Tells (here WrongShape is_list ++ behind each_item rows) (each g)
   listed t n f = (
@@ -264,7 +272,7 @@ module _ (test : Tree → ℕ → Bool) (r s : List Row) (g h : Tree → ℕ →
         → Fails (behind (when test) r ++ behind (when other) s) t n f
     choose true e p =
         rows_left t n f (behind (when test) r) (behind (when other) s)
-            (to_behind t n f (when test) r n (e, refl) ((a t n f).0 p))
+        (to_behind t n f (when test) r n (e, refl) ((a t n f).0 p))
     choose false e p =
         rows_right t n f (behind (when test) r) (behind (when other) s)
         (to_behind t n f (when other) s n (ap not e, refl) ((b t n f).0 p))
@@ -277,7 +285,7 @@ module _ (test : Tree → ℕ → Bool) (r s : List Row) (g h : Tree → ℕ →
         (a t n f).1 (subst (λ (m : ℕ). Fails r t m f) leads.1 q)
     to_choose true e (inr p) =
         let (k, leads, q) = from_behind t n f (when other) s p
-            in never (other t n) leads.0 (ap not e)
+        in never (other t n) leads.0 (ap not e)
     to_choose false e (inl p) =
         let (k, leads, q) = from_behind t n f (when test) r p in never (test t n) leads.0 e
     to_choose false e (inr p) =
@@ -298,7 +306,7 @@ module _ (t : Tree) (n : ℕ) (f : Failure) where
   same_rule : (row : Row) → FailsRow row t n f → (rule_number row.rule == rule_number f.rule) ≡ true
   same_rule row (m, reaches, not, is) =
       let e : rule_number row.rule ≡ rule_number f.rule
-          = sym (ap (λ (g : Failure). rule_number g.rule) is) in
+      = sym (ap (λ (g : Failure). rule_number g.rule) is) in
       grind (arith, nat_tests, e)
 
   kept : (b : Bool) (row : Row) (rows rest : List Row) → (FailsRow row t n f → b ≡ true)
@@ -316,10 +324,10 @@ module _ (t : Tree) (n : ℕ) (f : Failure) where
   to_rule [] p = p
   to_rule (row ∷ rows) (inl p) =
       kept (rule_number row.rule == rule_number f.rule) row (rows_of f.rule rows)
-          (rows_of f.rule rows) (same_rule row) p
+      (rows_of f.rule rows) (same_rule row) p
   to_rule (row ∷ rows) (inr p) =
       passed_on (rule_number row.rule == rule_number f.rule) row (rows_of f.rule rows)
-          (to_rule rows p)
+      (to_rule rows p)
 
   taken : (b : Bool) (row : Row) (rows rest : List Row) → (Fails rest t n f → Fails rows t n f)
       → Fails (cond b (row ∷ rest) rest) t n f → Fails (row ∷ rows) t n f
@@ -331,7 +339,7 @@ module _ (t : Tree) (n : ℕ) (f : Failure) where
   of_rule rule [] p = p
   of_rule rule (row ∷ rows) p =
       taken (rule_number row.rule == rule_number rule) row rows (rows_of rule rows)
-          (of_rule rule rows) p
+      (of_rule rule rows) p
 
 -- a table tells of each rule by the rows of that rule alone
 pub by_rule : (rows : List Row) (g : Tree → ℕ → List Failure) → Tells rows g → TellsByRule rows g

@@ -1,8 +1,8 @@
 -- Which values of a source fail which rule. A way leads from a value to others inside it; a table
 -- says of each way what is asked of the values that it reaches, and by which rule they fail. A law
 -- above the rules that the readers note, in words that know no order. fontc's own.
-use Rattle.std.specs.Prelude.{◌≡◌, ℕ, Bool, true, false, List, [], ◌∷◌, ◌++◌, length, Option, Some,
-    None, is_some, slice_get, ◌⊎◌, ◌↔◌, ◌==◌, if◌then◌else◌}
+use Rattle.std.specs.Prelude.{◌≡◌, ℕ, Bool, true, false, List, [], ◌∷◌, ◌++◌, length, Option, Some}
+use Rattle.std.specs.Prelude.{None, is_some, slice_get, ◌⊎◌, ◌↔◌, ◌==◌, if◌then◌else◌}
 use Rattle.std.specs.Option.{option_map_or}
 use Rattle.plist_reader.specs.declared.tree.Tree.{Tree}
 use Rattle.plist_reader.specs.Tree.{find_in}

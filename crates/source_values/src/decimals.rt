@@ -1,9 +1,9 @@
-ghost use Rattle.std.specs.Prelude.{◌≡◌, ◌↔◌, List, ℕ, Some, ◌==◌, ◌+◌, ◌-◌, ◌*◌, ◌<◌, ◌≤◌, min,
-    length, position, option_map, IfSome};
+ghost use Rattle.std.specs.Prelude.{◌≡◌, ◌↔◌, List, ℕ, Some, ◌==◌, ◌+◌, ◌-◌, ◌*◌, ◌<◌, ◌≤◌, min};
+ghost use Rattle.std.specs.Prelude.{length, position, option_map, IfSome};
 ghost use Rattle.source_values.specs.declared.decimals.Decimal.{Decimal as SeenDecimal};
 ghost use Rattle.source_values.specs.Spelling.{Spells};
-ghost use Rattle.source_values.specs.Decimals.{are_digits, digits_value, billionths_of, fraction_of,
-    unsigned_of, decimal_of, cut};
+ghost use Rattle.source_values.specs.Decimals.{are_digits, digits_value, billionths_of};
+ghost use Rattle.source_values.specs.Decimals.{fraction_of, unsigned_of, decimal_of, cut};
 
 /// A number, exact to nine digits of fraction.
 ///

@@ -2,9 +2,10 @@ ghost use Rattle.std.specs.Prelude.{◌≡◌, ◌≤◌, option_copied, option_
 ghost use Rattle.refusal_codes.specs.First.{noted};
 ghost use Rattle.source_values.specs.Decimals.{is_natural_in};
 ghost use Rattle.source_values.specs.Values.{items_at, pairs_at, is_code, in_range};
-ghost use Rattle.source_values.specs.Asking.{range_rule, is_empty_list, is_empty_dictionary,
-    whole_failures, text_failures, name_failures, dictionary_failures, empty_list_failures,
-    empty_dictionary_failures};
+ghost use Rattle.source_values.specs.Asking.{range_rule, is_empty_list, is_empty_dictionary};
+ghost use Rattle.source_values.specs.Asking.{whole_failures, text_failures, name_failures};
+ghost use Rattle.source_values.specs.Asking.{dictionary_failures, empty_list_failures};
+ghost use Rattle.source_values.specs.Asking.{empty_dictionary_failures};
 
 use crate::asking::Asked;
 use crate::decimals::Decimal;

@@ -2,8 +2,8 @@ ghost use Rattle.std.specs.Prelude.{◌≡◌, option_copied, option_map, unwrap
 ghost use Rattle.plist_reader.specs.Tree.{text_at, is_key};
 ghost use Rattle.refusal_codes.specs.First.{noted};
 ghost use Rattle.source_values.specs.Decimals.{cut};
-ghost use Rattle.source_values.specs.Values.{place_at, items_at, is_list, is_dictionary, decimal_at,
-    items_under, text_under, decimal_under};
+ghost use Rattle.source_values.specs.Values.{place_at, items_at, is_list, is_dictionary};
+ghost use Rattle.source_values.specs.Values.{decimal_at, items_under, text_under, decimal_under};
 ghost use Rattle.source_values.specs.Asking.{fails};
 
 use crate::decimals::{Decimal, read_decimal};

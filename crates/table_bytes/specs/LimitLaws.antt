@@ -1,7 +1,7 @@
 -- When a length is over the limit, told by the number of 64 bits that it is cut to. For the proofs
 -- of other crates alone.
-use Rattle.std.proofs.Common.{◌≡◌, ℕ, ◌<◌, ◌≤◌, min, nat_lt, Bool, true, false, Some, None, ap, sym,
-    ◌∙◌, arith}
+use Rattle.std.proofs.Common.{◌≡◌, ℕ, ◌<◌, ◌≤◌, min, nat_lt, Bool, true, false, Some, None, ap, sym}
+use Rattle.std.proofs.Common.{◌∙◌, arith}
 use Rattle.std.specs.Prelude.{if◌then◌else◌}
 use Rattle.std.proofs.lemmas.Bool.Decides.{nat_tests}
 use Rattle.table_bytes.specs.Tables.{over_limit}

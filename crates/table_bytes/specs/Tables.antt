@@ -1,6 +1,6 @@
 -- What a call that builds a table or a font answered.
-use Rattle.std.specs.Prelude.{◌≡◌, ℕ, min, nat_lt, if◌then◌else◌, Option, Some, None, Result, Ok,
-    Err}
+use Rattle.std.specs.Prelude.{◌≡◌, ℕ, min, nat_lt, if◌then◌else◌, Option, Some, None, Result, Ok}
+use Rattle.std.specs.Prelude.{Err}
 use Rattle.table_bytes.specs.declared.errors.TableError.{TableError}
 use Rattle.table_bytes.specs.declared.errors.TableError.TheVariants as table_errors
 

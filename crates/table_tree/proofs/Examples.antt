@@ -41,9 +41,9 @@ apart_bytes = refl
 abbrev store : Tree
 store =
     number two 1 (near four (number two 1 (number two 1
-        (number two 0 (number two 16384 (number two 16384 end)))))
+    (number two 0 (number two 16384 (number two 16384 end)))))
     (number two 1 (near four (number two 2
-        (number two 1 (number two 1 (number two 0 (number two 0 (number two 20 end)))))) end)))
+    (number two 1 (number two 1 (number two 0 (number two 0 (number two 20 end)))))) end)))
 
 store_bytes : bytes_of (layout_of store) ≡
     0 ∷ 1 ∷ 0 ∷ 0 ∷ 0 ∷ 12 ∷ 0 ∷ 1 ∷ 0 ∷ 0 ∷ 0 ∷ 22 ∷ 0 ∷ 1 ∷ 0 ∷ 1 ∷ 0 ∷ 0 ∷ 64 ∷ 0 ∷ 64 ∷ 0

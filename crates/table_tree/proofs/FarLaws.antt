@@ -1,11 +1,12 @@
 -- Far offsets lead to the layouts of their nodes.
-use Rattle.std.proofs.Common.{◌≡◌, ℕ, ◌+◌, ◌-◌, ◌≤◌, List, [], ◌∷◌, ◌++◌, map, Option, Some, None,
-    refl, sym, ◌∙◌, subst, append_assoc, arith}
+use Rattle.std.proofs.Common.{◌≡◌, ℕ, ◌+◌, ◌-◌, ◌≤◌, List, [], ◌∷◌, ◌++◌, map, Option, Some, None}
+use Rattle.std.proofs.Common.{refl, sym, ◌∙◌, subst, append_assoc, arith}
 use Rattle.table_tree.specs.Trees.{Tree, end, number, bytes, null, near, far, spelling}
-use Rattle.table_tree.specs.Layouts.{Piece, length_of, Cell, settled, far_offset, moved,
-    cells_length, total_by, Item, plain_item, near_item, far_item, item_length, items_of, Places,
-    standing, own_cells, cells_behind, places_with, next_after, settled_cells, far_parts, near_part,
-    layout_of}
+use Rattle.table_tree.specs.Layouts.{Piece, length_of, Cell, settled, far_offset, moved}
+use Rattle.table_tree.specs.Layouts.{cells_length, total_by, Item, plain_item, near_item, far_item}
+use Rattle.table_tree.specs.Layouts.{item_length, items_of, Places, standing, own_cells}
+use Rattle.table_tree.specs.Layouts.{cells_behind, places_with, next_after, settled_cells}
+use Rattle.table_tree.specs.Layouts.{far_parts, near_part, layout_of}
 use Rattle.table_tree.specs.Leads.{IsFarOffsetTo, CellsLead, FarOffsetsLead}
 use Rattle.table_tree.proofs.LeadsLaws.{length_own, length_moved, length_append, behind_by}
 
@@ -52,7 +53,7 @@ part_below tree behind =
     let others = cells_behind [] fields items in
     let len : ℕ = cells_length (near_part tree) in
     let le : fields + cells_length others ≤ len
-        = omega (arith, length_append own others, length_own [] fields items) in
+    = omega (arith, length_append own others, length_own [] fields items) in
     below_append len own others (below_own len [] fields items) (behind len [] fields le)
 
 below_behind : (tree : Tree) (n : ℕ) (places : Places) (next : ℕ)
@@ -65,38 +66,38 @@ below_behind (null width others) n places next le = below_behind others n places
 below_behind (far node others) n places next le = below_behind others n places next le
 below_behind (near width node others) n places next le =
     by (standing places (spelling node)) refl
-        (part_below node (λ n' places' next' le'. below_behind node n' places' next' le'))
+    (part_below node (λ n' places' next' le'. below_behind node n' places' next' le'))
     (λ n' places' next' le'. below_behind others n' places' next' le')
   where
     by : (r : Option ℕ) → standing places (spelling node) ≡ r
         → AllBelow (cells_length (near_part node)) (near_part node)
         → ((n : ℕ) (places : Places) (next : ℕ)
-            → next + cells_length (cells_behind places next (items_of others)) ≤ n
-            → AllBelow n (cells_behind places next (items_of others)))
+        → next + cells_length (cells_behind places next (items_of others)) ≤ n
+        → AllBelow n (cells_behind places next (items_of others)))
         → AllBelow n (cells_behind places next (items_of (near width node others)))
     by (Some place) e here rest =
         let le' : next + cells_length (cells_behind places next (items_of others)) ≤ n
-            = subst (λ (r : Option ℕ). next + cells_length
-            (behind_by places next (spelling node) (near_part node) (items_of others) r) ≤ n) e le
-            in
+        = subst (λ (r : Option ℕ). next + cells_length
+        (behind_by places next (spelling node) (near_part node) (items_of others) r) ≤ n) e le
+        in
         subst (λ (r : Option ℕ). AllBelow n (behind_by places next (spelling node) (near_part node)
-            (items_of others) r)) (sym e) (rest n places next le')
+        (items_of others) r)) (sym e) (rest n places next le')
     by None e here rest =
         let places' : Places = places ++ (spelling node, next) ∷ [] in
         let next' : ℕ = next + cells_length (near_part node) in
         let part = map (moved next) (near_part node) in
         let after = cells_behind places' next' (items_of others) in
         let le' : next + cells_length (part ++ after) ≤ n
-            = subst (λ (r : Option ℕ). next + cells_length
-            (behind_by places next (spelling node) (near_part node) (items_of others) r) ≤ n) e le
-            in
+        = subst (λ (r : Option ℕ). next + cells_length
+        (behind_by places next (spelling node) (near_part node) (items_of others) r) ≤ n) e le
+        in
         let sums = length_append part after in
         let same = length_moved next (near_part node) in
         subst (λ (r : Option ℕ). AllBelow n (behind_by places next (spelling node) (near_part node)
-            (items_of others) r)) (sym e)
+        (items_of others) r)) (sym e)
         (below_append n part after
         (below_more next' n part (omega (arith, le', sums, same))
-            (below_moved (cells_length (near_part node)) next (near_part node) here))
+        (below_moved (cells_length (near_part node)) next (near_part node) here))
         (rest n places' next' (omega (arith, le', sums, same))))
 
 near_below : (tree : Tree) → AllBelow (cells_length (near_part tree)) (near_part tree)
@@ -125,14 +126,14 @@ lead (far_offset start layout ∷ cells) next whole front tail is at all =
     let value : ℕ = next - start in
     let at' : length_of front ≡ start + value = omega (arith, all.0, at) in
     let here : IsFarOffsetTo whole (settled_cells next (far_offset start layout ∷ cells) ++ tail)
-        start layout =
+    start layout =
     record { value = value; first = refl; front = front; back = far_parts cells; is = is; at = at' }
-        in (
+    in (
       here,
       lead cells (next + length_of layout) whole (front ++ layout) tail
           (is ∙ sym (append_assoc front layout (far_parts cells)))
           (omega (arith, length_pieces front layout, at))
-              (below_more next (next + length_of layout) cells (omega arith) all.1),
+          (below_more next (next + length_of layout) cells (omega arith) all.1),
     )
 
 pub far_offsets_lead : (tree : Tree) → FarOffsetsLead tree
@@ -141,4 +142,4 @@ far_offsets_lead tree =
     let cells = near_part tree in
     let pieces = settled_cells (cells_length cells) cells in
     lead cells (cells_length cells) (layout_of tree) pieces (far_parts cells) refl
-        (length_settled (cells_length cells) cells) (near_below tree)
+    (length_settled (cells_length cells) cells) (near_below tree)

@@ -1,11 +1,11 @@
 -- The first offset that is above its width, in a list of pieces.
-use Rattle.std.proofs.Common.{◌≡◌, ℕ, Bool, true, false, List, [], ◌∷◌, nat_lt, Some, None, length,
-    refl, length-append, arith}
+use Rattle.std.proofs.Common.{◌≡◌, ℕ, Bool, true, false, List, [], ◌∷◌, nat_lt, Some, None, length}
+use Rattle.std.proofs.Common.{refl, length-append, arith}
 use Rattle.std.specs.Prelude.{if◌then◌else◌}
 use Rattle.table_tree.specs.declared.errors.LayoutError.{LayoutError}
 use Rattle.table_tree.specs.declared.errors.LayoutError.TheVariants.{Offset, NoMemory}
-use Rattle.table_tree.specs.Layouts.{Piece, written, offset, greatest_of, first_above, bytes_of,
-    length_of}
+use Rattle.table_tree.specs.Layouts.{Piece, written, offset, greatest_of, first_above, bytes_of}
+use Rattle.table_tree.specs.Layouts.{length_of}
 use Rattle.table_tree.specs.Trees.{one, two, four}
 use Rattle.table_bytes.specs.DataTypes.{uint16, uint32}
 use Rattle.table_tree.specs.Views.{RefusesLayout}

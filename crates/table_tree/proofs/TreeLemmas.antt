@@ -1,9 +1,9 @@
 -- A field before others, and a field among the fields of a node.
-use Rattle.std.proofs.Common.{◌≡◌, ℕ, zero, suc, ◌+◌, ◌<◌, ◌≤◌, List, [], ◌∷◌, length, get_or, drop,
-    subst, sym, ap, arith}
+use Rattle.std.proofs.Common.{◌≡◌, ℕ, zero, suc, ◌+◌, ◌<◌, ◌≤◌, List, [], ◌∷◌, length, get_or, drop}
+use Rattle.std.proofs.Common.{subst, sym, ap, arith}
 use Rattle.table_tree.specs.declared.node.Field.{Field}
-use Rattle.table_tree.specs.declared.node.Field.TheVariants.{U8, U16, U32, Bytes, Off16, Off32,
-    Far32, Null16, Null32}
+use Rattle.table_tree.specs.declared.node.Field.TheVariants.{U8, U16, U32, Bytes, Off16, Off32}
+use Rattle.table_tree.specs.declared.node.Field.TheVariants.{Far32, Null16, Null32}
 use Rattle.table_tree.specs.Trees.{Tree, end, tree_size}
 use Rattle.table_tree.specs.TreeOf.{before, tree_of}
 use Rattle.table_tree.specs.Layouts.{item_length, items_of, total_by}
@@ -41,9 +41,9 @@ pub size_at : (fields : List Field) (i : ℕ) (field : Field) → i < length fie
 size_at [] i field lt is = absurd (omega arith)
 size_at (f ∷ fields) zero field lt is =
     let smaller : tree_size (before f end) ≤ tree_size (before f (tree_of fields))
-        = omega (arith, size_before f (tree_of fields)) in
+    = omega (arith, size_before f (tree_of fields)) in
     subst (λ (x : Field). tree_size (before x end) ≤ tree_size (before f (tree_of fields))) (sym is)
-        smaller
+    smaller
 size_at (f ∷ fields) (suc i) field lt is =
     omega (arith, size_before f (tree_of fields), size_at fields i field (omega arith) is)
 

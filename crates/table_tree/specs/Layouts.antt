@@ -5,15 +5,15 @@
 -- earlier such node of the same parent stands once. Behind the near part of the whole tree stand
 -- the layouts of the nodes that its far offsets lead to, in the order in which these offsets stand
 -- there; such a node is never shared.
-use Rattle.std.specs.Prelude.{ℕ, ◌+◌, ◌-◌, List, [], ◌∷◌, ◌++◌, length, map, nat_eq, nat_lt,
-    if◌then◌else◌, Option, Some, None, is_some}
+use Rattle.std.specs.Prelude.{ℕ, ◌+◌, ◌-◌, List, [], ◌∷◌, ◌++◌, length, map, nat_eq, nat_lt}
+use Rattle.std.specs.Prelude.{if◌then◌else◌, Option, Some, None, is_some}
 use Rattle.std.specs.List.{flat_map}
 use Rattle.std.specs.Option.{unwrap_or}
 use Rattle.std.specs.Map.{lookup}
 use Rattle.std.specs.Cmp.Lexicographic.{pointwise}
 use Rattle.table_bytes.specs.DataTypes.{uint16, uint32}
-use Rattle.table_tree.specs.Trees.{Width, one, two, four, bytes_in, Tree, end, number, bytes, null,
-    near, far, spelling}
+use Rattle.table_tree.specs.Trees.{Width, one, two, four, bytes_in, Tree, end, number, bytes, null}
+use Rattle.table_tree.specs.Trees.{near, far, spelling}
 
 -- the sum over a list
 abbrev pub total_by : {X : Type 0} → (X → ℕ) → List X → ℕ
@@ -134,7 +134,7 @@ cells_behind places next (far_item layout ∷ items) = cells_behind places next 
 abbrev pub near_cells : List Item → List Cell
 near_cells items =
     let fields = total_by item_length items
-        in own_cells [] fields items ++ cells_behind [] fields items
+    in own_cells [] fields items ++ cells_behind [] fields items
 
 -- ---- far parts
 

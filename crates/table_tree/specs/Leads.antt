@@ -3,8 +3,8 @@
 -- node, piece by piece.
 use Rattle.std.specs.Prelude.{◌≡◌, ℕ, List, [], ◌∷◌, ◌+◌, ◌++◌, map, drop, slice_get, Some}
 use Rattle.table_tree.specs.Trees.{Tree, Width, four, end, number, bytes, null, near, far}
-use Rattle.table_tree.specs.Layouts.{Piece, offset, length_of, Cell, settled, far_offset, moved,
-    cells_length, near_part, layout_of}
+use Rattle.table_tree.specs.Layouts.{Piece, offset, length_of, Cell, settled, far_offset, moved}
+use Rattle.table_tree.specs.Layouts.{cells_length, near_part, layout_of}
 
 -- so many bytes behind the first of these cells stand the cells of a near part
 pub record HasAt (cells : List Cell) (place : ℕ) (part : List Cell) : Type 0 where

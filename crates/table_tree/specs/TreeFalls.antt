@@ -3,8 +3,8 @@ use Rattle.std.specs.Prelude.{◌≤◌, List, [], ◌∷◌}
 use Rattle.std.proofs.Common.{arith}
 use denote.Param.Weighed.{most}
 use Rattle.table_tree.specs.declared.node.Field.{Field}
-use Rattle.table_tree.specs.declared.node.Field.TheVariants.{U8, U16, U32, Bytes, Off16, Off32,
-    Far32, Null16, Null32}
+use Rattle.table_tree.specs.declared.node.Field.TheVariants.{U8, U16, U32, Bytes, Off16, Off32}
+use Rattle.table_tree.specs.declared.node.Field.TheVariants.{Far32, Null16, Null32}
 use Rattle.table_tree.specs.declared.node.Node.TheDeep.{deep-Field}
 use Rattle.table_tree.specs.Trees.{tree_size}
 use Rattle.table_tree.specs.TreeOf.{tree_of}

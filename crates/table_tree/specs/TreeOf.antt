@@ -1,8 +1,8 @@
 -- The tree that a list of fields is.
 use Rattle.std.specs.Prelude.{List, [], ◌∷◌}
 use Rattle.table_tree.specs.declared.node.Field.{Field}
-use Rattle.table_tree.specs.declared.node.Field.TheVariants.{U8, U16, U32, Bytes, Off16, Off32,
-    Far32, Null16, Null32}
+use Rattle.table_tree.specs.declared.node.Field.TheVariants.{U8, U16, U32, Bytes, Off16, Off32}
+use Rattle.table_tree.specs.declared.node.Field.TheVariants.{Far32, Null16, Null32}
 use Rattle.table_tree.specs.Trees.{Tree, one, two, four, end, number, bytes, null, near, far}
 
 -- a field before others

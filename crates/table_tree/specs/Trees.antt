@@ -98,8 +98,8 @@ spelling_prefix (number v m a) (number w n b) r s e =
     (same, rest.1)
 spelling_prefix (bytes x a) (bytes y b) r s e =
     let contents = bytes_injective x y _ _
-        (sym (spelled_bytes-append x (spelling a) r) ∙ ap others_of e
-        ∙ spelled_bytes-append y (spelling b) s) in
+    (sym (spelled_bytes-append x (spelling a) r) ∙ ap others_of e
+    ∙ spelled_bytes-append y (spelling b) s) in
     let rest = spelling_prefix a b r s contents.1 in
     let same : bytes x a ≡ bytes y b = cc (contents.0, rest.0) in
     (same, rest.1)
@@ -111,7 +111,7 @@ spelling_prefix (null v a) (null w b) r s e =
 spelling_prefix (near v x a) (near w y b) r s e =
     let node = spelling_prefix x y (spelling a ++ r) (spelling b ++ s)
     (sym (append_assoc (spelling x) (spelling a) r) ∙ ap (λ xs. others_of (others_of xs)) e
-        ∙ append_assoc (spelling y) (spelling b) s) in
+    ∙ append_assoc (spelling y) (spelling b) s) in
     let rest = spelling_prefix a b r s node.1 in
     let width : v ≡ w = width_injective v w (ap (λ xs. first_of (others_of xs)) e) in
     let same : near v x a ≡ near w y b = cc (width, node.0, rest.0) in
@@ -119,7 +119,7 @@ spelling_prefix (near v x a) (near w y b) r s e =
 spelling_prefix (far x a) (far y b) r s e =
     let node = spelling_prefix x y (spelling a ++ r) (spelling b ++ s)
     (sym (append_assoc (spelling x) (spelling a) r) ∙ ap others_of e
-        ∙ append_assoc (spelling y) (spelling b) s) in
+    ∙ append_assoc (spelling y) (spelling b) s) in
     let rest = spelling_prefix a b r s node.1 in
     let same : far x a ≡ far y b = cc (node.0, rest.0) in
     (same, rest.1)

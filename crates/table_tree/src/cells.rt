@@ -1,6 +1,6 @@
 ghost use Rattle.std.specs.Prelude.{◌≡◌, ◌+◌, IfOk, IfSome};
-ghost use Rattle.table_tree.specs.Layouts.{piece_length, length_of, cell_length, cells_length, moved
-    as moved_cell, settled_all};
+ghost use Rattle.table_tree.specs.Layouts.{piece_length, length_of, cell_length, cells_length};
+ghost use Rattle.table_tree.specs.Layouts.{moved as moved_cell, settled_all};
 ghost use Rattle.table_tree.specs.Views.{piece_of, pieces_of, cell_of, cells_of};
 
 use refusal_codes::NoMemory;

@@ -60,8 +60,7 @@ fn pieces_of<'a>(alloc: Global, tree: &'a Node) -> Result<Vec<Piece<'a>>, NoMemo
 }
 
 /// The bytes of pieces.
-#[tactic(auto, using(crate::proofs::PieceLemmas::above_more,
-    crate::proofs::PieceLemmas::refuses_more))]
+#[tactic(auto, using(crate::proofs::PieceLemmas::above_more, crate::proofs::PieceLemmas::refuses_more))]
 fn bytes_of(alloc: Global, pieces: &[Piece<'_>]) -> Result<Vec<u8>, LayoutError>
     ensures { LaysOut result (pieces_of pieces.now) }
 {

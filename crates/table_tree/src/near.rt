@@ -1,10 +1,11 @@
-ghost use Rattle.std.specs.Prelude.{◌≡◌, ◌+◌, ◌++◌, [], ◌∷◌, None, map, if◌then◌else◌, is_some,
-    IfOk, OnOk};
+ghost use Rattle.std.specs.Prelude.{◌≡◌, ◌+◌, ◌++◌, [], ◌∷◌, None, map, if◌then◌else◌, is_some};
+ghost use Rattle.std.specs.Prelude.{IfOk, OnOk};
 ghost use Rattle.table_tree.specs.Trees.{Tree, end, spelling};
 ghost use Rattle.table_tree.specs.TreeOf.{before, tree_of};
-ghost use Rattle.table_tree.specs.Layouts.{cells_length as length_of_cells, moved, standing,
-    place_of, places_with, next_after, item_length, items_of, total_by, own_cells, cells_behind,
-    near_part as near_part_of};
+ghost use Rattle.table_tree.specs.Layouts.{cells_length as length_of_cells, moved, standing};
+ghost use Rattle.table_tree.specs.Layouts.{place_of, places_with, next_after, item_length};
+ghost use Rattle.table_tree.specs.Layouts.{items_of, total_by, own_cells, cells_behind};
+ghost use Rattle.table_tree.specs.Layouts.{near_part as near_part_of};
 ghost use Rattle.table_tree.specs.Views.{cell_of, cells_of};
 ghost use Rattle.table_tree.specs.Standing.{places_in};
 
@@ -145,8 +146,8 @@ impl<'a> Behind<'a> {
 /// How many bytes the fields of a node have.
 #[tactic(auto, using(crate::proofs::TreeLemmas::length_before))]
 fn fields_length(fields: &[Field]) -> Result<u64, NoMemory>
-    ensures { IfOk result (λ length. length ≡ total_by item_length (items_of (tree_of fields.now)))
-        }
+    ensures { IfOk result (λ length. length
+        ≡ total_by item_length (items_of (tree_of fields.now))) }
 {
     let mut length = 0;
     for field in fields {

@@ -1,31 +1,31 @@
 -- What the calls of the table ask: that each step is allowed, that the table may be opened, and
 -- what it leaves at its end.
-use Rattle.std.proofs.Common.{◌≡◌, ℕ, zero, suc, ◌+◌, ◌%◌, ◌^◌, ◌<◌, ◌≤◌, cond, eqb, eq-eqb, ne_eqb,
-    List, [], ◌∷◌, ◌++◌, length, get_or, Option, Some, refl, sym, ap, ◌∙◌, subst, inl, ⊎_elim,
-    arith}
+use Rattle.std.proofs.Common.{◌≡◌, ℕ, zero, suc, ◌+◌, ◌%◌, ◌^◌, ◌<◌, ◌≤◌, cond, eqb, eq-eqb, ne_eqb}
+use Rattle.std.proofs.Common.{List, [], ◌∷◌, ◌++◌, length, get_or, Option, Some, refl, sym, ap, ◌∙◌}
+use Rattle.std.proofs.Common.{subst, inl, ⊎_elim, arith}
 use Rattle.std.specs.List.{sum_by}
 use Rattle.std.proofs.lemmas.List.Sums.{sum_by-cons}
 use mathlib.Core.Logic.{dite}
 use mathlib.Core.Option.{some, none, some-injective, some-ne-none}
 use native.Mathlib.Decide.{ℕ_discrete}
 use lib.ListN.{get_elem?}
-use Rattle.atomic_table.specs.Table.{State, Me, step, keeps, takes, gives, stepped, opening, Allows,
-    Splits, Joins, Final, Seen}
+use Rattle.atomic_table.specs.Table.{State, Me, step, keeps, takes, gives, stepped, opening, Allows}
+use Rattle.atomic_table.specs.Table.{Splits, Joins, Final, Seen}
 use Rattle.turnstile.specs.Entries.{entries_of}
-use Rattle.turnstile.specs.Members.{newcomers, everyone, pass_of, without_pass, joined, spent,
-    times, size, AllKnow}
+use Rattle.turnstile.specs.Members.{newcomers, everyone, pass_of, without_pass, joined, spent}
+use Rattle.turnstile.specs.Members.{times, size, AllKnow}
 use Rattle.turnstile.specs.Tickets.{HasTicket, IsServed}
 use Rattle.turnstile.specs.Rule.{Agrees, IsHome, IsOut, Kept}
-use Rattle.turnstile.specs.Steps.{seat_of, after_seeing, after_adding, drawn, Takes, looked, noted,
-    gave}
+use Rattle.turnstile.specs.Steps.{seat_of, after_seeing, after_adding, drawn, Takes, looked, noted}
+use Rattle.turnstile.specs.Steps.{gave}
 use Rattle.turnstile.specs.declared.knowledge.Stage.{Stage}
 use Rattle.turnstile.specs.declared.knowledge.Stage.TheVariants.{Away, Waiting, Served, Noted}
 use Rattle.turnstile.specs.declared.knowledge.Member.{Member}
 use Rattle.turnstile.specs.declared.knowledge.Knowledge.{Knowledge}
 use Rattle.turnstile.proofs.Totals.{two_le}
 use Rattle.turnstile.proofs.Lines.{Added, one_ticket}
-use Rattle.turnstile.proofs.Keeps.{draws, its_turn, home_at, takes_it, unchanged, notes, gives_back,
-    splits, joins}
+use Rattle.turnstile.proofs.Keeps.{draws, its_turn, home_at, takes_it, unchanged, notes, gives_back}
+use Rattle.turnstile.proofs.Keeps.{splits, joins}
 
 only : {A : Type 0} (a : A) (P : A → Type 0) → P a → (i : ℕ) (b : A) → get_elem? (a ∷ []) i ≡ some b
     → P b
@@ -64,8 +64,12 @@ module _ (E : Type 0) {T : Type 0} where
       let f : Member E T → ℕ = λ m. cond (eqb m.worker k) 1 0 in
       let m : Member E T = record { worker = from; seen = []; mine = []; root = root } in
       let e : f m ≡ 0 = ap (λ b. cond {A = ℕ} b 1 0) (ne_eqb from k (λ h. omega arith)) in
-      omega (arith, sum_by-cons f m (newcomers root (from + 1) n), times_from root k (from + 1) n
-          (omega arith))
+      omega (
+        arith,
+        sum_by-cons f m (newcomers root (from + 1) n),
+        times_from root k (from + 1) n
+            (omega arith),
+      )
 
   times_past : (root : T) (k from n : ℕ) → from + n ≤ k
       → sum_by (λ (m : Member E T). cond (eqb m.worker k) 1 0) (newcomers root from n) ≡ 0
@@ -74,8 +78,12 @@ module _ (E : Type 0) {T : Type 0} where
       let f : Member E T → ℕ = λ m. cond (eqb m.worker k) 1 0 in
       let m : Member E T = record { worker = from; seen = []; mine = []; root = root } in
       let e : f m ≡ 0 = ap (λ b. cond {A = ℕ} b 1 0) (ne_eqb from k (λ h. omega arith)) in
-      omega (arith, sum_by-cons f m (newcomers root (from + 1) n), times_past root k (from + 1) n
-          (omega arith))
+      omega (
+        arith,
+        sum_by-cons f m (newcomers root (from + 1) n),
+        times_past root k (from + 1) n
+            (omega arith),
+      )
 
   times_once : (root : T) (k from n : ℕ) → sum_by (λ (m : Member E T). cond (eqb m.worker k) 1 0)
       (newcomers root from n) ≤ 1
@@ -98,8 +106,10 @@ module _ (E : Type 0) {T : Type 0} where
 
   newcomers_know : (root : T) (from n : ℕ) → AllKnow [] root (newcomers {E = E} root from n)
   newcomers_know root from zero = tt
-  newcomers_know root from (suc n) = (record { begins = ([], refl); mine = refl; root = refl },
-      newcomers_know root (from + 1) n)
+  newcomers_know root from (suc n) = (
+    record { begins = ([], refl); mine = refl; root = refl },
+    newcomers_know root (from + 1) n,
+  )
 
 module _ {B E T : Type 0} (entries : B → List (ℕ × E)) (root : B → T) where
   module _ (passes : ℕ) (origin : T) where
@@ -119,9 +129,13 @@ module _ {B E T : Type 0} (entries : B → List (ℕ × E)) (root : B → T) whe
       keeps,
       tt,
       draws entries root passes origin s r id m (at ∙ ap some is),
-      (r.next, ap (λ ws. get_or ws 1 0) r.words,
-          ap (λ (v : V). let w : V = record { stage = Waiting r.next; members = v.members } in w)
-          (sym is), refl),
+      (
+        r.next,
+        ap (λ ws. get_or ws 1 0) r.words,
+        ap (λ (v : V). let w : V = record { stage = Waiting r.next; members = v.members } in w)
+            (sym is),
+        refl,
+      ),
     )
 
     pub look_allowed : (slots id : ℕ) (me : M) (t : ℕ) (m : Member E T)
@@ -169,11 +183,11 @@ module _ {B E T : Type 0} (entries : B → List (ℕ × E)) (root : B → T) whe
         (list added : List (ℕ × E)) → me.0 ≡ seat_of (Served t) m
         → list ≡ m.seen ++ added → Added m.worker added → count ≡ length list
         → Allows Rule slots id me 0 (λ _. count)
-            (λ _. noted list added (step slots 0 count 0 none) me count)
+        (λ _. noted list added (step slots 0 count 0 none) me count)
     note_allowed slots id me t count m list added is longer own counted s r _ at _ =
         let w : V = seat_of (Noted t) (after_adding list added m) in
         let Told : ℕ → Member E T → Type 0 = λ u n.
-            (w ≡ seat_of (Noted u) (after_adding list added n)) × (me.1 ≡ me.1) in (
+        (w ≡ seat_of (Noted u) (after_adding list added n)) × (me.1 ≡ me.1) in (
           w,
           keeps,
           tt,
@@ -194,9 +208,11 @@ module _ {B E T : Type 0} (entries : B → List (ℕ × E)) (root : B → T) whe
           subst (λ (cs : List (ℕ × Option B)). Rule (stepped s 2 stored id cs w gives))
               (sym carried)
               (gives_back entries root passes origin s r id t stored m value (at ∙ ap some is) list
-                  same_root is_next),
-          (ap (λ (v : V). let w : V = record { stage = Away; members = v.members } in w) (sym is),
-              refl),
+              same_root is_next),
+          (
+            ap (λ (v : V). let w : V = record { stage = Away; members = v.members } in w) (sym is),
+            refl,
+          ),
         )
 
     pub split_allowed : (id : ℕ) (v : V) → v.stage ≡ Away
@@ -221,11 +237,11 @@ module _ {B E T : Type 0} (entries : B → List (ℕ × E)) (root : B → T) whe
         → (j : ℕ) (u : V) → get_elem? s.views j ≡ some u → IsServed u.stage → ⊥
     nobody_served s r id v at away every j u there is = dite (ℕ_discrete id j)
         (λ e. let same : u ≡ v = some-injective u v
-            (sym there ∙ (ap (λ k. get_elem? s.views k) (sym e) ∙ at))
-            in subst IsServed (ap (λ (x : V). x.stage) same ∙ away) is)
+        (sym there ∙ (ap (λ k. get_elem? s.views k) (sym e) ∙ at))
+        in subst IsServed (ap (λ (x : V). x.stage) same ∙ away) is)
         (λ ne. let one = (r.each j u there).alone (one_ticket u.stage is)
-            in let two = two_le size s.views id j v u ne at there in let all = r.all
-            in absurd (omega arith))
+        in let two = two_le size s.views id j v u ne at there in let all = r.all
+        in absurd (omega arith))
 
     pub closes : (id : ℕ) (v : V) (words : List ℕ) (slots : List (Option B)) → v.stage ≡ Away
         → size v ≡ passes → Final (Seen Rule id v) words slots → Left slots v
@@ -240,12 +256,12 @@ module _ {B E T : Type 0} (entries : B → List (ℕ × E)) (root : B → T) whe
           nobody_else = λ k le. ap (entries_of k) h.list ∙ r.nobody_else k le;
         })
         (λ (o : IsOut entries root r.history s). absurd
-            (nobody_served s r id v at away every o.seat o.view o.there o.served))
+        (nobody_served s r id v at away every o.seat o.view o.there o.served))
         r.slot
 
   pub opens : (value : B) (passes : ℕ) → entries value ≡ [] → passes < 2 ^ 32
       → Kept entries root passes (root value)
-          (opening (0 ∷ 0 ∷ 0 ∷ []) (Some value ∷ []) (everyone (root value) passes))
+      (opening (0 ∷ 0 ∷ 0 ∷ []) (Some value ∷ []) (everyone (root value) passes))
   opens value passes empty few =
       let v : Knowledge E T = everyone (root value) passes in record {
         history = [];
@@ -263,9 +279,12 @@ module _ {B E T : Type 0} (entries : B → List (ℕ × E)) (root : B → T) whe
         differ = λ i j x y t at there has has'. absurd
             (only v (λ (u : Knowledge E T). (t : ℕ) → HasTicket u.stage t → ⊥) (λ t no. no) i x at t
             has);
-        each = λ j x at. only v (λ u. Agrees [] (root value) 0 0 u) record
-            { members = newcomers_know E (root value) 0 passes; in_line = tt; alone
-            = λ e. absurd (omega arith) } j x at;
+        each = λ j x at. only v (λ u. Agrees [] (root value) 0 0 u) record {
+          members = newcomers_know E (root value) 0 passes;
+          in_line = tt;
+          alone
+              = λ e. absurd (omega arith);
+        } j x at;
         slot = inl record {
           value = value;
           home = refl;

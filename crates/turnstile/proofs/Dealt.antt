@@ -1,6 +1,6 @@
 -- The passes that are still to be made.
-use Rattle.std.proofs.Common.{◌≡◌, ℕ, suc, ◌+◌, ◌-◌, ◌<◌, List, [], ◌∷◌, ◌++◌, map, Option, sym, ap,
-    ◌∙◌, arith, append_assoc}
+use Rattle.std.proofs.Common.{◌≡◌, ℕ, suc, ◌+◌, ◌-◌, ◌<◌, List, [], ◌∷◌, ◌++◌, map, Option, sym, ap}
+use Rattle.std.proofs.Common.{◌∙◌, arith, append_assoc}
 use mathlib.Core.List.{map-append}
 use Rattle.atomic_table.specs.Table.{Me}
 use Rattle.atomic_table.specs.Seated.{TableId}
@@ -25,10 +25,10 @@ module _ (E : Type 0) {T : Type 0} (root : T) (from passes : ℕ) (more : from <
   pub pass_made : (table : TableId) (made whole : List (PassView E T))
       → made ++ new_passes table root from (passes - from) ≡ whole
       → (made ++ new_pass table root from ∷ [])
-          ++ new_passes table root (from + 1) (passes - (from + 1)) ≡ whole
+      ++ new_passes table root (from + 1) (passes - (from + 1)) ≡ whole
   pass_made table made whole e =
       append_assoc made (new_pass table root from ∷ [])
-          (new_passes table root (from + 1) (passes - (from + 1)))
+      (new_passes table root (from + 1) (passes - (from + 1)))
       ∙ (ap (λ n. made ++ new_passes table root from n) (sym one_more) ∙ e)
 
 abbrev pub at_rest : {B E T : Type 0} → List (Member E T) → Me (Option B) (Knowledge E T)
@@ -53,4 +53,4 @@ module _ {E T : Type 0} (made : List (PassView E T)) (p : PassView E T)
   gathered old =
       ap (λ xs. map member_of made ++ (xs ++ old)) one
       ∙ (sym (append_assoc (map member_of made) (member_of p ∷ []) old)
-          ∙ ap (λ xs. xs ++ old) mapped)
+      ∙ ap (λ xs. xs ++ old) mapped)

@@ -12,4 +12,4 @@ module _ {E T : Type 0} (list : List (ℕ × E)) (origin root : T) (is : root �
   all_history (p ∷ ps) know =
       let k = know.0 in
       All-cons (IsHistoryOf list root) p ps record
-          { begins = k.begins; mine = k.mine; same_root = is ∙ sym k.root } (all_history ps know.1)
+      { begins = k.begins; mine = k.mine; same_root = is ∙ sym k.root } (all_history ps know.1)

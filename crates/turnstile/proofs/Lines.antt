@@ -1,6 +1,7 @@
 -- Tickets in line, and entries of one worker, as a step leaves them.
-use Rattle.std.proofs.Common.{◌≡◌, ◌≢◌, ℕ, ◌+◌, ◌<◌, cond, eqb, List, [], ◌∷◌, ◌++◌, length, drop,
-    refl, sym, ap, ◌∙◌, subst, inl, inr, arith, append_assoc, append-nil, ne_eqb, eq-eqb}
+use Rattle.std.proofs.Common.{◌≡◌, ◌≢◌, ℕ, ◌+◌, ◌<◌, cond, eqb, List, [], ◌∷◌, ◌++◌, length, drop}
+use Rattle.std.proofs.Common.{refl, sym, ap, ◌∙◌, subst, inl, inr, arith, append_assoc, append-nil}
+use Rattle.std.proofs.Common.{ne_eqb, eq-eqb}
 use Rattle.std.proofs.lemmas.List.Elements.{filter-append}
 use Rattle.std.proofs.lemmas.List.Prefix.{front_rest}
 use Rattle.std.specs.List.{sum_by, count_by}
@@ -77,12 +78,15 @@ module _ {E : Type 0} where
       → entries_of k (history ++ added) ≡ entries_of k history
   same_after w k history added ne a =
       entries_of-append k history added ∙ (ap (λ xs. entries_of k history ++ xs)
-          (added-other w k added ne a) ∙ append-nil (entries_of k history))
+      (added-other w k added ne a) ∙ append-nil (entries_of k history))
 
   pub begins_longer : (history added seen : List (ℕ × E)) → BeginsWith history seen
       → BeginsWith (history ++ added) seen
-  begins_longer history added seen b = (b.0 ++ added, ap (λ xs. xs ++ added) b.1
-      ∙ append_assoc seen b.0 added)
+  begins_longer history added seen b = (
+    b.0 ++ added,
+    ap (λ xs. xs ++ added) b.1
+        ∙ append_assoc seen b.0 added,
+  )
 
 module _ {E : Type 0} where
   pub added_of : (w : ℕ) (added : List (ℕ × E)) → AddsAtMostOne w [] added → Added w added
@@ -105,7 +109,7 @@ module _ {E T : Type 0} (origin : T) where
   pub know_longer : (w : ℕ) (history added : List (ℕ × E)) → Added w added
       → (ms : List (Member E T))
       → count_by (λ (m : Member E T). eqb m.worker w) ms ≡ 0 → AllKnow history origin ms
-          → AllKnow (history ++ added) origin ms
+      → AllKnow (history ++ added) origin ms
   know_longer w history added a [] none all = tt
   know_longer w history added a (m ∷ ms) none all =
       let f : Member E T → ℕ = λ x. cond (eqb x.worker w) 1 0 in
@@ -113,7 +117,7 @@ module _ {E T : Type 0} (origin : T) where
       let here : f m ≡ 0 = omega arith in
       let rest : sum_by f ms ≡ 0 = omega arith in
       let ne : w ≢ m.worker = λ e. absurd (let one : f m
-          ≡ 1 = ap (λ b. cond {A = ℕ} b 1 0) (eq-eqb m.worker w (sym e)) in omega arith) in
+      ≡ 1 = ap (λ b. cond {A = ℕ} b 1 0) (eq-eqb m.worker w (sym e)) in omega arith) in
       let k = all.0 in (
         record {
           begins = begins_longer history added m.seen k.begins;

@@ -1,6 +1,6 @@
 -- What contracts see of a turnstile and of a pass. fontc's own.
-use Rattle.std.specs.Prelude.{◌≡◌, ℕ, ◌%◌, ◌^◌, suc, zero, ◌+◌, Bool, true, false, List, [], ◌∷◌,
-    ◌++◌, length, drop, Option, None}
+use Rattle.std.specs.Prelude.{◌≡◌, ℕ, ◌%◌, ◌^◌, suc, zero, ◌+◌, Bool, true, false, List, [], ◌∷◌}
+use Rattle.std.specs.Prelude.{◌++◌, length, drop, Option, None}
 use Rattle.atomic_table.specs.Table.{Me}
 use Rattle.atomic_table.specs.Seated.{TableId}
 use Rattle.turnstile.specs.Entries.{BeginsWith, entries_of}
@@ -28,8 +28,15 @@ pub record PassView (E T : Type 0) : Type 0 where
 module _ {E T : Type 0} where
   -- a pass of a new turnstile
   abbrev pub new_pass : TableId → T → ℕ → PassView E T
-  new_pass table root worker = record { table = table; worker = worker; seen = []; mine = []; root
-      = root; is_out = false }
+  new_pass table root worker = record {
+    table = table;
+    worker = worker;
+    seen = [];
+    mine = [];
+    root
+        = root;
+    is_out = false;
+  }
 
   -- so many of them, numbered from `from` on
   abbrev pub new_passes : TableId → T → ℕ → ℕ → List (PassView E T)
@@ -47,8 +54,12 @@ module _ {E T : Type 0} where
   -- the pass as it leaves: it has seen the whole list, and what the list has beyond what it saw as
   -- it entered is its own
   abbrev pub has_left : List (ℕ × E) → PassView E T → PassView E T
-  has_left list p = record p { seen = list; mine = p.mine
-      ++ drop (length p.seen) list; is_out = false }
+  has_left list p = record p {
+    seen = list;
+    mine = p.mine
+        ++ drop (length p.seen) list;
+    is_out = false;
+  }
 
   -- a list of entries, and a root, that a pass agrees with: the list begins with what the pass has
   -- seen, and has of its number just the entries that it made
@@ -76,6 +87,11 @@ module _ {B E T : Type 0} where
   -- what a pass keeps of its seat
   pub record IsPass (worker ticket : ℕ) (root : T) (me : Me (Option B) (Knowledge E T))
       : Type 0 where
-    pub one : me.0.members ≡ record { worker = worker; seen = seen_of me.0.members; mine
-        = mine_of me.0.members; root = root } ∷ []
+    pub one : me.0.members ≡ record {
+      worker = worker;
+      seen = seen_of me.0.members;
+      mine
+          = mine_of me.0.members;
+      root = root;
+    } ∷ []
     pub rests : Rests ticket me.0.stage me.1

@@ -1,8 +1,8 @@
 -- The rule of a turnstile: what holds of its words, its slot and what its seats know, between any
 -- two steps. fontc's own. Word 0 is the history's length, word 1 the next ticket, and word 2 the
 -- ticket that is served. The one slot has the value.
-use Rattle.std.specs.Prelude.{◌≡◌, ◌⊎◌, ℕ, ◌+◌, ◌%◌, ◌^◌, ◌<◌, ◌≤◌, List, [], ◌∷◌, length, Option,
-    Some}
+use Rattle.std.specs.Prelude.{◌≡◌, ◌⊎◌, ℕ, ◌+◌, ◌%◌, ◌^◌, ◌<◌, ◌≤◌, List, [], ◌∷◌, length, Option}
+use Rattle.std.specs.Prelude.{Some}
 use Rattle.std.specs.List.{sum_by}
 use mathlib.Core.Option.{some, none}
 use lib.ListN.{get_elem?}
@@ -30,7 +30,7 @@ module _ {E T : Type 0} where
   TicketsDiffer views =
       (i j : ℕ) (v w : Knowledge E T) (ticket : ℕ)
       → get_elem? views i ≡ some v → get_elem? views j ≡ some w → HasTicket v.stage ticket
-          → HasTicket w.stage ticket → i ≡ j
+      → HasTicket w.stage ticket → i ≡ j
 
 module _ {B E T : Type 0} (entries : B → List (ℕ × E)) (root : B → T) where
   -- no ticket is served: the slot is at home, and its value has the history as its list, and the

@@ -1,6 +1,6 @@
 -- What each kind of step at a turnstile's table tells the seat that takes it. fontc's own.
-use Rattle.std.specs.Prelude.{◌≡◌, ℕ, ◌%◌, ◌^◌, List, [], ◌∷◌, ◌++◌, length, drop, Option, Some,
-    None}
+use Rattle.std.specs.Prelude.{◌≡◌, ℕ, ◌%◌, ◌^◌, List, [], ◌∷◌, ◌++◌, length, drop, Option, Some}
+use Rattle.std.specs.Prelude.{None}
 use Rattle.atomic_table.specs.Table.{Me, Step, rest}
 use Rattle.turnstile.specs.Entries.{BeginsWith, entries_of, AddsAtMostOne}
 use Rattle.turnstile.specs.declared.knowledge.Stage.{Stage}
@@ -53,7 +53,7 @@ module _ {B E T : Type 0} where
         → me.0 ≡ seat_of (Waiting ticket) m
         → me.1 ≡ []
         → (found ≡ ticket % 2 ^ 64 → Takes ticket m me')
-            × ((found ≡ ticket % 2 ^ 64 → ⊥) → me' ≡ me)
+        × ((found ≡ ticket % 2 ^ 64 → ⊥) → me' ≡ me)
 
   -- the list is seen, and what was added is the worker's own
   abbrev pub noted : List (ℕ × E) → List (ℕ × E) → Step (Option B) → Sat B E T → ℕ → Sat B E T

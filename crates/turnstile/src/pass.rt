@@ -27,12 +27,19 @@ impl<B: Counted> Model for Pass<B> {
 
     ghost Value = { PassView B.Entry B.Root };
 
-    ghost view = { λ p. record { table = p.seat.table_id; worker = p.worker; seen
-        = seen_of p.seat.me.0.members; mine = mine_of p.seat.me.0.members; root
-        = B.root p.origin.value.value.value; is_out = has_ticket p.seat.me.0.stage } };
+    ghost view = { λ p. record {
+      table = p.seat.table_id;
+      worker = p.worker;
+      seen
+          = seen_of p.seat.me.0.members;
+      mine = mine_of p.seat.me.0.members;
+      root
+          = B.root p.origin.value.value.value;
+      is_out = has_ticket p.seat.me.0.stage;
+    } };
 
-    ghost invariant = { λ p. IsPass p.worker p.ticket (B.root p.origin.value.value.value) p.seat.me
-        };
+    ghost invariant = { λ p. IsPass p.worker p.ticket (B.root p.origin.value.value.value)
+        p.seat.me };
 }
 
 impl<B: Counted> Pass<B> {

@@ -36,8 +36,10 @@ pub(crate) fn gather<B: Counted>(common: &Common<B>, mut passes: Vec<Pass<B>>) -
     requires some { 0 < vec_len passes }
     requires each { All (λ p. (p.table ≡ common.now.table_id) × (p.is_out ≡ false)) passes.items }
     ensures table { result.table_id ≡ common.now.table_id }
-    ensures everyone { result.me ≡ (record { stage = Away; members = map member_of passes.items },
-        []) }
+    ensures everyone { result.me ≡ (
+      record { stage = Away; members = map member_of passes.items },
+      [],
+    ) }
 {
     let Some(last) = passes.pop() else {
         unreachable!()

@@ -1,12 +1,12 @@
 //! A turn, step by step.
-ghost use Rattle.std.specs.Prelude.{◌≡◌, ℕ, ◌+◌, ◌%◌, ◌^◌, ◌<◌, List, [], ◌∷◌, ◌++◌, Some, None,
-    drop, length};
-ghost use Rattle.turnstile.specs.declared.knowledge.Stage.TheVariants.{Away, Waiting, Served,
-    Noted};
+ghost use Rattle.std.specs.Prelude.{◌≡◌, ℕ, ◌+◌, ◌%◌, ◌^◌, ◌<◌, List, [], ◌∷◌, ◌++◌, Some, None};
+ghost use Rattle.std.specs.Prelude.{drop, length};
+ghost use Rattle.turnstile.specs.declared.knowledge.Stage.TheVariants.{Away, Waiting, Served};
+ghost use Rattle.turnstile.specs.declared.knowledge.Stage.TheVariants.{Noted};
 ghost use Rattle.turnstile.specs.declared.knowledge.Member.{Member};
 ghost use Rattle.turnstile.specs.Entries.{AddsAtMostOne};
-ghost use Rattle.turnstile.specs.Steps.{seat_of, after_adding, after_leaving, Takes, HasTurn,
-    MayLeave};
+ghost use Rattle.turnstile.specs.Steps.{seat_of, after_adding, after_leaving, Takes, HasTurn};
+ghost use Rattle.turnstile.specs.Steps.{MayLeave};
 
 use crate::counted::Counted;
 use crate::knowledge::{Common, Place};

@@ -1,5 +1,5 @@
-ghost use Rattle.std.specs.Prelude.{◌≡◌, ℕ, ◌<◌, ◌≤◌, ◌^◌, false, true, [], ◌∷◌, All, length, IfOk,
-    IfErr, Some};
+ghost use Rattle.std.specs.Prelude.{◌≡◌, ℕ, ◌<◌, ◌≤◌, ◌^◌, false, true, [], ◌∷◌, All, length, IfOk};
+ghost use Rattle.std.specs.Prelude.{IfErr, Some};
 ghost use Rattle.turnstile.specs.Members.{everyone};
 ghost use Rattle.turnstile.specs.Entries.{BeginsWith, AddsAtMostOne, entries_of};
 ghost use Rattle.turnstile.specs.Passes.{new_passes, entered, has_left, IsHistoryOf};

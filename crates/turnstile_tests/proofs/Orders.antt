@@ -1,44 +1,14 @@
 -- What the passes of a turnstile know of the numbers, put together.
-use Rattle.std.proofs.Common.{
-  ◌≡◌,
-  ℕ,
-  zero,
-  suc,
-  ◌+◌,
-  ◌<◌,
-  ◌≤◌,
-  List,
-  [],
-  ◌∷◌,
-  ◌++◌,
-  length,
-  drop,
-  slice_index_or,
-  ◌⊎◌,
-  inl,
-  inr,
-  refl,
-  sym,
-  ap,
-  ◌∙◌,
-  subst,
-  arith,
-}
+use Rattle.std.proofs.Common.{◌≡◌, ℕ, zero, suc, ◌+◌, ◌<◌, ◌≤◌, List, [], ◌∷◌, ◌++◌, length, drop}
+use Rattle.std.proofs.Common.{slice_index_or, ◌⊎◌, inl, inr, refl, sym, ap, ◌∙◌, subst, arith}
 use Rattle.std.specs.List.{All}
 use Rattle.std.proofs.lemmas.List.{append-nil, drop_at}
 use Rattle.std.proofs.lemmas.List.Elements.{All-nil, All-cons}
 use mathlib.Core.Logic.{dite}
 use native.Mathlib.Decide.{dec_lt}
 use Rattle.turnstile.specs.Entries.{entries_of}
-use Rattle.turnstile.specs.Passes.{
-  TurnstileView,
-  PassView,
-  new_pass,
-  new_passes,
-  entered,
-  has_left,
-  IsHistoryOf,
-}
+use Rattle.turnstile.specs.Passes.{TurnstileView, PassView, new_pass, new_passes, entered, has_left}
+use Rattle.turnstile.specs.Passes.{IsHistoryOf}
 use Rattle.turnstile_tests.specs.Turns.{numbers_of, IsInOrder, IsFresh, IsDone, SameWorkers}
 
 numbers_more : (worker n : ℕ) → numbers_of worker (n + 1) ≡ numbers_of worker n ++ (worker, n) ∷ []

@@ -1,19 +1,7 @@
 -- What workers write down in their turns at a turnstile. fontc's own.
 -- A worker writes the numbers 0, 1, 2 and so on, each with its own number beside it.
-use Rattle.std.specs.Prelude.{
-  ◌≡◌,
-  ℕ,
-  zero,
-  suc,
-  ◌<◌,
-  false,
-  List,
-  [],
-  ◌∷◌,
-  ◌++◌,
-  length,
-  slice_index_or,
-}
+use Rattle.std.specs.Prelude.{◌≡◌, ℕ, zero, suc, ◌<◌, false, List, [], ◌∷◌, ◌++◌, length}
+use Rattle.std.specs.Prelude.{slice_index_or}
 use Rattle.turnstile.specs.Passes.{TurnstileView, PassView}
 
 -- so many numbers of a worker, in order

@@ -1,19 +1,5 @@
-ghost use Rattle.std.specs.Prelude.{
-  ◌≡◌,
-  ℕ,
-  ◌+◌,
-  ◌^◌,
-  ◌<◌,
-  ◌≤◌,
-  ◌⊎◌,
-  false,
-  [],
-  ◌∷◌,
-  ◌++◌,
-  All,
-  length,
-  IfOk,
-};
+ghost use Rattle.std.specs.Prelude.{◌≡◌, ℕ, ◌+◌, ◌^◌, ◌<◌, ◌≤◌, ◌⊎◌, false, [], ◌∷◌, ◌++◌, All};
+ghost use Rattle.std.specs.Prelude.{length, IfOk};
 ghost use Rattle.turnstile.specs.Entries.{AddsAtMostOne, entries_of};
 ghost use Rattle.turnstile.specs.Passes.{IsHistoryOf};
 ghost use Rattle.turnstile_tests.specs.Turns.{numbers_of, IsInOrder, IsFresh, IsDone, SameWorkers};

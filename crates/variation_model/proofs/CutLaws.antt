@@ -1,7 +1,7 @@
 -- Which sides an earlier place cuts: those whose ratio no other exceeds.
-use Rattle.std.proofs.Common.{◌≡◌, ℕ, zero, suc, ◌*◌, ◌<◌, ◌≤◌, Bool, true, false, cond, not, ◌&&◌,
-    ◌||◌, ◌⊎◌, inl, inr, ⊎_elim, List, [], ◌∷◌, refl, sym, ap, ◌∙◌, arith, length, subst, ℤ, pos,
-    negsuc, ◌-ℤ◌, ◌<ℤ◌}
+use Rattle.std.proofs.Common.{◌≡◌, ℕ, zero, suc, ◌*◌, ◌<◌, ◌≤◌, Bool, true, false, cond, not, ◌&&◌}
+use Rattle.std.proofs.Common.{◌||◌, ◌⊎◌, inl, inr, ⊎_elim, List, [], ◌∷◌, refl, sym, ap, ◌∙◌, arith}
+use Rattle.std.proofs.Common.{length, subst, ℤ, pos, negsuc, ◌-ℤ◌, ◌<ℤ◌}
 use Rattle.std.proofs.Math.Nat.{mul-le-mul_right, le_of_mul-le-mul_right}
 use Rattle.std.proofs.lemmas.Int.{ints}
 use Rattle.std.proofs.lemmas.Bool.{cases_Bool, and_parts, cond_both}
@@ -10,8 +10,8 @@ use Rattle.std.specs.Prelude.{int_lt, unsigned_abs}
 use Rattle.std.specs.Ordering.{int_eq}
 use Rattle.fixed_math.specs.declared.F2Dot14.{F2Dot14}
 use Rattle.variation_model.specs.Supports as spec
-use Rattle.variation_model.specs.Cuts.{Side, side_on, coordinate_on, IsWithin, IsInside, HasRatio,
-    IsAtMost, HasLargestRatio, IsCutAt, IsNarrowed}
+use Rattle.variation_model.specs.Cuts.{Side, side_on, coordinate_on, IsWithin, IsInside, HasRatio}
+use Rattle.variation_model.specs.Cuts.{IsAtMost, HasLargestRatio, IsCutAt, IsNarrowed}
 use Rattle.variation_model.proofs.SupportLengths.{length-cut_largest}
 
 -- being inside, as a test and as a relation
@@ -46,8 +46,11 @@ is_within side v f =
       between =
           ⊎_elim
           (λ e. inl (same_number v.0 side.1.0 e))
-          (λ e. inr (above_start side.0.0 side.1.0 side.2.0 v.0 f e, below_end side.0.0 side.1.0
-              side.2.0 v.0 f e))
+          (λ e. inr (
+            above_start side.0.0 side.1.0 side.2.0 v.0 f e,
+            below_end side.0.0 side.1.0
+                side.2.0 v.0 f e,
+          ))
           (cases_Bool (int_eq v.0 side.1.0));
     }
 
@@ -77,7 +80,7 @@ within_at (side ∷ sides) (v ∷ vs) e f zero h
     = (and_parts (spec.is_inside side v) (spec.all_inside sides vs) f).0
 within_at (side ∷ sides) (v ∷ vs) e f (suc axis) h =
     within_at sides vs (omega arith) ((and_parts (spec.is_inside side v) (spec.all_inside sides vs)
-        f).1) axis (omega arith)
+    f).1) axis (omega arith)
 
 both : (a b : Bool) → a ≡ true → b ≡ true → (a && b) ≡ true
 both true true e f = refl
@@ -102,7 +105,7 @@ pub not_inside : (sides : List Side) (vs : List F2Dot14) → length sides ≡ le
     → spec.all_inside sides vs ≡ false → IsInside sides vs → ⊥
 not_inside sides vs e f inside =
     let test = tests_all_inside sides vs e
-        (λ axis h. tests_inside (side_on axis sides) (coordinate_on axis vs) (inside axis h)) in
+    (λ axis h. tests_inside (side_on axis sides) (coordinate_on axis vs) (inside axis h)) in
     cc
 
 -- ratios of natural numbers
@@ -137,12 +140,12 @@ not_below_zero x = grind (arith, nat_tests)
 larger_left : (x y : ℕ × ℕ) → Below x (spec.larger x y)
 larger_left x y =
     cond_both (spec.is_less x y) y x (λ (z : ℕ × ℕ). Below x z) (λ e. less_below x y e)
-        (λ _. below_self x)
+    (λ _. below_self x)
 
 larger_right : (x y : ℕ × ℕ) → Below y (spec.larger x y)
 larger_right x y =
     cond_both (spec.is_less x y) y x (λ (z : ℕ × ℕ). Below y z) (λ _. below_self y)
-        (λ e. not_less_below x y e)
+    (λ e. not_less_below x y e)
 
 larger_positive : (x y : ℕ × ℕ) → 0 < x.1 → 0 < y.1 → 0 < (spec.larger x y).1
 larger_positive x y h k = cond_both (spec.is_less x y) y x (λ z. 0 < z.1) (λ _. k) (λ _. h)
@@ -176,8 +179,8 @@ positive_reach : (side : Side) (v : F2Dot14) → spec.is_inside side v ≡ true
     → 0 < (spec.axis_ratio side v).1
 positive_reach side v f =
     of_three (λ (z : ℕ × ℕ). 0 < z.1) (int_lt v.0 side.1.0) (int_lt side.1.0 v.0)
-        (spec.distance side.1 v, spec.distance side.1 side.0)
-        (spec.distance v side.1, spec.distance side.2 side.1) (0, 1)
+    (spec.distance side.1 v, spec.distance side.1 side.0)
+    (spec.distance v side.1, spec.distance side.2 side.1) (0, 1)
     (λ e. abs_positive (side.1.0 -ℤ side.0.0) (reach_below side.0.0 side.1.0 side.2.0 v.0 f e))
     (λ e. abs_positive (side.2.0 -ℤ side.1.0) (reach_above side.0.0 side.1.0 side.2.0 v.0 f e))
     (λ _ _. omega arith)
@@ -204,8 +207,13 @@ largest : (before : ℕ × ℕ) (sides : List Side) (vs : List F2Dot14) → leng
     → spec.all_inside sides vs ≡ true → 0 < before.1
     → IsLargest (spec.largest_ratio_from before sides vs) before sides vs
 largest before [] vs e f h =
-    record { positive = h; start = below_self before; each = λ axis k. absurd (omega arith); reached
-        = inl refl }
+    record {
+      positive = h;
+      start = below_self before;
+      each = λ axis k. absurd (omega arith);
+      reached
+          = inl refl;
+    }
 largest before (side ∷ sides) [] e f h = absurd (omega arith)
 largest before (side ∷ sides) (v ∷ vs) e f h =
     let parts = and_parts (spec.is_inside side v) (spec.all_inside sides vs) f in
@@ -224,7 +232,7 @@ largest before (side ∷ sides) (v ∷ vs) e f h =
           ⊎_elim
           (λ is_next.
           ⊎_elim (λ is_before. inl (is_next ∙ is_before))
-              (λ is_own. inr (0, first, is_next ∙ is_own)) (larger_of before own))
+          (λ is_own. inr (0, first, is_next ∙ is_own)) (larger_of before own))
           (λ found. let later : suc found.0 < length (side ∷ sides) = omega (arith, found.1) in
           inr (suc found.0, later, found.2))
           rest.reached;
@@ -266,8 +274,8 @@ ratio_below side v f h =
     let is : spec.axis_ratio side v ≡ (spec.distance side.1 v, spec.distance side.1 side.0) =
     first_of (int_lt v.0 side.1.0) (spec.distance side.1 v, spec.distance side.1 side.0) _ test in
     pair (abs_of (side.1.0 -ℤ v.0) (apart v.0 side.1.0 h))
-        (abs_of (side.1.0 -ℤ side.0.0) (reach_below side.0.0 side.1.0 side.2.0 v.0 f test))
-        ∙ ap as_signed (sym is)
+    (abs_of (side.1.0 -ℤ side.0.0) (reach_below side.0.0 side.1.0 side.2.0 v.0 f test))
+    ∙ ap as_signed (sym is)
 
 ratio_above : (side : Side) (v : F2Dot14) → spec.is_inside side v ≡ true → side.1.0 <ℤ v.0
     → ◌≡◌ {A = ℤ × ℤ} (v.0 -ℤ side.1.0, side.2.0 -ℤ side.1.0) (as_signed (spec.axis_ratio side v))
@@ -275,11 +283,11 @@ ratio_above side v f h =
     let test = is_below side.1.0 v.0 h in
     let is : spec.axis_ratio side v ≡ (spec.distance v side.1, spec.distance side.2 side.1) =
     other_of (int_lt v.0 side.1.0) (spec.distance side.1 v, spec.distance side.1 side.0) _
-        (not_below v.0 side.1.0 h)
+    (not_below v.0 side.1.0 h)
     ∙ first_of (int_lt side.1.0 v.0) (spec.distance v side.1, spec.distance side.2 side.1) _ test in
     pair (abs_of (v.0 -ℤ side.1.0) (apart side.1.0 v.0 h))
-        (abs_of (side.2.0 -ℤ side.1.0) (reach_above side.0.0 side.1.0 side.2.0 v.0 f test))
-        ∙ ap as_signed (sym is)
+    (abs_of (side.2.0 -ℤ side.1.0) (reach_above side.0.0 side.1.0 side.2.0 v.0 f test))
+    ∙ ap as_signed (sym is)
 
 ratio_is : (side : Side) (v : F2Dot14) (ratio : ℤ × ℤ) → spec.is_inside side v ≡ true
     → HasRatio side v ratio → ratio ≡ as_signed (spec.axis_ratio side v)
@@ -319,8 +327,8 @@ below_own side v own f at_most =
     (λ g. below_of x own (at_most (as_signed x) (has_above side v f g)))
     (λ g. let is : x ≡ (0, 1) =
     other_of (int_lt v.0 side.1.0) (spec.distance side.1 v, spec.distance side.1 side.0) _ e
-        ∙ other_of (int_lt side.1.0 v.0) (spec.distance v side.1, spec.distance side.2 side.1)
-        (0, 1) g in
+    ∙ other_of (int_lt side.1.0 v.0) (spec.distance v side.1, spec.distance side.2 side.1)
+    (0, 1) g in
     subst (λ (z : ℕ × ℕ). Below z own) (sym is) (zero_below own))
     (cases_Bool (int_lt side.1.0 v.0)))
     (cases_Bool (int_lt v.0 side.1.0))
@@ -339,15 +347,15 @@ not_less sides vs e f axis ratio h has =
     let all = largest (0, 1) sides vs e f one_positive in
     let is : ratio ≡ as_signed own =
     ratio_is (side_on axis sides) (coordinate_on axis vs) ratio (within_at sides vs e f axis h)
-        has.own in
+    has.own in
     ⊎_elim
     (λ is_zero. ap (spec.is_less own) is_zero ∙ not_below_zero own)
     (λ found. let other = ratio_on found.0 sides vs in
     let below : Below other own =
     below_own (side_on found.0 sides) (coordinate_on found.0 vs) own
-        (within_at sides vs e f found.0 found.1)
+    (within_at sides vs e f found.0 found.1)
     (λ r other_has. subst (λ (q : ℤ × ℤ). IsAtMost r q) is
-        (has.none_exceeds found.0 r found.1 other_has)) in
+    (has.none_exceeds found.0 r found.1 other_has)) in
     ap (spec.is_less own) found.2 ∙ below_not_less own other below)
     all.reached
 
@@ -365,12 +373,12 @@ has_largest sides vs e f axis g has =
       none_exceeds =
           λ other r h other_has. let is : r ≡ as_signed (ratio_on other sides vs) =
           ratio_is (side_on other sides) (coordinate_on other vs) r (within_at sides vs e f other h)
-              other_has in
+          other_has in
           let below : Below (ratio_on other sides vs) own =
           below_trans (ratio_on other sides vs) final own (all.each other h)
-              (not_less_below own final g) all.positive in
+          (not_less_below own final g) all.positive in
           subst (λ (q : ℤ × ℤ). IsAtMost q (as_signed own)) (sym is)
-              (at_most_of (ratio_on other sides vs) own below);
+          (at_most_of (ratio_on other sides vs) own below);
     }
 
 -- what is left on an axis
@@ -390,9 +398,9 @@ is_cut side v =
           (is_below v.0 side.1.0 h);
       above =
           λ h. other_of {A = Side} (int_lt v.0 side.1.0) (v, side.1, side.2) _
-              (not_below v.0 side.1.0 h)
+          (not_below v.0 side.1.0 h)
           ∙ first_of {A = Side} (int_lt side.1.0 v.0) (side.0, side.1, v) side
-              (is_below side.1.0 v.0 h);
+          (is_below side.1.0 v.0 h);
     }
 
 kept_on : (sides : List Side) (vs : List F2Dot14) → length sides ≡ length vs
@@ -406,14 +414,14 @@ kept_on sides vs e f axis h none =
     let own = ratio_on axis sides vs in
     let inside = within_at sides vs e f axis h in
     cond_both (spec.is_less own (spec.largest_ratio sides vs)) side (spec.cut side v)
-        (λ (s : Side). s ≡ side) (λ _. refl)
+    (λ (s : Side). s ≡ side) (λ _. refl)
     (λ g.
     of_three (λ (s : Side). s ≡ side) (int_lt v.0 side.1.0) (int_lt side.1.0 v.0)
-        (v, side.1, side.2) (side.0, side.1, v) side
+    (v, side.1, side.2) (side.0, side.1, v) side
     (λ b. absurd (none (as_signed own) (has_largest sides vs e f axis g
-        (has_below side v inside b))))
+    (has_below side v inside b))))
     (λ b. absurd (none (as_signed own) (has_largest sides vs e f axis g
-        (has_above side v inside b))))
+    (has_above side v inside b))))
     (λ _ _. refl))
 
 -- what an earlier place leaves of a region
@@ -430,8 +438,8 @@ inside_narrowed sides vs e f =
           let v = coordinate_on axis vs in
           let is : side_on axis (spec.cut_largest most sides vs) ≡ spec.cut side v =
           cut_on most sides vs e axis h ∙ other_of {A = Side}
-              (spec.is_less (ratio_on axis sides vs) most) side (spec.cut side v)
-              (not_less sides vs e f axis ratio h has) in
+          (spec.is_less (ratio_on axis sides vs) most) side (spec.cut side v)
+          (not_less sides vs e f axis ratio h has) in
           subst (λ (s : Side). IsCutAt side v s) (sym is) (is_cut side v);
       kept = λ _ axis h none. cut_on most sides vs e axis h ∙ kept_on sides vs e f axis h none;
     }
@@ -450,5 +458,5 @@ pub narrowed_IsNarrowed : (sides : List Side) (vs : List F2Dot14) → length sid
     → IsNarrowed sides vs (spec.narrowed sides vs)
 narrowed_IsNarrowed sides vs e =
     cond_both (spec.all_inside sides vs) (spec.cut_largest (spec.largest_ratio sides vs) sides vs)
-        sides (λ (left : List Side). IsNarrowed sides vs left) (λ f. inside_narrowed sides vs e f)
-        (λ f. outside_narrowed sides vs e f)
+    sides (λ (left : List Side). IsNarrowed sides vs left) (λ f. inside_narrowed sides vs e f)
+    (λ f. outside_narrowed sides vs e f)

@@ -1,10 +1,11 @@
 -- Each support is what the earlier places, one after another, leave of the widest region.
-use Rattle.std.proofs.Common.{◌≡◌, ℕ, zero, suc, ◌+◌, ◌<◌, true, false, ◌⊎◌, inl, inr, ⊎_elim, List,
-    [], ◌∷◌, refl, sym, ap, ◌∙◌, arith, length, take, subst, ℤ, pos, ◌≤ℤ◌, ◌<ℤ◌}
+use Rattle.std.proofs.Common.{◌≡◌, ℕ, zero, suc, ◌+◌, ◌<◌, true, false, ◌⊎◌, inl, inr, ⊎_elim, List}
+use Rattle.std.proofs.Common.{[], ◌∷◌, refl, sym, ap, ◌∙◌, arith, length, take, subst, ℤ, pos, ◌≤ℤ◌}
+use Rattle.std.proofs.Common.{◌<ℤ◌}
 use Rattle.std.proofs.lemmas.Int.{ints}
 use Rattle.std.proofs.lemmas.Bool.{cond_both}
-use Rattle.std.proofs.lemmas.List.{length-take-le, get_or-take, get_or_default, take_all,
-    length-map}
+use Rattle.std.proofs.lemmas.List.{length-take-le, get_or-take, get_or_default, take_all}
+use Rattle.std.proofs.lemmas.List.{length-map}
 use Rattle.std.proofs.lemmas.List.Sums.{fold_more}
 use Rattle.std.specs.Prelude.{int_lt, replicate, Contains, EachIndex}
 use Rattle.std.specs.List.{fold}
@@ -13,8 +14,8 @@ use Rattle.fixed_math.specs.declared.F2Dot14.{F2Dot14}
 use Rattle.font_ir.specs.declared.variation.Region.{Region}
 use Rattle.variation_model.specs.Places.{zero_number, place_at, axis_count, ordered, order_of}
 use Rattle.variation_model.specs.Supports as spec
-use Rattle.variation_model.specs.Cuts.{Side, side_on, coordinate_on, IsGreatestOn, IsLeastOn,
-    IsWidestOn, IsWidest, IsNarrowed, IsSupport}
+use Rattle.variation_model.specs.Cuts.{Side, side_on, coordinate_on, IsGreatestOn, IsLeastOn}
+use Rattle.variation_model.specs.Cuts.{IsWidestOn, IsWidest, IsNarrowed, IsSupport}
 use Rattle.variation_model.specs.Deltas.{region_at}
 use Rattle.variation_model.specs.Laws.{EarlierPlacesCut}
 use Rattle.variation_model.proofs.ModelLemmas.{length-order_of, ordered_length}
@@ -76,7 +77,7 @@ greatest_start high axis [] = not_above high high refl
 greatest_start high axis (place ∷ places) =
     let n = spec.number_on axis place in
     at_most high (int_max high n) (greatest_from (int_max high n) axis places) (max_left high n)
-        (greatest_start (int_max high n) axis places)
+    (greatest_start (int_max high n) axis places)
 
 greatest_each : (high : ℤ) (axis : ℕ) (places : List (List F2Dot14)) (i : ℕ) → i < length places
     → (coordinate_on axis (place_at places i)).0 ≤ℤ greatest_from high axis places
@@ -84,7 +85,7 @@ greatest_each high axis [] i h = absurd (omega arith)
 greatest_each high axis (place ∷ places) zero h =
     let n = spec.number_on axis place in
     at_most n (int_max high n) (greatest_from (int_max high n) axis places) (max_right high n)
-        (greatest_start (int_max high n) axis places)
+    (greatest_start (int_max high n) axis places)
 greatest_each high axis (place ∷ places) (suc i) h =
     greatest_each (int_max high (spec.number_on axis place)) axis places i (omega arith)
 
@@ -107,7 +108,7 @@ least_start low axis [] = not_above low low refl
 least_start low axis (place ∷ places) =
     let n = spec.number_on axis place in
     at_most (least_from (int_min low n) axis places) (int_min low n) low
-        (least_start (int_min low n) axis places) (min_left low n)
+    (least_start (int_min low n) axis places) (min_left low n)
 
 least_each : (low : ℤ) (axis : ℕ) (places : List (List F2Dot14)) (i : ℕ) → i < length places
     → least_from low axis places ≤ℤ (coordinate_on axis (place_at places i)).0
@@ -115,7 +116,7 @@ least_each low axis [] i h = absurd (omega arith)
 least_each low axis (place ∷ places) zero h =
     let n = spec.number_on axis place in
     at_most (least_from (int_min low n) axis places) (int_min low n) n
-        (least_start (int_min low n) axis places) (min_right low n)
+    (least_start (int_min low n) axis places) (min_right low n)
 least_each low axis (place ∷ places) (suc i) h =
     least_each (int_min low (spec.number_on axis place)) axis places i (omega arith)
 
@@ -152,7 +153,7 @@ greatest_is places n axis has =
       none_above = λ i h. greatest_each (pos 0) axis places i h;
       reached =
           ⊎_elim (λ e. subst (λ (z : ℤ). IsReached axis places z) (sym e)
-              (zero_reached places n axis has)) (λ r. r) (greatest_reached (pos 0) axis places);
+          (zero_reached places n axis has)) (λ r. r) (greatest_reached (pos 0) axis places);
     }
 
 pub least_is : (places : List (List F2Dot14)) (n axis : ℕ)
@@ -162,7 +163,7 @@ least_is places n axis has =
       none_below = λ i h. least_each (pos 0) axis places i h;
       reached =
           ⊎_elim (λ e. subst (λ (z : ℤ). IsReached axis places z) (sym e)
-              (zero_reached places n axis has)) (λ r. r) (least_reached (pos 0) axis places);
+          (zero_reached places n axis has)) (λ r. r) (least_reached (pos 0) axis places);
     }
 
 -- the widest region
@@ -181,9 +182,9 @@ widest_is : (places : List (List F2Dot14)) (n axis : ℕ) (peak : F2Dot14)
     (spec.greatest places axis))
 widest_is places n axis peak has =
     of_three (λ (s : Side). IsWidestOn axis places peak s) (int_lt (pos 0) peak.0)
-        (int_lt peak.0 (pos 0)) (zero_number, peak, record { 0 = spec.greatest places axis })
-        (record { 0 = spec.least places axis }, peak, zero_number)
-        (zero_number, zero_number, zero_number)
+    (int_lt peak.0 (pos 0)) (zero_number, peak, record { 0 = spec.greatest places axis })
+    (record { 0 = spec.least places axis }, peak, zero_number)
+    (zero_number, zero_number, zero_number)
     (λ e. let above : pos 0 <ℤ peak.0 = less_of (pos 0) peak.0 e in
     record {
       has_peak = refl;
@@ -220,7 +221,7 @@ widest_on places from (peak ∷ peaks) zero h =
 widest_on places from (peak ∷ peaks) (suc axis) h =
     let same : (from + 1) + axis ≡ from + suc axis = omega arith in
     widest_on places (from + 1) peaks axis (omega arith)
-        ∙ ap (λ (a : ℕ). widest_at places a (coordinate_on axis peaks)) same
+    ∙ ap (λ (a : ℕ). widest_at places a (coordinate_on axis peaks)) same
 
 widest_IsWidest : (places : List (List F2Dot14)) (n : ℕ) (place : List F2Dot14)
     → Contains places (replicate n zero_number)
@@ -234,7 +235,7 @@ widest_IsWidest places n place has =
           let is : side_on axis (spec.widest_from places 0 place) ≡ widest_at places axis peak =
           widest_on places 0 place axis h ∙ ap (λ (a : ℕ). widest_at places a peak) same in
           subst (λ (s : Side). IsWidestOn axis places peak s) (sym is)
-              (widest_is places n axis peak has);
+          (widest_is places n axis peak has);
     }
 
 -- what each earlier place leaves
@@ -252,11 +253,11 @@ fold_IsSupport places n earlier place has fits =
           let other = place_at earlier k in
           let long : length before ≡ length other =
           length-fold-narrowed widest (take k earlier) ∙ length-widest_from places 0 place
-              ∙ sym (fits k h) in
+          ∙ sym (fits k h) in
           let is : fold spec.narrowed widest (take (k + 1) earlier) ≡ spec.narrowed before other =
           fold_more spec.narrowed widest earlier k [] h in
           subst (λ (s : List Side). IsNarrowed before other s) (sym is)
-              (narrowed_IsNarrowed before other long);
+          (narrowed_IsNarrowed before other long);
       last = ap (λ (l : List (List F2Dot14)). fold spec.narrowed widest l)
           (take_all (length earlier) earlier (omega arith));
     }
@@ -269,11 +270,11 @@ pub earlier_fit : (places : List (List F2Dot14)) (k : ℕ)
 earlier_fit places k one_length h j l =
     let in_order = ordered places in
     let as_many : length in_order ≡ length places = length-map (order_of places) (place_at places)
-        ∙ length-order_of places in
+    ∙ length-order_of places in
     let before : j < k = omega (arith, length-take-le k in_order) in
     ap length (get_or-take k in_order j [] before)
-        ∙ ordered_length places one_length j (omega arith)
-        ∙ sym (ordered_length places one_length k (omega arith))
+    ∙ ordered_length places one_length j (omega arith)
+    ∙ sym (ordered_length places one_length k (omega arith))
 
 pub support_in_order : (places : List (List F2Dot14)) (k : ℕ) → k < length places
     → region_at (spec.supports_of places) k
@@ -281,7 +282,7 @@ pub support_in_order : (places : List (List F2Dot14)) (k : ℕ) → k < length p
 unfolding spec.supports_of
 support_in_order places k h =
     let as_many : length (ordered places) ≡ length places
-        = length-map (order_of places) (place_at places) ∙ length-order_of places in
+    = length-map (order_of places) (place_at places) ∙ length-order_of places in
     support_at places [] (ordered places) k (omega arith)
 
 pub earlier_places_cut : (places : List (List F2Dot14))
@@ -291,6 +292,6 @@ earlier_places_cut places one_length has_zero k h =
     let earlier = take k (ordered places) in
     let place = place_at (ordered places) k in
     subst (λ (r : Region). IsSupport places earlier place r.sides)
-        (sym (support_in_order places k h))
+    (sym (support_in_order places k h))
     (fold_IsSupport places (axis_count places) earlier place has_zero
-        (earlier_fit places k one_length h))
+    (earlier_fit places k one_length h))

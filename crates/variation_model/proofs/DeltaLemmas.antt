@@ -1,7 +1,8 @@
 -- Steps of the loop that forms deltas.
-use Rattle.std.proofs.Common.{◌≡◌, ℕ, ◌+◌, ◌*◌, ◌<◌, ◌≤◌, ◌^◌, Bool, true, false, cond, List, [],
-    ◌∷◌, ◌++◌, refl, sym, ap, ◌∙◌, arith, length, get_or, drop, map, append_assoc, append-nil,
-    Option, Some, None, ℤ, pos, negsuc, ◌+ℤ◌, ◌-ℤ◌, FitsSigned, length-append}
+use Rattle.std.proofs.Common.{◌≡◌, ℕ, ◌+◌, ◌*◌, ◌<◌, ◌≤◌, ◌^◌, Bool, true, false, cond, List, []}
+use Rattle.std.proofs.Common.{◌∷◌, ◌++◌, refl, sym, ap, ◌∙◌, arith, length, get_or, drop, map}
+use Rattle.std.proofs.Common.{append_assoc, append-nil, Option, Some, None, ℤ, pos, negsuc, ◌+ℤ◌}
+use Rattle.std.proofs.Common.{◌-ℤ◌, FitsSigned, length-append}
 use Rattle.std.proofs.lemmas.Int.{ints, fits_signed_from_abs}
 use Rattle.std.proofs.lemmas.List.{get_or_default, drop_all, get_or-map}
 use Rattle.std.specs.Prelude.{unsigned_abs}
@@ -35,7 +36,7 @@ first_large-append at (x ∷ xs) ys e =
     let p = passes (is_storable x) (first_large (at + 1) xs) (at, x) e in
     let same : at + 1 + length xs ≡ at + length (x ∷ xs) = omega arith in
     chosen (is_storable x) (first_large (at + 1) (xs ++ ys)) (at, x) p.0
-        ∙ first_large-append (at + 1) xs ys p.1 ∙ ap (λ n. first_large n ys) same
+    ∙ first_large-append (at + 1) xs ys p.1 ∙ ap (λ n. first_large n ys) same
 
 -- the deltas so far, of which each can be stored, and those to come are all deltas
 pub record AreDeltas (rows : List (List Fixed)) (values total : List ℤ) (k : ℕ) (deltas : List ℤ)
@@ -55,9 +56,9 @@ opened : (rows : List (List Fixed)) (values total : List ℤ) (k : ℕ) (deltas 
     ≡ total
 opened rows values total k deltas delta h l f e =
     ap (λ d. deltas ++ (d ∷ deltas_by (drop (k + 1) rows) (deltas ++ d ∷ []) (drop (k + 1) values)))
-        e ∙ sym (ap (λ (ds : List ℤ). deltas ++ ds)
-        (step_both (λ (rs : List (List Fixed)) (vs : List ℤ). deltas_by rs deltas vs) rows values k
-        [] (pos 0) h l)) ∙ f.all
+    e ∙ sym (ap (λ (ds : List ℤ). deltas ++ ds)
+    (step_both (λ (rs : List (List Fixed)) (vs : List ℤ). deltas_by rs deltas vs) rows values k
+    [] (pos 0) h l)) ∙ f.all
 
 pub AreDeltas-more : (rows : List (List Fixed)) (values total : List ℤ) (k : ℕ)
     (deltas next : List ℤ) (delta : ℤ) → k < length rows → k < length values
@@ -68,7 +69,7 @@ pub AreDeltas-more : (rows : List (List Fixed)) (values total : List ℤ) (k : �
 AreDeltas-more rows values total k deltas next delta h l f e g n =
     let counted = f.counted in
     let longer : length (deltas ++ delta ∷ [])
-        ≡ k + 1 = omega (arith, length-append deltas (delta ∷ [])) in
+    ≡ k + 1 = omega (arith, length-append deltas (delta ∷ [])) in
     rw n (record {
       all = append_assoc deltas (delta ∷ [])
           (deltas_by (drop (k + 1) rows) (deltas ++ delta ∷ []) (drop (k + 1) values))
@@ -87,9 +88,9 @@ AreDeltas-large rows values total k deltas delta h l f e g =
     let rest = deltas_by (drop (k + 1) rows) (deltas ++ delta ∷ []) (drop (k + 1) values) in
     let counted : 0 + length deltas ≡ k = let c = f.counted in omega arith in
     ap (first_large 0) (sym (opened rows values total k deltas delta h l f e))
-        ∙ first_large-append 0 deltas (delta ∷ rest) f.stored
-        ∙ refused (is_storable delta) (first_large (0 + length deltas + 1) rest)
-        (0 + length deltas, delta) g ∙ ap (λ n. Some (n, delta)) counted
+    ∙ first_large-append 0 deltas (delta ∷ rest) f.stored
+    ∙ refused (is_storable delta) (first_large (0 + length deltas + 1) rest)
+    (0 + length deltas, delta) g ∙ ap (λ n. Some (n, delta)) counted
 
 pub AreDeltas-all : (rows : List (List Fixed)) (values total : List ℤ) (k : ℕ) (deltas : List ℤ)
     → length rows ≤ k → AreDeltas rows values total k deltas
@@ -98,7 +99,7 @@ AreDeltas-all rows values total k deltas h f =
     let ends : deltas_by (drop k rows) deltas (drop k values) ≡ [] =
     ap (λ (rs : List (List Fixed)). deltas_by rs deltas (drop k values)) (drop_all k rows h) in
     let same : deltas ≡ total = sym (append-nil deltas)
-        ∙ ap (λ (ds : List ℤ). deltas ++ ds) (sym ends) ∙ f.all in
+    ∙ ap (λ (ds : List ℤ). deltas ++ ds) (sym ends) ∙ f.all in
     (same, ap (first_large 0) (sym same) ∙ f.stored)
 
 -- the value that the order names, and the row
@@ -112,9 +113,9 @@ delta_at rows values order k item slice deltas deltas' delta h l at at_slice sam
     let is_row : slice ≡ row_at rows k = at_slice ∙ at ∙ get_or_default rows k item [] l in
     let value = value_at_place values (get_or order k 0) in
     e ∙ ap (λ (ds : List ℤ). half_up (value -ℤ weighted slice ds)) same
-        ∙ ap (λ (r : List Fixed). half_up (value -ℤ weighted r deltas)) is_row
-        ∙ ap (λ z. half_up (z -ℤ weighted (row_at rows k) deltas))
-        (sym (get_or-map (value_at_place values) order k 0 (pos 0) h))
+    ∙ ap (λ (r : List Fixed). half_up (value -ℤ weighted r deltas)) is_row
+    ∙ ap (λ z. half_up (z -ℤ weighted (row_at rows k) deltas))
+    (sym (get_or-map (value_at_place values) order k 0 (pos 0) h))
 
 abs_fits : (z : ℤ) → FitsSigned w32 z → unsigned_abs z ≤ 2147483648
 abs_fits (pos n) f = omega (arith, ints)
@@ -133,6 +134,6 @@ pub lack_fits : (value sum extra : ℤ) (n : ℕ) → FitsSigned w32 value
     → FitsSigned w64 ((value -ℤ sum) +ℤ extra)
 lack_fits value sum extra n f h k l =
     let lack : unsigned_abs (value -ℤ sum) ≤ 2147483648
-        + 2147483648 * n = abs_lack value sum 2147483648 (2147483648 * n) (abs_fits value f) h in
+    + 2147483648 * n = abs_lack value sum 2147483648 (2147483648 * n) (abs_fits value f) h in
     let all = abs_sum (value -ℤ sum) extra (2147483648 + 2147483648 * n) 32768 lack k in
     fits_signed_from_abs w64 ((value -ℤ sum) +ℤ extra) (omega (arith, all))

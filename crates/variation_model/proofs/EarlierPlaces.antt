@@ -1,9 +1,10 @@
 -- A region counts nothing at the places before its own.
-use Rattle.std.proofs.Common.{◌≡◌, ℕ, zero, suc, ◌<◌, Bool, true, false, cond, not, ◌&&◌, ◌||◌, ◌⊎◌,
-    inl, inr, ⊎_elim, List, [], ◌∷◌, refl, sym, ap, ◌∙◌, arith, length, get_or, ℤ, pos}
+use Rattle.std.proofs.Common.{◌≡◌, ℕ, zero, suc, ◌<◌, Bool, true, false, cond, not, ◌&&◌, ◌||◌, ◌⊎◌}
+use Rattle.std.proofs.Common.{inl, inr, ⊎_elim, List, [], ◌∷◌, refl, sym, ap, ◌∙◌, arith, length}
+use Rattle.std.proofs.Common.{get_or, ℤ, pos}
 use Rattle.std.proofs.lemmas.Int.{ints}
-use Rattle.std.proofs.lemmas.Bool.{or_cases, and_cases, cases_Bool, or_left, or_right, and_parts,
-    cond_both}
+use Rattle.std.proofs.lemmas.Bool.{or_cases, and_cases, cases_Bool, or_left, or_right, and_parts}
+use Rattle.std.proofs.lemmas.Bool.{cond_both}
 use Rattle.std.proofs.lemmas.Bool.Decides.{nat_tests}
 use Rattle.std.specs.Prelude.{int_lt, int_le}
 use Rattle.std.specs.List.{fold}
@@ -19,7 +20,7 @@ use Rattle.variation_model.proofs.OwnSupports.{Side, Peaks, narrowed_Peaks}
 abbrev pub is_out : Side → F2Dot14 → Bool
 is_out side v =
     not (int_eq side.1.0 (pos 0) || int_eq v.0 side.1.0)
-        && (int_le v.0 side.0.0 || int_le side.2.0 v.0)
+    && (int_le v.0 side.0.0 || int_le side.2.0 v.0)
 
 abbrev pub some_out : List Side → List F2Dot14 → Bool
 some_out [] vs = false
@@ -35,7 +36,7 @@ zero_cond false false x y e = cc
 zero_on_axis : (side : Side) (v : F2Dot14) → is_out side v ≡ true → axis_scalar side v ≡ pos 0
 zero_on_axis side v e =
     zero_cond (int_eq side.1.0 (pos 0) || int_eq v.0 side.1.0)
-        (int_le v.0 side.0.0 || int_le side.2.0 v.0) (pos 65536) _ e
+    (int_le v.0 side.0.0 || int_le side.2.0 v.0) (pos 65536) _ e
 
 zero_from : (sides : List Side) (place : List F2Dot14) → scalar_from (pos 0) sides place ≡ pos 0
 zero_from [] place = refl
@@ -50,7 +51,7 @@ nothing_from before (side ∷ sides) [] e = cc
 nothing_from before (side ∷ sides) (v ∷ vs) e =
     ⊎_elim
     (λ h. ap (λ z. scalar_from (product before z) sides vs) (zero_on_axis side v h)
-        ∙ ap (λ z. scalar_from z sides vs) (product_zero_right before) ∙ zero_from sides vs)
+    ∙ ap (λ z. scalar_from z sides vs) (product_zero_right before) ∙ zero_from sides vs)
     (λ h. nothing_from (product before (axis_scalar side v)) sides vs h)
     (or_cases (is_out side v) (some_out sides vs) e)
 
@@ -82,7 +83,7 @@ cut_out : (largest : ℕ × ℕ) (side : Side) (w v : F2Dot14) → spec.is_insid
 cut_out largest side w v f g =
     let P : Side → Type 0 = λ s. is_out s v ≡ true in
     cut_by P (spec.is_less (spec.axis_ratio side w) largest) (int_lt w.0 side.1.0)
-        (int_lt side.1.0 w.0) side w g
+    (int_lt side.1.0 w.0) side w g
     (λ h. out_of_start side.0.0 side.1.0 side.2.0 v.0 w.0 f g h)
     (λ h. out_of_end side.0.0 side.1.0 side.2.0 v.0 w.0 f g h)
 
@@ -96,10 +97,10 @@ cut_some_out largest (side ∷ sides) (w ∷ ws) (v ∷ vs) f g =
     let both = and_parts (spec.is_inside side w) (spec.all_inside sides ws) f in
     ⊎_elim
     (λ h. or_left (is_out (spec.cut_at_least largest side w) v)
-        (some_out (spec.cut_largest largest sides ws) vs) (cut_out largest side w v both.0 h))
+    (some_out (spec.cut_largest largest sides ws) vs) (cut_out largest side w v both.0 h))
     (λ h. or_right (is_out (spec.cut_at_least largest side w) v)
-        (some_out (spec.cut_largest largest sides ws) vs)
-        (cut_some_out largest sides ws vs both.1 h))
+    (some_out (spec.cut_largest largest sides ws) vs)
+    (cut_some_out largest sides ws vs both.1 h))
     (or_cases (is_out side v) (some_out sides vs) g)
 
 narrowed_some_out : (sides : List Side) (ws vs : List F2Dot14) → some_out sides vs ≡ true
@@ -107,7 +108,7 @@ narrowed_some_out : (sides : List Side) (ws vs : List F2Dot14) → some_out side
 narrowed_some_out sides ws vs g =
     let P : List Side → Type 0 = λ s. some_out s vs ≡ true in
     cond_both (spec.all_inside sides ws) (spec.cut_largest (spec.largest_ratio sides ws) sides ws)
-        sides P
+    sides P
     (λ f. cut_some_out (spec.largest_ratio sides ws) sides ws vs f g) (λ _. g)
 
 pub stays_out : (sides : List Side) (earlier : List (List F2Dot14)) (vs : List F2Dot14)
@@ -146,7 +147,7 @@ out_where_not_inside (side ∷ sides) (q ∷ qs) [] p a e = absurd a
 out_where_not_inside (side ∷ sides) (q ∷ qs) (v ∷ vs) p a e =
     ⊎_elim
     (λ h. or_left (is_out side v) (some_out sides vs)
-        (out_of_side side.0.0 side.1.0 side.2.0 v.0 (is_active_same side q v p.0 a.0) h))
+    (out_of_side side.0.0 side.1.0 side.2.0 v.0 (is_active_same side q v p.0 a.0) h))
     (λ h. or_right (is_out side v) (some_out sides vs) (out_where_not_inside sides qs vs p.1 a.1 h))
     (and_cases (spec.is_inside side v) (spec.all_inside sides vs) e)
 
@@ -180,9 +181,9 @@ not_less x y e = grind (arith, ints)
 axis_ratio_at_peak : (side : Side) (v : F2Dot14) → v.0 ≡ side.1.0 → spec.axis_ratio side v ≡ (0, 1)
 axis_ratio_at_peak side v e =
     neither (int_lt v.0 side.1.0) (int_lt side.1.0 v.0)
-        (spec.distance side.1 v, spec.distance side.1 side.0)
-        (spec.distance v side.1, spec.distance side.2 side.1) (0, 1) (not_less v.0 side.1.0 e)
-        (not_less side.1.0 v.0 (sym e))
+    (spec.distance side.1 v, spec.distance side.1 side.0)
+    (spec.distance v side.1, spec.distance side.2 side.1) (0, 1) (not_less v.0 side.1.0 e)
+    (not_less side.1.0 v.0 (sym e))
 
 same_number : (x y : ℤ) → int_eq x y ≡ true → x ≡ y
 same_number x y e = grind (arith, ints)
@@ -205,7 +206,7 @@ own_hit largest final side v e f =
     cc)
     (λ h. h) (cases_Bool (int_eq v.0 side.1.0)) in
     let least : spec.is_less (spec.axis_ratio side v) final
-        ≡ false = ap (spec.is_less (spec.axis_ratio side v)) f ∙ no_less (spec.axis_ratio side v) in
+    ≡ false = ap (spec.is_less (spec.axis_ratio side v)) f ∙ no_less (spec.axis_ratio side v) in
     both_not (int_eq v.0 side.1.0) (spec.is_less (spec.axis_ratio side v) final) apart least
 
 which : (b : Bool) (largest x final : ℕ × ℕ) → final ≡ cond b x largest
@@ -224,10 +225,10 @@ reached largest (side ∷ sides) (v ∷ vs) =
     ⊎_elim
     (λ h. ⊎_elim
     (λ g. inr (or_left (is_hit final side v) (some_hit final sides vs)
-        (own_hit largest final side v g.0 g.1)))
+    (own_hit largest final side v g.0 g.1)))
     (λ g. inl g)
     (which (spec.is_less largest (spec.axis_ratio side v)) largest (spec.axis_ratio side v) final
-        h))
+    h))
     (λ h. inr (or_right (is_hit final side v) (some_hit final sides vs) h))
     (reached next sides vs)
 
@@ -244,10 +245,10 @@ all_hit (side ∷ sides) (q ∷ qs) [] p d = cc
 all_hit (side ∷ sides) (q ∷ qs) (v ∷ vs) p d =
     ⊎_elim
     (λ h. let apart : int_eq v.0 side.1.0 ≡ false = ap (int_eq v.0) p.0
-        ∙ not_same (int_eq v.0 q.0) h in
+    ∙ not_same (int_eq v.0 q.0) h in
     or_left (is_hit (0, 1) side v) (some_hit (0, 1) sides vs)
     (both_not (int_eq v.0 side.1.0) (spec.is_less (spec.axis_ratio side v) (0, 1)) apart
-        (not_below_zero (spec.axis_ratio side v))))
+    (not_below_zero (spec.axis_ratio side v))))
     (λ h. or_right (is_hit (0, 1) side v) (some_hit (0, 1) sides vs) (all_hit sides qs vs p.1 h))
     (or_cases (not (int_eq v.0 q.0)) (differs qs vs) d)
 
@@ -255,7 +256,7 @@ hit_somewhere : (sides : List Side) (place vs : List F2Dot14) → Peaks sides pl
     → differs place vs ≡ true → some_hit (spec.largest_ratio sides vs) sides vs ≡ true
 hit_somewhere sides place vs p d =
     ⊎_elim (λ h. ap (λ largest. some_hit largest sides vs) h ∙ all_hit sides place vs p d) (λ h. h)
-        (reached (0, 1) sides vs)
+    (reached (0, 1) sides vs)
 
 -- where it is cut, the region ends
 cut_where : (P : Side → Type 0) (a b c : Bool) (side : Side) (w : F2Dot14) → a ≡ false
@@ -287,11 +288,11 @@ hit_out : (largest : ℕ × ℕ) (side : Side) (v : F2Dot14) → spec.is_inside 
 hit_out largest side v f g =
     let P : Side → Type 0 = λ s. is_out s v ≡ true in
     let both = and_parts (not (int_eq v.0 side.1.0))
-        (not (spec.is_less (spec.axis_ratio side v) largest)) g in
+    (not (spec.is_less (spec.axis_ratio side v) largest)) g in
     let apart = not_same (int_eq v.0 side.1.0) both.0 in
     let strong = not_same (spec.is_less (spec.axis_ratio side v) largest) both.1 in
     cut_where P (spec.is_less (spec.axis_ratio side v) largest) (int_lt v.0 side.1.0)
-        (int_lt side.1.0 v.0) side v strong
+    (int_lt side.1.0 v.0) side v strong
     (λ h. ends_below side.0.0 side.1.0 side.2.0 v.0 f h)
     (λ h. ends_above side.0.0 side.1.0 side.2.0 v.0 f h)
     (λ h k. absurd (one_side side.1.0 v.0 apart h k))
@@ -305,9 +306,9 @@ hit_some_out largest (side ∷ sides) (v ∷ vs) f g =
     let both = and_parts (spec.is_inside side v) (spec.all_inside sides vs) f in
     ⊎_elim
     (λ h. or_left (is_out (spec.cut_at_least largest side v) v)
-        (some_out (spec.cut_largest largest sides vs) vs) (hit_out largest side v both.0 h))
+    (some_out (spec.cut_largest largest sides vs) vs) (hit_out largest side v both.0 h))
     (λ h. or_right (is_out (spec.cut_at_least largest side v) v)
-        (some_out (spec.cut_largest largest sides vs) vs) (hit_some_out largest sides vs both.1 h))
+    (some_out (spec.cut_largest largest sides vs) vs) (hit_some_out largest sides vs both.1 h))
     (or_cases (is_hit largest side v) (some_hit largest sides vs) g)
 
 -- a place that takes away from a region is out of it then
@@ -316,7 +317,7 @@ narrowed_out : (sides : List Side) (place vs : List F2Dot14) → Peaks sides pla
 narrowed_out sides place vs p a d =
     let P : List Side → Type 0 = λ s. some_out s vs ≡ true in
     cond_both (spec.all_inside sides vs) (spec.cut_largest (spec.largest_ratio sides vs) sides vs)
-        sides P
+    sides P
     (λ f. hit_some_out (spec.largest_ratio sides vs) sides vs f (hit_somewhere sides place vs p d))
     (λ f. out_where_not_inside sides place vs p a f)
 
@@ -329,4 +330,4 @@ becomes_out sides (other ∷ rest) place zero h p a d =
     stays_out (spec.narrowed sides other) rest other (narrowed_out sides place other p a d)
 becomes_out sides (other ∷ rest) place (suc i) h p a d =
     becomes_out (spec.narrowed sides other) rest place i (omega arith)
-        (narrowed_Peaks sides other place p) a d
+    (narrowed_Peaks sides other place p) a d

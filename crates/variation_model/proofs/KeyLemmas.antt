@@ -1,7 +1,7 @@
 -- Different places have different keys, and one of two different keys is less.
-use Rattle.std.proofs.Common.{Ordering, Less, Equal, Greater, ◌≡◌, ℕ, ◌+◌, ◌≤◌, Bool, true, false,
-    cond, not, ◌⊎◌, inl, inr, ⊎_elim, List, [], ◌∷◌, ◌++◌, refl, sym, ap, ◌∙◌, arith, length, map,
-    ℤ, pos, negsuc}
+use Rattle.std.proofs.Common.{Ordering, Less, Equal, Greater, ◌≡◌, ℕ, ◌+◌, ◌≤◌, Bool, true, false}
+use Rattle.std.proofs.Common.{cond, not, ◌⊎◌, inl, inr, ⊎_elim, List, [], ◌∷◌, ◌++◌, refl, sym, ap}
+use Rattle.std.proofs.Common.{◌∙◌, arith, length, map, ℤ, pos, negsuc}
 use Rattle.std.proofs.lemmas.Int.{ints}
 use Rattle.std.proofs.lemmas.Bool.{cases_Bool}
 use Rattle.std.proofs.lemmas.Bool.Decides.{nat_tests}
@@ -11,8 +11,8 @@ use Rattle.std.proofs.lemmas.Map.Text.{is_eq-slice_cmp}
 use Rattle.std.proofs.lemmas.Slice.Eq.{bytes_eq-Decides}
 use Rattle.std.specs.Prelude.{int_lt, filter, unsigned_abs, count_by}
 use Rattle.std.specs.List.{enumerate_from}
-use Rattle.std.specs.Ordering.{nat_cmp, is_lt, is_gt, is_eq, ordering_then, ordering_reverse,
-    int_eq}
+use Rattle.std.specs.Ordering.{nat_cmp, is_lt, is_gt, is_eq, ordering_then, ordering_reverse}
+use Rattle.std.specs.Ordering.{int_eq}
 use Rattle.std.specs.Cmp.Lexicographic.{slice_cmp}
 use Rattle.fixed_math.specs.declared.F2Dot14.{F2Dot14}
 use Rattle.variation_model.specs.Places as spec
@@ -139,8 +139,8 @@ same_active n [] (v ∷ vs) e f = absurd (omega arith)
 same_active n (p ∷ ps) [] e f = absurd (omega arith)
 same_active n (p ∷ ps) (v ∷ vs) e f =
     let kept = both_kept (int_eq p.0 (pos 0)) (int_eq v.0 (pos 0)) (n, p) (n, v)
-        (active_from (n + 1) ps) (active_from (n + 1) vs)
-        (not_first n vs p (active_from (n + 1) ps)) (not_first n ps v (active_from (n + 1) vs)) f in
+    (active_from (n + 1) ps) (active_from (n + 1) vs)
+    (not_first n vs p (active_from (n + 1) ps)) (not_first n ps v (active_from (n + 1) vs)) f in
     let others : ps ≡ vs = same_active (n + 1) ps vs (omega arith) kept.1 in
     let own : p ≡ v =
     ⊎_elim (λ h. ap number (both_zero p.0 v.0 h (sym kept.0 ∙ h)))
@@ -156,12 +156,12 @@ same_key_among on_axis a b e =
     let axes_a = map (λ c. c.0) a in let axes_b = map (λ c. c.0) b in
     let signs_a = map spec.sign_of a in let signs_b = map spec.sign_of b in
     let sizes_a = map (λ c. unsigned_abs c.1.0) a in let sizes_b = map (λ c. unsigned_abs c.1.0) b
-        in
+    in
     let all : axes_a ++ (signs_a ++ sizes_a) ≡ axes_b ++ (signs_b ++ sizes_b) = cc in
     let by_axes = parts axes_a axes_b (signs_a ++ sizes_a) (signs_b ++ sizes_b)
-        (length-map a (λ c. c.0) ∙ long ∙ sym (length-map b (λ c. c.0))) all in
+    (length-map a (λ c. c.0) ∙ long ∙ sym (length-map b (λ c. c.0))) all in
     let by_signs = parts signs_a signs_b sizes_a sizes_b
-        (length-map a spec.sign_of ∙ long ∙ sym (length-map b spec.sign_of)) by_axes.1 in
+    (length-map a spec.sign_of ∙ long ∙ sym (length-map b spec.sign_of)) by_axes.1 in
     same_coordinates a b by_axes.0 by_signs.0 by_signs.1
 
 pub same_key : (places : List (List F2Dot14)) (x y : List F2Dot14) → length x ≡ length y
@@ -184,13 +184,13 @@ fewer_first x y xs ys e = not_above x y (not_after (nat_cmp x y) (compared xs ys
 abbrev rest_of_key : List (ℕ × F2Dot14) → List (ℕ × F2Dot14) → List ℕ
 rest_of_key on_axis coordinates =
     count_by (λ c. not (spec.is_on_axis on_axis c)) coordinates
-        ∷ (map (λ c. c.0) coordinates ++ (map spec.sign_of coordinates
-        ++ map (λ c. unsigned_abs c.1.0) coordinates))
+    ∷ (map (λ c. c.0) coordinates ++ (map spec.sign_of coordinates
+    ++ map (λ c. unsigned_abs c.1.0) coordinates))
 
 pub no_more_active : (places : List (List F2Dot14)) (x y : List F2Dot14)
     → spec.is_less_key (spec.key places x) (spec.key places y) ≡ true
     → length (spec.active x) ≤ length (spec.active y)
 no_more_active places x y e =
     fewer_first (length (spec.active x)) (length (spec.active y))
-        (rest_of_key (spec.all_on_axis places) (spec.active x))
-        (rest_of_key (spec.all_on_axis places) (spec.active y)) e
+    (rest_of_key (spec.all_on_axis places) (spec.active x))
+    (rest_of_key (spec.all_on_axis places) (spec.active y)) e

@@ -1,6 +1,6 @@
 -- What the laws of places give of a model.
-use Rattle.std.proofs.Common.{◌≡◌, ℕ, ◌<◌, ◌≤◌, List, [], ◌∷◌, ◌++◌, refl, sym, ap, subst, ◌∙◌,
-    arith, length, map, ℤ, ◌-ℤ◌}
+use Rattle.std.proofs.Common.{◌≡◌, ℕ, ◌<◌, ◌≤◌, List, [], ◌∷◌, ◌++◌, refl, sym, ap, subst, ◌∙◌}
+use Rattle.std.proofs.Common.{arith, length, map, ℤ, ◌-ℤ◌}
 use Rattle.std.proofs.lemmas.List.{length-map}
 use Rattle.std.specs.Prelude.{unsigned_abs, IfOk, Result, Ok, Err, Vec}
 use Rattle.std.specs.declared.alloc.Global.{Global}
@@ -10,11 +10,11 @@ use Rattle.fixed_math.specs.FixedPoint.{half_up}
 use Rattle.font_ir.specs.declared.variation.Region.{Region}
 use Rattle.variation_model.specs.Places.{place_at, order_of, ordered, ArePlaces}
 use Rattle.variation_model.specs.Supports.{supports_of}
-use Rattle.variation_model.specs.Deltas.{GivesDeltas, value_of, deltas_after, deltas_of,
-    value_at_place}
+use Rattle.variation_model.specs.Deltas.{GivesDeltas, value_of, deltas_after, deltas_of}
+use Rattle.variation_model.specs.Deltas.{value_at_place}
 use Rattle.variation_model.specs.declared.errors.DeltaError.{DeltaError}
-use Rattle.variation_model.specs.Laws.{IsEachWhatIsLacking, IsInOrder, LaterSupportsCountNothing,
-    MeetWithinHalf}
+use Rattle.variation_model.specs.Laws.{IsEachWhatIsLacking, IsInOrder, LaterSupportsCountNothing}
+use Rattle.variation_model.specs.Laws.{MeetWithinHalf}
 use Rattle.variation_model.proofs.ModelLemmas.{length-ordered}
 use Rattle.variation_model.proofs.OwnSupports.{own_supports}
 use Rattle.variation_model.proofs.LaterSupports.{later_supports}
@@ -44,7 +44,7 @@ meets_at places values i deltas at value are e h f g =
     let P : ℤ → Type 0 = λ z. unsigned_abs (z -ℤ value_at_place values i) ≤ 32768 in
     let same : value ≡ value_of (supports_of places) (deltas_of places values) (place_at places i) =
     g ∙ ap (λ (ds : List ℤ). value_of (supports_of places) ds at) e
-        ∙ ap (λ (v : List F2Dot14). value_of (supports_of places) (deltas_of places values) v) f in
+    ∙ ap (λ (v : List F2Dot14). value_of (supports_of places) (deltas_of places values) v) f in
     subst P (sym same) (places_meet places values are i h)
 
 pub given_deltas_meet : (result : Result (Vec ℤ Global) DeltaError) (places : List (List F2Dot14))
@@ -82,7 +82,7 @@ length-deltas_of places values =
     let many : length (map (value_at_place values) order) ≡ length (ordered places) =
     length-map order (value_at_place values) ∙ sym (length-map order (place_at places)) in
     length-deltas_after (supports_of places) [] (ordered places) (map (value_at_place values) order)
-        many ∙ length-ordered places
+    many ∙ length-ordered places
 
 pub given_as_many : (result : Result (Vec ℤ Global) DeltaError) (places : List (List F2Dot14))
     (values : List Fixed) → GivesDeltas result (deltas_of places values)

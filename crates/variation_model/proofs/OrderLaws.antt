@@ -1,6 +1,6 @@
 -- The order names each place once, and each place comes before those after it.
-use Rattle.std.proofs.Common.{◌≡◌, ◌≢◌, ℕ, ◌<◌, true, inl, inr, ⊎_elim, nat_lt, ◌==◌, List, [], sym,
-    ap, ◌∙◌, arith, length, get_or, Some, None}
+use Rattle.std.proofs.Common.{◌≡◌, ◌≢◌, ℕ, ◌<◌, true, inl, inr, ⊎_elim, nat_lt, ◌==◌, List, [], sym}
+use Rattle.std.proofs.Common.{ap, ◌∙◌, arith, length, get_or, Some, None}
 use Rattle.std.proofs.lemmas.Bool.{cases_Bool, cases_order, cases_lt, lt-ltb, eq-eqb, cond-true}
 use Rattle.std.proofs.lemmas.Bool.Decides.{nat_tests}
 use Rattle.std.proofs.lemmas.List.{get_or-map, get_or_default, length-map}
@@ -10,11 +10,11 @@ use Rattle.std.specs.List.{position_or_len}
 use Rattle.fixed_math.specs.declared.F2Dot14.{F2Dot14}
 use Rattle.variation_model.specs.Places as spec
 use Rattle.variation_model.specs.Laws.{comes_before, IsOrder, IsInOrder}
-use Rattle.variation_model.proofs.RankLemmas.{rank, rank_grows, rank_rises, rank_below, AllDiffer,
-    ranked}
+use Rattle.variation_model.proofs.RankLemmas.{rank, rank_grows, rank_rises, rank_below, AllDiffer}
+use Rattle.variation_model.proofs.RankLemmas.{ranked}
 use Rattle.variation_model.proofs.KeyLemmas.{less_key_IsStrict, same_key}
-use Rattle.variation_model.proofs.ModelLemmas.{length-order_of, order_of-within, order_of-at,
-    length-ranks}
+use Rattle.variation_model.proofs.ModelLemmas.{length-order_of, order_of-within, order_of-at}
+use Rattle.variation_model.proofs.ModelLemmas.{length-ranks}
 
 pub comes_before_IsOrder : (places : List (List F2Dot14)) → IsOrder (comes_before places)
 comes_before_IsOrder places = record {
@@ -25,7 +25,7 @@ comes_before_IsOrder places = record {
       ⊎_elim (λ e. inl e)
       (λ e. ⊎_elim (λ f. inr f)
       (λ f. absurd (apart (same_key places x y h
-          (less_key_IsStrict.total (spec.key places x) (spec.key places y) e f))))
+      (less_key_IsStrict.total (spec.key places x) (spec.key places y) e f))))
       (cases_Bool (comes_before places y x)))
       (cases_Bool (comes_before places x y));
 }
@@ -50,9 +50,9 @@ of_rank-found numbers k i h e =
     let within = found numbers k i h e in
     let is_place : spec.of_rank numbers k ≡ place =
     ap (λ o. unwrap_or o 0) (cond-true (nat_lt place (length numbers)) (Some place) None
-        (lt-ltb place (length numbers) within)) in
+    (lt-ltb place (length numbers) within)) in
     ap (λ n. get_or numbers n 0) is_place ∙ is_number (get_or numbers place 0) k
-        (passes_at_first (λ n. n == k) numbers 0 within)
+    (passes_at_first (λ n. n == k) numbers 0 within)
 
 -- keys of different places differ
 length-keys : (places : List (List F2Dot14)) → length (spec.keys_of places) ≡ length places
@@ -72,7 +72,7 @@ keys_differ places one_length different i j h k e =
     let same : spec.key places (spec.place_at places i) ≡ spec.key places (spec.place_at places j) =
     sym (key_at places i first) ∙ e ∙ key_at places j second in
     different i j h second (same_key places (spec.place_at places i) (spec.place_at places j)
-        (one_length i first ∙ sym (one_length j second)) same)
+    (one_length i first ∙ sym (one_length j second)) same)
 
 -- the rank of a place
 rank_at : (places : List (List F2Dot14)) (i : ℕ) → i < length places
@@ -87,12 +87,12 @@ rank_of-order : (places : List (List F2Dot14)) (k : ℕ) → AllDiffer (spec.key
     → k < length places → get_or (spec.ranks places) (get_or (spec.order_of places) k 0) 0 ≡ k
 rank_of-order places k differ h =
     let has = ranked spec.is_less_key less_key_IsStrict (spec.keys_of places) [] k differ
-        (omega (arith, length-keys places)) in
+    (omega (arith, length-keys places)) in
     let i = has.0 in
     let within : i < length places = omega (arith, length-keys places, has.1) in
     let there : i < length (spec.ranks places) = omega (arith, length-ranks places) in
     ap (λ n. get_or (spec.ranks places) n 0) (order_of-at places k 0 h)
-        ∙ of_rank-found (spec.ranks places) k i there (rank_at places i within ∙ has.2)
+    ∙ of_rank-found (spec.ranks places) k i there (rank_at places i within ∙ has.2)
 
 -- a place of lower rank comes before
 lower_first : (places : List (List F2Dot14)) (i j : ℕ) → i < length places → j < length places
@@ -103,19 +103,19 @@ lower_first places i j h k l =
     let first = get_or keys i [] in
     let second = get_or keys j [] in
     let ranks_rise : rank spec.is_less_key keys first < rank spec.is_less_key keys second
-        = omega (arith, rank_at places i h, rank_at places j k) in
+    = omega (arith, rank_at places i h, rank_at places j k) in
     let less : spec.is_less_key first second ≡ true =
     ⊎_elim (λ e. e)
     (λ e. ⊎_elim
     (λ f. let grows = rank_grows spec.is_less_key less_key_IsStrict keys second first f
-        in absurd (omega arith))
+    in absurd (omega arith))
     (λ f. let same = ap (rank spec.is_less_key keys) (less_key_IsStrict.total first second e f)
-        in absurd (omega arith))
+    in absurd (omega arith))
     (cases_Bool (spec.is_less_key second first)))
     (cases_Bool (spec.is_less_key first second)) in
     ap (λ x. spec.is_less_key x (spec.key places (spec.place_at places j)))
-        (sym (key_at places i h)) ∙ ap (λ y. spec.is_less_key first y) (sym (key_at places j k))
-        ∙ less
+    (sym (key_at places i h)) ∙ ap (λ y. spec.is_less_key first y) (sym (key_at places j k))
+    ∙ less
 
 -- two places of one rank are one
 one_rank : (places : List (List F2Dot14)) (i j : ℕ) → AllDiffer (spec.keys_of places) []
@@ -127,14 +127,14 @@ one_rank places i j differ h k e =
     let second = get_or keys j [] in
     let in_keys : length keys ≡ length places = length-keys places in
     let ranks_same : rank spec.is_less_key keys first
-        ≡ rank spec.is_less_key keys second = sym (rank_at places i h) ∙ e ∙ rank_at places j k in
+    ≡ rank spec.is_less_key keys second = sym (rank_at places i h) ∙ e ∙ rank_at places j k in
     let same : first ≡ second =
     ⊎_elim
     (λ f. let rises = rank_rises spec.is_less_key less_key_IsStrict keys i [] second (omega arith) f
-        in absurd (omega arith))
+    in absurd (omega arith))
     (λ f. ⊎_elim
     (λ g. let rises = rank_rises spec.is_less_key less_key_IsStrict keys j [] first (omega arith) g
-        in absurd (omega arith))
+    in absurd (omega arith))
     (λ g. less_key_IsStrict.total first second f g)
     (cases_Bool (spec.is_less_key second first)))
     (cases_Bool (spec.is_less_key first second)) in
@@ -149,7 +149,7 @@ rank_within : (places : List (List F2Dot14)) (i : ℕ) → i < length places
     → get_or (spec.ranks places) i 0 < length places
 rank_within places i h =
     let below = rank_below spec.is_less_key less_key_IsStrict (spec.keys_of places) i []
-        (omega (arith, length-keys places)) in
+    (omega (arith, length-keys places)) in
     omega (arith, rank_at places i h, length-keys places, below)
 
 -- each place is named at its rank
@@ -162,7 +162,7 @@ named places i differ h =
     let there : k < length order = omega (arith, length-order_of places) in
     let within : get_or order k 0 < length places = order_of-within places k 0 there in
     let same : get_or order k 0 ≡ i = one_rank places (get_or order k 0) i differ within h
-        (rank_of-order places k differ below) in
+    (rank_of-order places k differ below) in
     let here : get_or order k i ≡ i = get_or_default order k i 0 there ∙ same in
     (k, there, here)
 
@@ -177,7 +177,7 @@ order_IsInOrder places one_length different =
     let at : (k : ℕ) → k < length places → get_or order k 0 < length places =
     λ k h. order_of-within places k 0 (omega arith) in
     let rank_is : (k : ℕ) → k < length places
-        → get_or (spec.ranks places) (get_or order k 0) 0 ≡ k =
+    → get_or (spec.ranks places) (get_or order k 0) 0 ≡ k =
     λ k h. rank_of-order places k differ h in
     record {
       as_many = many;
@@ -192,5 +192,5 @@ order_IsInOrder places one_length different =
           let low = rank_is j (omega arith) in
           let high = rank_is k h in
           lower_first places (get_or order j 0) (get_or order k 0) (at j (omega arith)) (at k h)
-              (omega arith);
+          (omega arith);
     }

@@ -1,6 +1,7 @@
 -- How the places' numbers come from their keys.
-use Rattle.std.proofs.Common.{◌≡◌, ℕ, ◌+◌, ◌<◌, Bool, true, false, cond, nat_lt, ◌==◌, List, [],
-    ◌∷◌, ◌++◌, refl, sym, ap, ◌∙◌, arith, length, get_or, map, take, Some, None}
+use Rattle.std.proofs.Common.{◌≡◌, ℕ, ◌+◌, ◌<◌, Bool, true, false, cond, nat_lt, ◌==◌, List, []}
+use Rattle.std.proofs.Common.{◌∷◌, ◌++◌, refl, sym, ap, ◌∙◌, arith, length, get_or, map, take, Some}
+use Rattle.std.proofs.Common.{None}
 use Rattle.std.proofs.lemmas.List.{map-append, take_more}
 use Rattle.std.proofs.lemmas.Simd.{map-map}
 use Rattle.std.proofs.lemmas.List.Sums.{sum-map}
@@ -25,10 +26,17 @@ keys_more places i place slice coordinates coordinates' on_axis on_axis' key don
     found same on_axis_coordinate same_on_axis made f g =
     let own : key.items ≡ spec.key places (get_or places i place) =
     made ∙ ap (λ l. spec.key_among l coordinates') (same_on_axis ∙ on_axis_coordinate)
-        ∙ ap (λ cs. spec.key_among (spec.all_on_axis places) cs) (same ∙ found)
-        ∙ ap (λ v. spec.key places v) (at_slice ∙ at) in
-    rw (g, map-append (λ k. k.items) done (key ∷ []), take_more places i place h, map-append
-        (spec.key places) (take i places) (get_or places i place ∷ []), f, own)
+    ∙ ap (λ cs. spec.key_among (spec.all_on_axis places) cs) (same ∙ found)
+    ∙ ap (λ v. spec.key places v) (at_slice ∙ at) in
+    rw (
+      g,
+      map-append (λ k. k.items) done (key ∷ []),
+      take_more places i place h,
+      map-append
+          (spec.key places) (take i places) (get_or places i place ∷ []),
+      f,
+      own,
+    )
 
 -- and the one that counts them
 pub ranks_more : (keys : List (Vec ℕ Global)) (i : ℕ) (key : Vec ℕ Global) (slice : List ℕ)
@@ -40,20 +48,20 @@ pub ranks_more : (keys : List (Vec ℕ Global)) (i : ℕ) (key : Vec ℕ Global)
     (take (i + 1) keys)
 ranks_more keys i key slice done next x h at at_slice made f g =
     let count : Vec ℕ Global → ℕ = λ k. count_by (λ other. spec.is_less_key other.items k.items)
-        keys in
+    keys in
     let own : x ≡ count (get_or keys i key) =
     made ∙ ap (λ s. count_by (λ other. spec.is_less_key other.items s) keys) at_slice ∙ ap count at
-        in
+    in
     g ∙ ap (λ l. l ++ x ∷ []) f ∙ ap (λ n. map count (take i keys) ++ n ∷ []) own
-        ∙ sym (map-append count (take i keys) (get_or keys i key ∷ []))
-        ∙ ap (map count) (sym (take_more keys i key h))
+    ∙ sym (map-append count (take i keys) (get_or keys i key ∷ []))
+    ∙ ap (map count) (sym (take_more keys i key h))
 
 counted : {X Z : Type 0} (view : X → Z) (p : Z → Bool) (xs : List X)
     → count_by (λ x. p (view x)) xs ≡ count_by p (map view xs)
 counted view p xs =
     sym (sum-map (λ x. cond (p (view x)) 1 0) xs)
-        ∙ ap sum (sym (map-map (λ z. cond (p z) 1 0) view xs))
-        ∙ sum-map (λ z. cond (p z) 1 0) (map view xs)
+    ∙ ap sum (sym (map-map (λ z. cond (p z) 1 0) view xs))
+    ∙ sum-map (λ z. cond (p z) 1 0) (map view xs)
 
 all_counted : (view : Vec ℕ Global → List ℕ) (all xs : List (Vec ℕ Global))
     → map (λ key. count_by (λ other. spec.is_less_key (view other) (view key)) all) xs
@@ -61,8 +69,8 @@ all_counted : (view : Vec ℕ Global → List ℕ) (all xs : List (Vec ℕ Globa
 all_counted view all [] = refl
 all_counted view all (x ∷ xs) =
     ap (λ n. n ∷ map (λ key. count_by (λ other. spec.is_less_key (view other) (view key)) all) xs)
-        (counted view (λ other. spec.is_less_key other (view x)) all)
-        ∙ ap (λ ns. spec.rank_among (map view all) (view x) ∷ ns) (all_counted view all xs)
+    (counted view (λ other. spec.is_less_key other (view x)) all)
+    ∙ ap (λ ns. spec.rank_among (map view all) (view x) ∷ ns) (all_counted view all xs)
 
 pub ranks_from_keys : (places : List (List F2Dot14)) (keys : List (Vec ℕ Global)) (numbers : List ℕ)
     → map (λ key. key.items) keys ≡ map (spec.key places) places
@@ -70,7 +78,7 @@ pub ranks_from_keys : (places : List (List F2Dot14)) (keys : List (Vec ℕ Globa
     → numbers ≡ spec.ranks places
 ranks_from_keys places keys numbers e g =
     g ∙ all_counted (λ key. key.items) keys keys
-        ∙ ap (λ (ks : List (List ℕ)). map (spec.rank_among ks) ks) e
+    ∙ ap (λ (ks : List (List ℕ)). map (spec.rank_among ks) ks) e
 
 chosen : (b : Bool) (i n : ℕ) → 0 < n → (b ≡ true → i < n) → unwrap_or (cond b (Some i) None) 0 < n
 chosen true i n h f = f refl
@@ -81,8 +89,8 @@ pub position_within : (numbers : List ℕ) (k : ℕ) → k < length numbers
     → spec.of_rank numbers k < length numbers
 position_within numbers k h =
     chosen (nat_lt (position_or_len (λ number. number == k) numbers) (length numbers))
-        (position_or_len (λ number. number == k) numbers) (length numbers) (omega arith)
-        (λ e. grind (arith, nat_tests))
+    (position_or_len (λ number. number == k) numbers) (length numbers) (omega arith)
+    (λ e. grind (arith, nat_tests))
 
 -- a loop's step over numbers
 pub ranged_more : (f : ℕ → ℕ) (xs : List ℕ) (k x : ℕ) → xs ≡ map f (range_with_len 0 k) → x ≡ f k

@@ -1,6 +1,6 @@
 -- Each region has its place as its peak, so that its scalar is one there.
-use Rattle.std.proofs.Common.{◌≡◌, ℕ, zero, suc, ◌+◌, ◌<◌, Bool, true, false, cond, ◌||◌, List, [],
-    ◌∷◌, ◌++◌, refl, ap, ◌∙◌, arith, length, ℤ, pos}
+use Rattle.std.proofs.Common.{◌≡◌, ℕ, zero, suc, ◌+◌, ◌<◌, Bool, true, false, cond, ◌||◌, List, []}
+use Rattle.std.proofs.Common.{◌∷◌, ◌++◌, refl, ap, ◌∙◌, arith, length, ℤ, pos}
 use Rattle.std.proofs.lemmas.Int.{ints}
 use Rattle.std.proofs.lemmas.Bool.{cond-true}
 use Rattle.std.proofs.lemmas.List.{length-map}
@@ -41,7 +41,7 @@ whole_from before [] place p = refl
 whole_from before (side ∷ sides) [] p = refl
 whole_from before (side ∷ sides) (v ∷ vs) p =
     whole_from (product before (axis_scalar side v)) sides vs p.1
-        ∙ ap (product before) (one_on_axis side v p.0) ∙ product_one_right before
+    ∙ ap (product before) (one_on_axis side v p.0) ∙ product_one_right before
 
 peak_of : (a b : Bool) (peak low high : F2Dot14) → (a ≡ false → b ≡ false → pos 0 ≡ peak.0)
     → (cond {A = Side} a (zero_number, peak, high)
@@ -57,14 +57,16 @@ neither p e f = grind (arith, ints)
 widest_peak : (low : ℤ) (peak : F2Dot14) (high : ℤ) → (spec.widest_side low peak high).1.0 ≡ peak.0
 widest_peak low peak high =
     peak_of (int_lt (pos 0) peak.0) (int_lt peak.0 (pos 0)) peak (record { 0 = low })
-        (record { 0 = high }) (neither peak.0)
+    (record { 0 = high }) (neither peak.0)
 
 pub widest_Peaks : (places : List (List F2Dot14)) (axis : ℕ) (place : List F2Dot14)
     → Peaks (spec.widest_from places axis place) place
 widest_Peaks places axis [] = tt
-widest_Peaks places axis (v ∷ vs) =
-    (widest_peak (spec.least places axis) v (spec.greatest places axis), widest_Peaks places
-        (axis + 1) vs)
+widest_Peaks places axis (v ∷ vs) = (
+  widest_peak (spec.least places axis) v (spec.greatest places axis),
+  widest_Peaks places
+      (axis + 1) vs,
+)
 
 same_peak : (a b c : Bool) (side : Side) (v : F2Dot14)
     → (cond {A = Side} a side (cond {A = Side} b (v, side.1, side.2)
@@ -78,7 +80,7 @@ cut_peak : (largest : ℕ × ℕ) (side : Side) (v : F2Dot14)
     → (spec.cut_at_least largest side v).1.0 ≡ side.1.0
 cut_peak largest side v =
     same_peak (spec.is_less (spec.axis_ratio side v) largest) (int_lt v.0 side.1.0)
-        (int_lt side.1.0 v.0) side v
+    (int_lt side.1.0 v.0) side v
 
 pub cut_Peaks : (largest : ℕ × ℕ) (sides : List Side) (other place : List F2Dot14)
     → Peaks sides place → Peaks (spec.cut_largest largest sides other) place
@@ -97,7 +99,7 @@ pub narrowed_Peaks : (sides : List Side) (other place : List F2Dot14) → Peaks 
     → Peaks (spec.narrowed sides other) place
 narrowed_Peaks sides other place p =
     either_Peaks (spec.all_inside sides other)
-        (spec.cut_largest (spec.largest_ratio sides other) sides other) sides place
+    (spec.cut_largest (spec.largest_ratio sides other) sides other) sides place
     (cut_Peaks (spec.largest_ratio sides other) sides other place p) p
 
 fold_Peaks : (sides : List Side) (earlier : List (List F2Dot14)) (place : List F2Dot14)
@@ -124,4 +126,4 @@ pub own_supports : (places : List (List F2Dot14)) → OwnSupportsCountWhole plac
 unfolding spec.supports_of
 own_supports places i h =
     whole_after places [] (ordered places) i
-        (omega (arith, length-map (order_of places) (place_at places), length-order_of places))
+    (omega (arith, length-map (order_of places) (place_at places), length-order_of places))

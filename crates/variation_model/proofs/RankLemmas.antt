@@ -1,7 +1,8 @@
 -- Ranks by counting: of items that all differ, each number below how many there are is the rank of
 -- one.
-use Rattle.std.proofs.Common.{◌≡◌, ◌≢◌, ℕ, zero, suc, ◌+◌, ◌-◌, ◌<◌, ◌≤◌, Bool, true, false, cond,
-    ⊎_elim, List, [], ◌∷◌, refl, sym, arith, length, get_or, count_by, subst}
+use Rattle.std.proofs.Common.{◌≡◌, ◌≢◌, ℕ, zero, suc, ◌+◌, ◌-◌, ◌<◌, ◌≤◌, Bool, true, false, cond}
+use Rattle.std.proofs.Common.{⊎_elim, List, [], ◌∷◌, refl, sym, arith, length, get_or, count_by}
+use Rattle.std.proofs.Common.{subst}
 use Rattle.std.proofs.lemmas.Bool.{cases_Bool, cases_order}
 use Rattle.std.proofs.lemmas.List.Sums.{sum_by-cons, count_by-le-length}
 
@@ -52,7 +53,7 @@ rank_rises less laws (x ∷ xs) zero d y h e =
     omega (arith, rank-cons less x xs x, rank-cons less x xs y, none, one, others)
 rank_rises less laws (x ∷ xs) (suc i) d y h e =
     let own = flag_grows (less x (get_or xs i d)) (less x y)
-        (λ f. laws.transitive x (get_or xs i d) y f e) in
+    (λ f. laws.transitive x (get_or xs i d) y f e) in
     let others = rank_rises less laws xs i d y (omega arith) e in
     omega (arith, rank-cons less x xs (get_or xs i d), rank-cons less x xs y, own, others)
 
@@ -85,7 +86,7 @@ below_first less laws y xs d k h r =
     let x = get_or xs r.0 d in
     let not_less : less y x ≡ false =
     ⊎_elim (λ e. let grows = rank_grows less laws xs y x e in absurd (omega (arith, r.2))) (λ e. e)
-        (cases_Bool (less y x)) in
+    (cases_Bool (less y x)) in
     let none = flag_false (less y x) not_less in
     let same : rank less (y ∷ xs) x ≡ k = omega (arith, rank-cons less y xs x, r.2, none) in
     let within : suc r.0 < length (y ∷ xs) = omega (arith, r.1) in
@@ -129,6 +130,6 @@ ranked {X} less laws (y ∷ xs) d k f h =
     (λ l. below_first less laws y xs d k l (ranked less laws xs d k others (omega arith)))
     (λ l. let back : k - 1 + 1 ≡ k = omega arith in
     subst P back (above_first less laws y xs d (k - 1) f (omega arith)
-        (ranked less laws xs d (k - 1) others (omega arith))))
+    (ranked less laws xs d (k - 1) others (omega arith))))
     o)
     (cases_order k own)

@@ -1,6 +1,7 @@
 -- The delta that is refused is the first outside an i16.
-use Rattle.std.proofs.Common.{◌≡◌, ℕ, zero, suc, ◌+◌, ◌<◌, true, false, ⊎_elim, List, [], ◌∷◌, sym,
-    ap, ◌∙◌, arith, length, get_or, subst, ℤ, pos, FitsSigned, Some, None, Result, Ok, Err, Vec}
+use Rattle.std.proofs.Common.{◌≡◌, ℕ, zero, suc, ◌+◌, ◌<◌, true, false, ⊎_elim, List, [], ◌∷◌, sym}
+use Rattle.std.proofs.Common.{ap, ◌∙◌, arith, length, get_or, subst, ℤ, pos, FitsSigned, Some, None}
+use Rattle.std.proofs.Common.{Result, Ok, Err, Vec}
 use Rattle.std.proofs.lemmas.Bool.{cases_Bool, cond-true, cond-false}
 use Rattle.std.proofs.lemmas.Int.{ints}
 use Rattle.std.specs.Prelude.{EachIndex}
@@ -68,10 +69,10 @@ first_from n (delta ∷ deltas) at value e =
     ⊎_elim
     (λ h. first_later n delta deltas at value h
     (first_from (n + 1) deltas at value (sym
-        (cond-true (is_storable delta) (first_large (n + 1) deltas) (Some (n, delta)) h) ∙ e)))
+    (cond-true (is_storable delta) (first_large (n + 1) deltas) (Some (n, delta)) h) ∙ e)))
     (λ h. first_here n delta deltas at value h
     (pair_of (n, delta) (at, value) (sym (cond-false (is_storable delta)
-        (first_large (n + 1) deltas) (Some (n, delta)) h) ∙ e)))
+    (first_large (n + 1) deltas) (Some (n, delta)) h) ∙ e)))
     (cases_Bool (is_storable delta))
 
 none_from : (n : ℕ) (deltas : List ℤ) → first_large n deltas ≡ None
@@ -81,9 +82,9 @@ none_from n (delta ∷ deltas) e =
     ⊎_elim
     (λ h. λ k l. fits_before delta deltas (length deltas) (storable_fits delta h)
     (none_from (n + 1) deltas (sym (cond-true (is_storable delta) (first_large (n + 1) deltas)
-        (Some (n, delta)) h) ∙ e)) k l)
+    (Some (n, delta)) h) ∙ e)) k l)
     (λ h. λ k l. let refused = sym (cond-false (is_storable delta) (first_large (n + 1) deltas)
-        (Some (n, delta)) h) ∙ e in cc)
+    (Some (n, delta)) h) ∙ e in cc)
     (cases_Bool (is_storable delta))
 
 refused_first : (e : DeltaError) (deltas : List ℤ) → RefusesDeltas e deltas → RefusesFirst e deltas

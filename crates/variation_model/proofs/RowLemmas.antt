@@ -1,7 +1,7 @@
 -- The scalars that a model keeps, and that deltas formed by them are those that are defined.
-use Rattle.std.proofs.Common.{◌≡◌, ℕ, zero, suc, ◌+◌, ◌*◌, ◌<◌, ◌≤◌, List, [], ◌∷◌, ◌++◌, refl, sym,
-    ap, ◌∙◌, arith, length, get_or, map, take, drop, append_assoc, append-nil, mul-le-mul, ℤ, pos,
-    negsuc, ◌+ℤ◌, ◌-ℤ◌, ◌*ℤ◌, FitsSigned}
+use Rattle.std.proofs.Common.{◌≡◌, ℕ, zero, suc, ◌+◌, ◌*◌, ◌<◌, ◌≤◌, List, [], ◌∷◌, ◌++◌, refl, sym}
+use Rattle.std.proofs.Common.{ap, ◌∙◌, arith, length, get_or, map, take, drop, append_assoc}
+use Rattle.std.proofs.Common.{append-nil, mul-le-mul, ℤ, pos, negsuc, ◌+ℤ◌, ◌-ℤ◌, ◌*ℤ◌, FitsSigned}
 use Rattle.std.proofs.lemmas.Int.{ints, unsigned_abs-mul, fits_signed_from_abs}
 use Rattle.std.proofs.lemmas.List.{get_or_default, length-append, take_more, map-append, drop_all}
 use Rattle.std.specs.Prelude.{unsigned_abs}
@@ -13,12 +13,12 @@ use Rattle.font_ir.specs.declared.variation.Region.{Region}
 use Rattle.variation_model.specs.Places.{place_at}
 use Rattle.variation_model.specs.Scalar.{scalar_of}
 use Rattle.variation_model.specs.Deltas.{deltas_after, value_of}
-use Rattle.variation_model.specs.Parts.{AreSmall, deltas_by, row_at, rows_from, scalar_at,
-    scalars_at, weighted}
+use Rattle.variation_model.specs.Parts.{AreSmall, deltas_by, row_at, rows_from, scalar_at}
+use Rattle.variation_model.specs.Parts.{scalars_at, weighted}
 use Rattle.variation_model.proofs.ScalarLemmas.{scalar_of-IsScalar}
 use Rattle.variation_model.proofs.Steps.{step_both, step_one}
-use Rattle.variation_model.proofs.ValueLemmas.{abs_scalar, abs_small, abs_sum, shifted,
-    shifted_none}
+use Rattle.variation_model.proofs.ValueLemmas.{abs_scalar, abs_small, abs_sum, shifted}
+use Rattle.variation_model.proofs.ValueLemmas.{shifted_none}
 
 pub length-rows_from : (regions : List Region) (n : ℕ) (places : List (List F2Dot14))
     → length (rows_from regions n places) ≡ length places
@@ -34,7 +34,7 @@ row_at-rows_from regions n (place ∷ places) zero h =
 row_at-rows_from regions n (place ∷ places) (suc k) h =
     let next : n + 1 + k ≡ n + suc k = omega arith in
     row_at-rows_from regions (n + 1) places k (omega arith)
-        ∙ ap (λ i. scalars_at (take i regions) (place_at places k)) next
+    ∙ ap (λ i. scalars_at (take i regions) (place_at places k)) next
 
 pub scalars_at-small : (regions : List Region) (place : List F2Dot14)
     → AreSmall (scalars_at regions place)
@@ -62,16 +62,16 @@ deltas_by-rows regions n [] earlier values e = refl
 deltas_by-rows regions n (place ∷ places) earlier [] e = refl
 deltas_by-rows regions n (place ∷ places) earlier (value ∷ values) e =
     let given : weighted (scalars_at (take n regions) place) earlier
-        ≡ value_of regions earlier place =
+    ≡ value_of regions earlier place =
     ap (λ i. weighted (scalars_at (take i regions) place) earlier) (sym e)
-        ∙ weighted-value regions earlier place in
+    ∙ weighted-value regions earlier place in
     let delta = half_up (value -ℤ value_of regions earlier place) in
     let longer : length (earlier ++ delta ∷ [])
-        ≡ n + 1 = omega (arith, length-append earlier (delta ∷ [])) in
+    ≡ n + 1 = omega (arith, length-append earlier (delta ∷ [])) in
     ap (λ z. half_up (value -ℤ z) ∷ deltas_by (rows_from regions (n + 1) places)
-        (earlier ++ half_up (value -ℤ z) ∷ []) values) given
-        ∙ ap (λ (ds : List ℤ). delta ∷ ds) (deltas_by-rows regions (n + 1) places
-        (earlier ++ delta ∷ []) values longer)
+    (earlier ++ half_up (value -ℤ z) ∷ []) values) given
+    ∙ ap (λ (ds : List ℤ). delta ∷ ds) (deltas_by-rows regions (n + 1) places
+    (earlier ++ delta ∷ []) values longer)
 
 -- the loop that makes a row
 abbrev pub row_so_far : List Region → List F2Dot14 → ℕ → List Fixed
@@ -84,11 +84,11 @@ pub scalars_more : (regions : List Region) (place : List F2Dot14) (i : ℕ) (reg
 scalars_more regions place i region x done next h at made f g =
     let number : ℤ → Fixed = λ z. record { 0 = z } in
     let own : x ≡ scalar_at place (get_or regions i region) = ap number made
-        ∙ ap (scalar_at place) at in
+    ∙ ap (scalar_at place) at in
     g ∙ ap (λ (l : List Fixed). l ++ x ∷ []) f
-        ∙ ap (λ (y : Fixed). scalars_at (take i regions) place ++ y ∷ []) own
-        ∙ sym (map-append (scalar_at place) (take i regions) (get_or regions i region ∷ []))
-        ∙ ap (λ (l : List Region). scalars_at l place) (sym (take_more regions i region h))
+    ∙ ap (λ (y : Fixed). scalars_at (take i regions) place ++ y ∷ []) own
+    ∙ sym (map-append (scalar_at place) (take i regions) (get_or regions i region ∷ []))
+    ∙ ap (λ (l : List Region). scalars_at l place) (sym (take_more regions i region h))
 
 -- and the loop that makes all rows
 abbrev pub rows_to_come : List Region → List (List F2Dot14) → List ℕ → ℕ → List (List Fixed)
@@ -107,13 +107,13 @@ rows_more regions places order k item slice earlier row done next total h l at a
     let is_place : slice ≡ p = at_slice ∙ at ∙ get_or_default places (get_or order k 0) item [] l in
     let own : row ≡ scalars_at (take k regions) p =
     made ∙ ap (λ (e : List Region). scalars_at e slice) from
-        ∙ ap (λ (v : List F2Dot14). scalars_at (take k regions) v) is_place in
+    ∙ ap (λ (v : List F2Dot14). scalars_at (take k regions) v) is_place in
     let opened : done ++ (scalars_at (take k regions) p ∷ rest) ≡ total =
     sym (ap (λ (l : List (List Fixed)). done ++ l)
-        (step_one (λ (o : List ℕ). rows_from regions k (map (place_at places) o)) order k 0 h)) ∙ f
-        in
+    (step_one (λ (o : List ℕ). rows_from regions k (map (place_at places) o)) order k 0 h)) ∙ f
+    in
     ap (λ (l : List (List Fixed)). l ++ rest) g ∙ append_assoc done (row ∷ []) rest
-        ∙ ap (λ (r : List Fixed). done ++ (r ∷ rest)) own ∙ opened
+    ∙ ap (λ (r : List Fixed). done ++ (r ∷ rest)) own ∙ opened
 
 pub rows_all : (regions : List Region) (places : List (List F2Dot14)) (order : List ℕ) (k : ℕ)
     (done total : List (List Fixed)) → length order ≤ k
@@ -142,7 +142,7 @@ abs_word (negsuc n) f = omega (arith, ints)
 pub times_fits : (s d : ℤ) → FitsSigned w32 s → FitsSigned w16 d → FitsSigned w64 (s *ℤ d)
 times_fits s d f g =
     let product : unsigned_abs (s *ℤ d) ≤ 2147483648 * 32768
-        = rw (unsigned_abs-mul s d) (mul-le-mul (abs_word s f) (abs_small d g)) in
+    = rw (unsigned_abs-mul s d) (mul-le-mul (abs_word s f) (abs_small d g)) in
     fits_signed_from_abs w64 (s *ℤ d) (omega (arith, product))
 
 -- what is looked up past the end of a row
@@ -173,6 +173,6 @@ pub WeighsTo-all : (row : List Fixed) (deltas : List ℤ) (i : ℕ) (sum : ℤ) 
 WeighsTo-all row deltas i sum h f =
     let none : weighted (drop i row) (drop i deltas) ≡ pos 0 =
     ap (λ (ds : List ℤ). weighted (drop i row) ds) (drop_all i deltas h)
-        ∙ weighted-none (drop i row) in
+    ∙ weighted-none (drop i row) in
     let total = f.total in
     shifted_none sum (weighted (drop i row) (drop i deltas)) (weighted row deltas) none total

@@ -44,7 +44,7 @@ thirds_order = refl
 abbrev thirds_regions : List Region
 thirds_regions =
     record { sides = (at 0, at 0, at 0) ∷ [] } ∷ record { sides = (at 0, at 5461, at 16384) ∷ [] }
-        ∷ record { sides = (at 5461, at 16384, at 16384) ∷ [] } ∷ []
+    ∷ record { sides = (at 5461, at 16384, at 16384) ∷ [] } ∷ []
 
 thirds_supports : supports_of thirds ≡ thirds_regions
 unfolding supports_of order_of
@@ -123,9 +123,9 @@ minus n = record { 0 = negsuc n }
 abbrev mixed : List (List F2Dot14)
 mixed =
     (at 16384 ∷ at 16384 ∷ []) ∷ (at 4096 ∷ at 16384 ∷ []) ∷ (at 0 ∷ at 16384 ∷ [])
-        ∷ (at 16384 ∷ at 0 ∷ [])
+    ∷ (at 16384 ∷ at 0 ∷ [])
     ∷ (at 0 ∷ at 0 ∷ []) ∷ (at 8192 ∷ at 0 ∷ []) ∷ (minus 16383 ∷ at 0 ∷ [])
-        ∷ (at 8192 ∷ at 16384 ∷ []) ∷ []
+    ∷ (at 8192 ∷ at 16384 ∷ []) ∷ []
 
 mixed_order : order_of mixed ≡ 4 ∷ 6 ∷ 5 ∷ 3 ∷ 2 ∷ 7 ∷ 0 ∷ 1 ∷ []
 unfolding order_of
@@ -155,8 +155,8 @@ minus_thirds = (at 0 ∷ []) ∷ (minus 5460 ∷ []) ∷ (minus 16383 ∷ []) �
 abbrev minus_regions : List Region
 minus_regions =
     record { sides = (at 0, at 0, at 0) ∷ [] }
-        ∷ record { sides = (minus 16383, minus 5460, at 0) ∷ [] }
-        ∷ record { sides = (minus 16383, minus 16383, minus 5460) ∷ [] } ∷ []
+    ∷ record { sides = (minus 16383, minus 5460, at 0) ∷ [] }
+    ∷ record { sides = (minus 16383, minus 16383, minus 5460) ∷ [] } ∷ []
 
 minus_supports : supports_of minus_thirds ≡ minus_regions
 unfolding supports_of order_of

@@ -1,6 +1,7 @@
 -- Scalars are from 0 to 1, in 16.16.
-use Rattle.std.proofs.Common.{◌≡◌, ℕ, ◌+◌, ◌<◌, Bool, true, false, cond, ◌||◌, List, [], ◌∷◌, refl,
-    sym, ◌∙◌, arith, length, get_or, drop, ℤ, pos, ◌-ℤ◌, ◌≤ℤ◌, ◌<ℤ◌, FitsSigned}
+use Rattle.std.proofs.Common.{◌≡◌, ℕ, ◌+◌, ◌<◌, Bool, true, false, cond, ◌||◌, List, [], ◌∷◌, refl}
+use Rattle.std.proofs.Common.{sym, ◌∙◌, arith, length, get_or, drop, ℤ, pos, ◌-ℤ◌, ◌≤ℤ◌, ◌<ℤ◌}
+use Rattle.std.proofs.Common.{FitsSigned}
 use Rattle.variation_model.specs.Places.{zero_number}
 use Rattle.variation_model.proofs.Steps.{step_both, zero_side}
 use Rattle.std.proofs.lemmas.Int.{ints}
@@ -25,8 +26,11 @@ pub zero_IsScalar : IsScalar (pos 0)
 zero_IsScalar = record { low = omega (arith, ints); high = omega (arith, ints) }
 
 pub ratio_IsScalar : (n d : ℤ) → pos 0 ≤ℤ n → n ≤ℤ d → pos 0 <ℤ d → IsScalar (ratio_of n d)
-ratio_IsScalar n d h k l = record { low = ratio_not_negative n d h l; high
-    = ratio_at_most_one n d h k l }
+ratio_IsScalar n d h k l = record {
+  low = ratio_not_negative n d h l;
+  high
+      = ratio_at_most_one n d h k l;
+}
 
 pub product_IsScalar : (a b : ℤ) → IsScalar a → IsScalar b → IsScalar (product a b)
 product_IsScalar a b f g =
@@ -67,7 +71,7 @@ axis_scalar-IsScalar side v =
     (λ f. cond_IsScalar (int_le v.0 side.0.0 || int_le side.2.0 v.0) _ _
     (λ _. zero_IsScalar)
     (λ g. cond_IsScalar (int_lt v.0 side.1.0) _ _ (rises side.0.0 side.1.0 side.2.0 v.0 f g)
-        (falls side.0.0 side.1.0 side.2.0 v.0 f g)))
+    (falls side.0.0 side.1.0 side.2.0 v.0 f g)))
 
 pub scalar_from-IsScalar : (before : ℤ) (sides : List (F2Dot14 × F2Dot14 × F2Dot14))
     (place : List F2Dot14) → IsScalar before → IsScalar (scalar_from before sides place)
@@ -94,9 +98,9 @@ pub scalar_fits : (sides : List (F2Dot14 × F2Dot14 × F2Dot14)) (place : List F
     → FitsSigned w32 (product before on)
 scalar_fits sides place i before on f e =
     rw e (IsScalar-fits (product before (axis_scalar (get_or sides i zero_side)
-        (get_or place i zero_number)))
+    (get_or place i zero_number)))
     (product_IsScalar before (axis_scalar (get_or sides i zero_side) (get_or place i zero_number)) f
-        (axis_scalar-IsScalar (get_or sides i zero_side) (get_or place i zero_number))))
+    (axis_scalar-IsScalar (get_or sides i zero_side) (get_or place i zero_number))))
 
 pub scalar_more : (sides : List (F2Dot14 × F2Dot14 × F2Dot14)) (place : List F2Dot14) (i : ℕ)
     (before on now total : ℤ) → i < length sides → i < length place
@@ -107,6 +111,9 @@ pub scalar_more : (sides : List (F2Dot14 × F2Dot14 × F2Dot14)) (place : List F
 scalar_more sides place i before on now total h k f e g =
     let factor = axis_scalar (get_or sides i zero_side) (get_or place i zero_number) in
     let within = product_IsScalar before factor f.0
-        (axis_scalar-IsScalar (get_or sides i zero_side) (get_or place i zero_number)) in
-    rw (g, e) (within, sym (step_both (scalar_from before) sides place i zero_side zero_number h k)
-        ∙ f.1)
+    (axis_scalar-IsScalar (get_or sides i zero_side) (get_or place i zero_number)) in
+    rw (g, e) (
+      within,
+      sym (step_both (scalar_from before) sides place i zero_side zero_number h k)
+          ∙ f.1,
+    )

@@ -1,6 +1,6 @@
 -- Every region has a side per axis, and the loop over the earlier places keeps the fold.
-use Rattle.std.proofs.Common.{◌≡◌, ℕ, ◌+◌, ◌<◌, Bool, true, false, cond, List, [], ◌∷◌, refl, sym,
-    ap, ◌∙◌, arith, length, get_or, map, take}
+use Rattle.std.proofs.Common.{◌≡◌, ℕ, ◌+◌, ◌<◌, Bool, true, false, cond, List, [], ◌∷◌, refl, sym}
+use Rattle.std.proofs.Common.{ap, ◌∙◌, arith, length, get_or, map, take}
 use Rattle.std.proofs.lemmas.List.{get_or-map, length-map, get_or_default}
 use Rattle.std.proofs.lemmas.List.Sums.{fold_more}
 use Rattle.std.specs.Prelude.{EachIndex}
@@ -30,7 +30,7 @@ pub length-narrowed : (sides : List (F2Dot14 × F2Dot14 × F2Dot14)) (place : Li
     → length (spec.narrowed sides place) ≡ length sides
 length-narrowed sides place =
     length-cond (spec.all_inside sides place)
-        (spec.cut_largest (spec.largest_ratio sides place) sides place) sides (length sides)
+    (spec.cut_largest (spec.largest_ratio sides place) sides place) sides (length sides)
     (length-cut_largest (spec.largest_ratio sides place) sides place) refl
 
 pub length-fold-narrowed : (sides : List (F2Dot14 × F2Dot14 × F2Dot14))
@@ -43,7 +43,7 @@ pub length-support : (places earlier : List (List F2Dot14)) (place : List F2Dot1
     → length ((spec.support places earlier place).sides) ≡ length place
 length-support places earlier place =
     length-fold-narrowed (spec.widest_from places 0 place) earlier
-        ∙ length-widest_from places 0 place
+    ∙ length-widest_from places 0 place
 
 -- the next earlier place has a coordinate for each side so far
 pub narrow_fits : (places : List (List F2Dot14)) (place : List F2Dot14)
@@ -54,8 +54,8 @@ pub narrow_fits : (places : List (List F2Dot14)) (place : List F2Dot14)
     → item ≡ get_or places j item → length sides ≡ length item
 narrow_fits places place sides done j item e same one_length h at =
     ap length e ∙ length-fold-narrowed (spec.widest_from places 0 place) done
-        ∙ length-widest_from places 0 place ∙ same ∙ sym (one_length j h)
-        ∙ ap length (get_or_default places j [] item h) ∙ sym (ap length at)
+    ∙ length-widest_from places 0 place ∙ same ∙ sym (one_length j h)
+    ∙ ap length (get_or_default places j [] item h) ∙ sym (ap length at)
 
 -- one more earlier place
 pub fold_next : (places : List (List F2Dot14)) (sides : List (F2Dot14 × F2Dot14 × F2Dot14))
@@ -68,6 +68,6 @@ fold_next places sides positions i item h k at =
     let within : i < length mapped = omega (arith, length-map positions (place_at places)) in
     let is_item : get_or mapped i [] ≡ item =
     get_or-map (place_at places) positions i 0 [] h
-        ∙ get_or_default places (get_or positions i 0) [] item k ∙ sym at in
+    ∙ get_or_default places (get_or positions i 0) [] item k ∙ sym at in
     fold_more spec.narrowed sides mapped i [] within
-        ∙ ap (λ v. spec.narrowed (fold spec.narrowed sides (take i mapped)) v) is_item
+    ∙ ap (λ v. spec.narrowed (fold spec.narrowed sides (take i mapped)) v) is_item

@@ -1,6 +1,6 @@
 -- The loop that makes all supports, and what they have in common.
-use Rattle.std.proofs.Common.{◌≡◌, ℕ, zero, suc, ◌+◌, ◌<◌, ◌≤◌, List, [], ◌∷◌, ◌++◌, refl, sym, ap,
-    ◌∙◌, arith, length, get_or, map, take, drop, append_assoc, append-nil}
+use Rattle.std.proofs.Common.{◌≡◌, ℕ, zero, suc, ◌+◌, ◌<◌, ◌≤◌, List, [], ◌∷◌, ◌++◌, refl, sym, ap}
+use Rattle.std.proofs.Common.{◌∙◌, arith, length, get_or, map, take, drop, append_assoc, append-nil}
 use Rattle.std.proofs.lemmas.List.{get_or_default, take_more, map-append, drop_all}
 use Rattle.std.specs.Prelude.{EachIndex}
 use Rattle.fixed_math.specs.declared.F2Dot14.{F2Dot14}
@@ -15,7 +15,7 @@ use Rattle.variation_model.proofs.SupportLengths.{length-support}
 abbrev pub to_come : List (List F2Dot14) → List ℕ → ℕ → List Region
 to_come places order i =
     spec.supports_after places (map (place_at places) (take i order))
-        (map (place_at places) (drop i order))
+    (map (place_at places) (drop i order))
 
 pub supports_more : (places : List (List F2Dot14)) (order : List ℕ) (i : ℕ)
     (item slice : List F2Dot14) (earlier : List ℕ) (region : Region) (done next total : List Region)
@@ -32,22 +32,22 @@ supports_more places order i item slice earlier region done next total h k at at
     let is_place : slice ≡ p = at_slice ∙ at ∙ get_or_default places (get_or order i 0) item [] k in
     let own : region ≡ spec.support places before p =
     made ∙ ap (λ (e : List ℕ). spec.support places (map (place_at places) e) slice) from
-        ∙ ap (λ (v : List F2Dot14). spec.support places before v) is_place in
+    ∙ ap (λ (v : List F2Dot14). spec.support places before v) is_place in
     let later : before ++ p ∷ [] ≡ map (place_at places) (take (i + 1) order) =
     sym (map-append (place_at places) (take i order) (get_or order i 0 ∷ []))
-        ∙ ap (map (place_at places)) (sym (take_more order i 0 h)) in
+    ∙ ap (map (place_at places)) (sym (take_more order i 0 h)) in
     let opened : done ++ (spec.support places before p
-        ∷ spec.supports_after places (before ++ p ∷ []) rest) ≡ total =
+    ∷ spec.supports_after places (before ++ p ∷ []) rest) ≡ total =
     sym (ap (λ (l : List Region). done ++ l)
-        (step_one (λ (l : List ℕ). spec.supports_after places before (map (place_at places) l))
-        order i 0 h)) ∙ f in
+    (step_one (λ (l : List ℕ). spec.supports_after places before (map (place_at places) l))
+    order i 0 h)) ∙ f in
     let placed : done ++ (region ∷ to_come places order (i + 1)) ≡ total =
     ap (λ (r : Region). done ++ (r ∷ to_come places order (i + 1))) own
-        ∙ ap (λ (e : List (List F2Dot14)). done
-        ++ (spec.support places before p ∷ spec.supports_after places e rest)) (sym later) ∙ opened
-        in
+    ∙ ap (λ (e : List (List F2Dot14)). done
+    ++ (spec.support places before p ∷ spec.supports_after places e rest)) (sym later) ∙ opened
+    in
     ap (λ (l : List Region). l ++ to_come places order (i + 1)) g
-        ∙ append_assoc done (region ∷ []) (to_come places order (i + 1)) ∙ placed
+    ∙ append_assoc done (region ∷ []) (to_come places order (i + 1)) ∙ placed
 
 pub supports_all : (places : List (List F2Dot14)) (order : List ℕ) (i : ℕ)
     (done total : List Region) → length order ≤ i → done ++ to_come places order i ≡ total
@@ -55,7 +55,7 @@ pub supports_all : (places : List (List F2Dot14)) (order : List ℕ) (i : ℕ)
 supports_all places order i done total h f =
     let none : to_come places order i ≡ [] =
     ap (λ (l : List ℕ). spec.supports_after places (map (place_at places) (take i order))
-        (map (place_at places) l)) (drop_all i order h) in
+    (map (place_at places) l)) (drop_all i order h) in
     sym (append-nil done) ∙ ap (λ (l : List Region). done ++ l) (sym none) ∙ f
 
 -- there is one support for each place

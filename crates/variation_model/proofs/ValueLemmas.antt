@@ -1,6 +1,7 @@
 -- Sums of deltas times scalars: a loop's steps, and how large they get.
-use Rattle.std.proofs.Common.{◌≡◌, ℕ, ◌+◌, ◌*◌, ◌<◌, ◌≤◌, ◌^◌, List, [], ◌∷◌, refl, sym, ap, ◌∙◌,
-    arith, length, get_or, drop, ℤ, pos, negsuc, ◌+ℤ◌, ◌*ℤ◌, FitsSigned, mul-le-mul}
+use Rattle.std.proofs.Common.{◌≡◌, ℕ, ◌+◌, ◌*◌, ◌<◌, ◌≤◌, ◌^◌, List, [], ◌∷◌, refl, sym, ap, ◌∙◌}
+use Rattle.std.proofs.Common.{arith, length, get_or, drop, ℤ, pos, negsuc, ◌+ℤ◌, ◌*ℤ◌, FitsSigned}
+use Rattle.std.proofs.Common.{mul-le-mul}
 use Rattle.std.proofs.lemmas.Int.{ints, unsigned_abs-mul, fits_signed_from_abs}
 use Rattle.std.proofs.lemmas.List.{get_or_default, drop_all}
 use Rattle.std.specs.Prelude.{unsigned_abs}
@@ -26,7 +27,7 @@ pub term_within : (sides : List (F2Dot14 × F2Dot14 × F2Dot14)) (place : List F
 term_within sides place d f =
     rw (unsigned_abs-mul (scalar_of sides place) d)
     (mul-le-mul (abs_scalar (scalar_of sides place) (scalar_of-IsScalar sides place))
-        (abs_small d f))
+    (abs_small d f))
 
 pub abs_sum : (a b : ℤ) (m n : ℕ) → unsigned_abs a ≤ m → unsigned_abs b ≤ n
     → unsigned_abs (a +ℤ b) ≤ m + n
@@ -63,13 +64,13 @@ SumsTo-more regions deltas place i region sum term h k f at fits e =
     let d = get_or deltas i (pos 0) in
     let rest = value_of (drop (i + 1) regions) (drop (i + 1) deltas) place in
     let is_region : region ≡ region_at regions i = at
-        ∙ get_or_default regions i region (record { sides = [] }) h in
+    ∙ get_or_default regions i region (record { sides = [] }) h in
     let own : term ≡ scalar_of ((region_at regions i).sides) place *ℤ d =
     e ∙ ap (λ (r : Region). scalar_of r.sides place *ℤ d) is_region in
     let opened : (sum +ℤ ((scalar_of ((region_at regions i).sides) place *ℤ d) +ℤ rest))
-        ≡ value_of regions deltas place =
+    ≡ value_of regions deltas place =
     sym (ap (λ z. sum +ℤ z) (step_both (λ (rs : List Region) (ds : List ℤ). value_of rs ds place)
-        regions deltas i (record { sides = [] }) (pos 0) h k)) ∙ f.total in
+    regions deltas i (record { sides = [] }) (pos 0) h k)) ∙ f.total in
     let small : unsigned_abs term ≤ 2147483648 = rw e (term_within region.sides place d fits) in
     let both = abs_sum sum term (2147483648 * i) 2147483648 f.within small in
     record {
@@ -87,10 +88,10 @@ pub SumsTo-all : (regions : List Region) (deltas : List ℤ) (place : List F2Dot
 SumsTo-all regions deltas place i sum h f =
     let none : value_of (drop i regions) (drop i deltas) place ≡ pos 0 =
     ap (λ (ds : List ℤ). value_of (drop i regions) ds place) (drop_all i deltas h)
-        ∙ value_of-none (drop i regions) place in
+    ∙ value_of-none (drop i regions) place in
     let total = f.total in
     shifted_none sum (value_of (drop i regions) (drop i deltas) place)
-        (value_of regions deltas place) none total
+    (value_of regions deltas place) none total
 
 -- so far a sum fits 64 bits with one more term
 pub sum_fits : (sum term : ℤ) (i : ℕ) → unsigned_abs sum ≤ 2147483648 * i

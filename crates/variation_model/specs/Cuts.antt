@@ -2,8 +2,8 @@
 -- each axis where it isn't the peak: how far it is from the peak, over how far the region reaches
 -- there. On the axes whose ratio no other exceeds, the side toward the place ends at its number
 -- from then on; all other sides stay. That is fontc's own.
-use Rattle.std.specs.Prelude.{◌≡◌, ◌⊎◌, ℕ, ◌+◌, ◌<◌, List, length, slice_index_or, ℤ, pos, ◌-ℤ◌,
-    ◌*ℤ◌, ◌≤ℤ◌, ◌<ℤ◌, EachIndex}
+use Rattle.std.specs.Prelude.{◌≡◌, ◌⊎◌, ℕ, ◌+◌, ◌<◌, List, length, slice_index_or, ℤ, pos, ◌-ℤ◌}
+use Rattle.std.specs.Prelude.{◌*ℤ◌, ◌≤ℤ◌, ◌<ℤ◌, EachIndex}
 use Rattle.fixed_math.specs.declared.F2Dot14.{F2Dot14}
 use Rattle.variation_model.specs.Places.{zero_number, place_at}
 

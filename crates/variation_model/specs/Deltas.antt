@@ -3,9 +3,9 @@
 -- scalars is the value at an instance (OpenType 1.9, "Font variations common table formats",
 -- "Algorithm for interpolation of instance values"). That each delta is formed from the earlier
 -- ones as they are stored, and so rounded, is fontc's own.
-use Rattle.std.specs.Prelude.{◌≡◌, ℕ, ◌+◌, Bool, ◌&&◌, if◌then◌else◌, List, [], ◌∷◌, ◌++◌, map,
-    slice_index_or, ℤ, pos, negsuc, ◌+ℤ◌, ◌-ℤ◌, ◌*ℤ◌, int_le, Option, Some, None, Result, Ok, Err,
-    Vec}
+use Rattle.std.specs.Prelude.{◌≡◌, ℕ, ◌+◌, Bool, ◌&&◌, if◌then◌else◌, List, [], ◌∷◌, ◌++◌, map}
+use Rattle.std.specs.Prelude.{slice_index_or, ℤ, pos, negsuc, ◌+ℤ◌, ◌-ℤ◌, ◌*ℤ◌, int_le, Option}
+use Rattle.std.specs.Prelude.{Some, None, Result, Ok, Err, Vec}
 use Rattle.std.specs.declared.alloc.Global.{Global}
 use Rattle.fixed_math.specs.declared.F2Dot14.{F2Dot14}
 use Rattle.fixed_math.specs.declared.Fixed.{Fixed}
@@ -45,7 +45,7 @@ value_at_place values i = (slice_index_or values i (record { 0 = pos 0 })).0
 unfoldable pub deltas_of : List (List F2Dot14) → List Fixed → List ℤ
 deltas_of places values =
     deltas_after (supports_of places) [] (ordered places)
-        (map (value_at_place values) (order_of places))
+    (map (value_at_place values) (order_of places))
 
 -- whether a delta can be stored
 abbrev pub is_storable : ℤ → Bool

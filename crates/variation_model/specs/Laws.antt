@@ -1,15 +1,15 @@
 -- What holds of the order, of the supports and of the deltas of any places that a model has. Order,
 -- supports and rounding are fontc's own, and so are their laws.
-use Rattle.std.specs.Prelude.{◌≡◌, ◌≢◌, ◌⊎◌, ℕ, ◌<◌, ◌≤◌, Bool, true, false, List, length,
-    replicate, take, ℤ, pos, ◌-ℤ◌, unsigned_abs, All, Contains, EachIndex, FitsSigned,
-    slice_index_or, Result, Ok, Err, Vec}
+use Rattle.std.specs.Prelude.{◌≡◌, ◌≢◌, ◌⊎◌, ℕ, ◌<◌, ◌≤◌, Bool, true, false, List, length}
+use Rattle.std.specs.Prelude.{replicate, take, ℤ, pos, ◌-ℤ◌, unsigned_abs, All, Contains, EachIndex}
+use Rattle.std.specs.Prelude.{FitsSigned, slice_index_or, Result, Ok, Err, Vec}
 use Rattle.std.specs.Int.{w16}
 use Rattle.std.specs.declared.alloc.Global.{Global}
 use Rattle.fixed_math.specs.declared.F2Dot14.{F2Dot14}
 use Rattle.fixed_math.specs.declared.Fixed.{Fixed}
 use Rattle.fixed_math.specs.FixedPoint.{half_up}
-use Rattle.variation_model.specs.Places.{place_at, axis_count, zero_number, ordered, order_of, key,
-    is_less_key}
+use Rattle.variation_model.specs.Places.{place_at, axis_count, zero_number, ordered, order_of, key}
+use Rattle.variation_model.specs.Places.{is_less_key}
 use Rattle.variation_model.specs.Supports.{supports_of}
 use Rattle.variation_model.specs.Cuts.{Side, IsSupport}
 use Rattle.variation_model.specs.Scalar.{scalar_of}
@@ -63,35 +63,35 @@ LaterSupportsCountNothing places = (j k : ℕ) → j < k → k < length places
 abbrev pub EarlierPlacesCut : List (List F2Dot14) → Type 0
 EarlierPlacesCut places =
     EachIndex places (λ k. IsSupport places (take k (ordered places)) (place_at (ordered places) k)
-        ((region_at (supports_of places) k).sides))
+    ((region_at (supports_of places) k).sides))
 
 -- and no other region is
 abbrev pub NoOtherSupports : List (List F2Dot14) → Type 0
 NoOtherSupports places =
     (k : ℕ) (sides : List Side) → k < length places
-        → IsSupport places (take k (ordered places)) (place_at (ordered places) k) sides
-        → sides ≡ (region_at (supports_of places) k).sides
+    → IsSupport places (take k (ordered places)) (place_at (ordered places) k) sides
+    → sides ≡ (region_at (supports_of places) k).sides
 
 -- each delta, in the places' order, is what the earlier ones lack of the value at its place,
 -- rounded
 abbrev pub IsEachWhatIsLacking : List (List F2Dot14) → List Fixed → List ℤ → Type 0
 IsEachWhatIsLacking places values deltas =
     EachIndex places (λ k. slice_index_or deltas k (pos 0)
-        ≡ half_up (value_at_place values (slice_index_or (order_of places) k 0) -ℤ value_of
-        (supports_of places) (take k deltas) (place_at (ordered places) k)))
+    ≡ half_up (value_at_place values (slice_index_or (order_of places) k 0) -ℤ value_of
+    (supports_of places) (take k deltas) (place_at (ordered places) k)))
 
 -- what deltas give at each place differs from the value there by at most one half, in 16.16
 abbrev pub MeetWithinHalf : List (List F2Dot14) → List Fixed → List ℤ → Type 0
 MeetWithinHalf places values deltas =
     EachIndex places (λ i. unsigned_abs (value_of (supports_of places) deltas (place_at places i) -ℤ
-        value_at_place values i) ≤ 32768)
+    value_at_place values i) ≤ 32768)
 
 -- what is given at a place differs from each value there by at most one half, in 16.16, if the
 -- deltas are the value's and the place is one of these
 abbrev pub IsWithinHalfOfValues : List (List F2Dot14) → List ℤ → List F2Dot14 → ℤ → Type 0
 IsWithinHalfOfValues places deltas at given =
     (values : List Fixed) (i : ℕ) → deltas ≡ deltas_of places values → i < length places
-        → at ≡ place_at places i → unsigned_abs (given -ℤ value_at_place values i) ≤ 32768
+    → at ≡ place_at places i → unsigned_abs (given -ℤ value_at_place values i) ≤ 32768
 
 -- the delta at this number is outside an i16, and none before it is
 pub record IsFirstOutside (deltas : List ℤ) (at : ℕ) (value : ℤ) : Type 0 where

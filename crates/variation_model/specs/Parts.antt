@@ -1,7 +1,7 @@
 -- What a model keeps: its places, their order and regions, and by how much each region counts at
 -- the places after its own. That is fontc's own.
-use Rattle.std.specs.Prelude.{◌≡◌, ℕ, ◌+◌, ◌≤◌, List, [], ◌∷◌, ◌++◌, map, take, slice_index_or, ℤ,
-    pos, ◌+ℤ◌, ◌-ℤ◌, ◌*ℤ◌, All, unsigned_abs}
+use Rattle.std.specs.Prelude.{◌≡◌, ℕ, ◌+◌, ◌≤◌, List, [], ◌∷◌, ◌++◌, map, take, slice_index_or, ℤ}
+use Rattle.std.specs.Prelude.{pos, ◌+ℤ◌, ◌-ℤ◌, ◌*ℤ◌, All, unsigned_abs}
 use Rattle.fixed_math.specs.declared.F2Dot14.{F2Dot14}
 use Rattle.fixed_math.specs.declared.Fixed.{Fixed}
 use Rattle.fixed_math.specs.FixedPoint.{half_up}

@@ -1,7 +1,8 @@
 -- The order in which a variation model takes its places, which is fontc's own.
-use Rattle.std.specs.Prelude.{◌≡◌, ◌≢◌, ℕ, ◌<◌, ◌^◌, Bool, not, ◌&&◌, ◌==◌, if◌then◌else◌, List, [],
-    ◌∷◌, ◌++◌, length, map, replicate, slice_index_or, pos, int_lt, unsigned_abs, filter, count_by,
-    position, unwrap_or, Contains, EachIndex}
+use Rattle.std.specs.Prelude.{◌≡◌, ◌≢◌, ℕ, ◌<◌, ◌^◌, Bool, not, ◌&&◌, ◌==◌, if◌then◌else◌, List, []}
+use Rattle.std.specs.Prelude.{◌∷◌, ◌++◌, length, map, replicate, slice_index_or, pos, int_lt}
+use Rattle.std.specs.Prelude.{unsigned_abs, filter, count_by, position, unwrap_or, Contains}
+use Rattle.std.specs.Prelude.{EachIndex}
 use Rattle.std.specs.List.{enumerate_from, list_any, flat_map, range_with_len}
 use Rattle.std.specs.Ordering.{nat_cmp, is_lt, int_eq}
 use Rattle.std.specs.Cmp.Lexicographic.{slice_cmp}
@@ -40,7 +41,7 @@ key_among on_axis coordinates =
     length coordinates
     ∷ count_by (λ c. not (is_on_axis on_axis c)) coordinates
     ∷ (map (λ c. c.0) coordinates ++ (map sign_of coordinates
-        ++ map (λ c. unsigned_abs c.1.0) coordinates))
+    ++ map (λ c. unsigned_abs c.1.0) coordinates))
 
 abbrev pub key : List (List F2Dot14) → List F2Dot14 → List ℕ
 key places place = key_among (all_on_axis places) (active place)

@@ -1,8 +1,8 @@
 -- The support of each place: the region where the delta that is stored for it has an effect
 -- (OpenType 1.9, "Font variations common table formats", "Variation regions"). How far a region
 -- reaches is fontc's own.
-use Rattle.std.specs.Prelude.{ℕ, ◌+◌, ◌*◌, Bool, true, not, ◌&&◌, ◌||◌, if◌then◌else◌, List, [],
-    ◌∷◌, ◌++◌, slice_index_or, ℤ, pos, ◌-ℤ◌, int_lt, nat_lt, unsigned_abs}
+use Rattle.std.specs.Prelude.{ℕ, ◌+◌, ◌*◌, Bool, true, not, ◌&&◌, ◌||◌, if◌then◌else◌, List, []}
+use Rattle.std.specs.Prelude.{◌∷◌, ◌++◌, slice_index_or, ℤ, pos, ◌-ℤ◌, int_lt, nat_lt, unsigned_abs}
 use Rattle.std.specs.List.{fold}
 use Rattle.std.specs.Int.{int_max, int_min}
 use Rattle.std.specs.Ordering.{int_eq}
@@ -27,13 +27,13 @@ abbrev pub widest_side : ℤ → F2Dot14 → ℤ → F2Dot14 × F2Dot14 × F2Dot
 widest_side low peak high =
     if int_lt (pos 0) peak.0 then (zero_number, peak, record { 0 = high })
     else (if int_lt peak.0 (pos 0) then (record { 0 = low }, peak, zero_number) else
-        (zero_number, zero_number, zero_number))
+    (zero_number, zero_number, zero_number))
 
 abbrev pub widest_from : List (List F2Dot14) → ℕ → List F2Dot14 → List (F2Dot14 × F2Dot14 × F2Dot14)
 widest_from places axis [] = []
 widest_from places axis (peak ∷ peaks) =
     widest_side (least places axis) peak (greatest places axis)
-        ∷ widest_from places (axis + 1) peaks
+    ∷ widest_from places (axis + 1) peaks
 
 -- on one axis: whether the number is active exactly where the peak is, and is the peak or strictly
 -- between start and end
@@ -41,7 +41,7 @@ abbrev pub is_inside : F2Dot14 × F2Dot14 × F2Dot14 → F2Dot14 → Bool
 is_inside side v =
     if int_eq side.1.0 (pos 0) then int_eq v.0 (pos 0)
     else not (int_eq v.0 (pos 0)) && (int_eq v.0 side.1.0
-        || (int_lt side.0.0 v.0 && int_lt v.0 side.2.0))
+    || (int_lt side.0.0 v.0 && int_lt v.0 side.2.0))
 
 -- the same on every axis
 abbrev pub all_inside : List (F2Dot14 × F2Dot14 × F2Dot14) → List F2Dot14 → Bool

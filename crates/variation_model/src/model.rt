@@ -1,16 +1,19 @@
-ghost use Rattle.std.specs.Prelude.{◌≡◌, ◌≢◌, ℕ, ◌-◌, ◌+◌, ◌*◌, ◌^◌, ◌<◌, ◌≤◌, ◌-ℤ◌, ◌*ℤ◌, true,
-    false, [], map, unsigned_abs, All, MatchOption, IfOk, length, replicate, EachIndex, Contains};
+ghost use Rattle.std.specs.Prelude.{◌≡◌, ◌≢◌, ℕ, ◌-◌, ◌+◌, ◌*◌, ◌^◌, ◌<◌, ◌≤◌, ◌-ℤ◌, ◌*ℤ◌, true};
+ghost use Rattle.std.specs.Prelude.{false, [], map, unsigned_abs, All, MatchOption, IfOk, length};
+ghost use Rattle.std.specs.Prelude.{replicate, EachIndex, Contains};
 ghost use Rattle.variation_model.specs.Places.{axis_count, place_at, zero_number, order_of};
 ghost use Rattle.fixed_math.specs.FixedPoint.{half_up};
-ghost use Rattle.variation_model.specs.Laws.{EarlierPlacesCut, IsEachWhatIsLacking, IsOrder,
-    IsInOrder, IsWithinHalfOfValues, IsZeroFirst, LaterSupportsCountNothing, MeetWithinHalf,
-    NoOtherSupports, OwnSupportsCountWhole, RefusesFirstOutside, comes_before};
+ghost use Rattle.variation_model.specs.Laws.{EarlierPlacesCut, IsEachWhatIsLacking, IsOrder};
+ghost use Rattle.variation_model.specs.Laws.{IsInOrder, IsWithinHalfOfValues, IsZeroFirst};
+ghost use Rattle.variation_model.specs.Laws.{LaterSupportsCountNothing, MeetWithinHalf};
+ghost use Rattle.variation_model.specs.Laws.{NoOtherSupports, OwnSupportsCountWhole};
+ghost use Rattle.variation_model.specs.Laws.{RefusesFirstOutside, comes_before};
 ghost use Rattle.variation_model.specs.Scalar.{scalar_of};
 ghost use Rattle.variation_model.specs.Supports.{supports_after, supports_of};
-ghost use Rattle.variation_model.specs.Parts.{AreSmall, deltas_by, row_at, rows_from, scalars_at,
-    weighted};
-ghost use Rattle.variation_model.specs.Deltas.{GivesDeltas, deltas_of, is_storable, region_at,
-    value_at_place, value_of};
+ghost use Rattle.variation_model.specs.Parts.{AreSmall, deltas_by, row_at, rows_from, scalars_at};
+ghost use Rattle.variation_model.specs.Parts.{weighted};
+ghost use Rattle.variation_model.specs.Deltas.{GivesDeltas, deltas_of, is_storable, region_at};
+ghost use Rattle.variation_model.specs.Deltas.{value_at_place, value_of};
 
 use crate::errors::DeltaError;
 use crate::order::positions;
@@ -42,8 +45,8 @@ impl std::marker::Model for Model {
 
     ghost view = { λ m. m.places.items };
 
-    ghost invariant = { λ m. IsModel m.places.items m.order.items m.supports.items m.scalars.items
-        };
+    ghost invariant = { λ m. IsModel m.places.items m.order.items m.supports.items
+        m.scalars.items };
 }
 
 impl Model {
@@ -228,8 +231,8 @@ fn deltas_over(
     requires positions { All (λ i. i < length values.now) order.now }
     requires earlier { EachIndex rows.now (λ k. length (row_at rows.now k) ≡ k) }
     requires small { EachIndex rows.now (λ k. AreSmall (row_at rows.now k)) }
-    ensures { GivesDeltas result (deltas_by rows.now [] (map (value_at_place values.now) order.now))
-        }
+    ensures { GivesDeltas result (deltas_by rows.now []
+        (map (value_at_place values.now) order.now)) }
 {
     let mut deltas = Vec::with_capacity(alloc, order.len())?;
     for (k, i) in order.iter().enumerate() {

@@ -1,5 +1,5 @@
-ghost use Rattle.std.specs.Prelude.{◌≡◌, ◌^◌, ◌<◌, ◌==◌, not, position, IfOk, length, map, count_by,
-    unsigned_abs};
+ghost use Rattle.std.specs.Prelude.{◌≡◌, ◌^◌, ◌<◌, ◌==◌, not, position, IfOk, length, map};
+ghost use Rattle.std.specs.Prelude.{count_by, unsigned_abs};
 ghost use Rattle.variation_model.specs.Places as spec;
 
 use fixed_math::F2Dot14;
@@ -49,8 +49,8 @@ fn ranks(alloc: Global, places: &[Location]) -> Result<Vec<usize>, AllocError>
 /// How many keys are less than each key.
 fn ranks_among(alloc: Global, keys: &[Vec<usize>]) -> Result<Vec<usize>, AllocError>
     ensures { IfOk result (λ ranks. ranks.items
-        ≡ map (λ key. count_by (λ other. spec.is_less_key other.items key.items) keys.now) keys.now)
-        }
+        ≡ map (λ key. count_by (λ other. spec.is_less_key other.items key.items) keys.now)
+        keys.now) }
 {
     let mut ranks = Vec::with_capacity(alloc, keys.len())?;
     for key in keys.iter() {

@@ -1,6 +1,6 @@
 -- First bytes of what a path holds, and the bytes behind them.
-use Rattle.std.proofs.Common.{◌≡◌, ℕ, ◌-◌, ◌≤◌, List, [], ◌++◌, length, take, drop, Option, Some,
-    None, refl, sym, ap, subst, ◌∙◌, append_assoc, inl, inr}
+use Rattle.std.proofs.Common.{◌≡◌, ℕ, ◌-◌, ◌≤◌, List, [], ◌++◌, length, take, drop, Option, Some}
+use Rattle.std.proofs.Common.{None, refl, sym, ap, subst, ◌∙◌, append_assoc, inl, inr}
 use Rattle.std.specs.Prelude.{IfSome, OnErr, Result, Ok, Err}
 use Rattle.std.proofs.Math.Seq.{drop-append_seam, take-append_seam}
 use Rattle.outside_io.specs.Files.{Holding, Untold, Absent, Bytes, Leaves, replaced_by, followed_by}
@@ -11,10 +11,10 @@ front_goes_on : (whole front rest more : List ℕ) (n : ℕ) → front ++ rest �
     → more ≡ take n (drop (length front) whole) → (front ++ more) ++ drop n rest ≡ whole
 front_goes_on whole front rest more n split came =
     let behind : drop (length front) whole ≡ rest = ap (drop (length front)) (sym split)
-        ∙ drop-append_seam front rest in
+    ∙ drop-append_seam front rest in
     let more-is : more ≡ take n rest = came ∙ ap (take n) behind in
     append_assoc front more (drop n rest) ∙ ap (λ (xs : List ℕ). front ++ (xs ++ drop n rest))
-        more-is ∙ ap (λ (xs : List ℕ). front ++ xs) (take-append-drop n rest) ∙ split
+    more-is ∙ ap (λ (xs : List ℕ). front ++ xs) (take-append-drop n rest) ∙ split
 
 pub read_goes_on : (told : Option (List ℕ)) (front more : List ℕ) (place n : ℕ)
     → place ≡ length front
@@ -23,8 +23,11 @@ pub read_goes_on : (told : Option (List ℕ)) (front more : List ℕ) (place n :
     → IfSome told (λ whole. (rest : List ℕ) × ((front ++ more) ++ rest ≡ whole))
 read_goes_on None front more place n here split came = tt
 read_goes_on (Some whole) front more place n here split came
-    = (drop n split.0, front_goes_on whole front split.0 more n split.1
-    (came.1 ∙ ap (λ (k : ℕ). take n (drop k whole)) here))
+    = (
+      drop n split.0,
+      front_goes_on whole front split.0 more n split.1
+          (came.1 ∙ ap (λ (k : ℕ). take n (drop k whole)) here),
+    )
 
 -- nothing is first bytes of what any path holds
 pub nothing_read : (told : Option (List ℕ)) (front : List ℕ) → front ≡ []
@@ -81,7 +84,7 @@ pub all_written : (bytes rest : List ℕ) (old new : Holding) → IsWritten byte
     → rest ≡ [] → Leaves (replaced_by bytes old) new
 all_written bytes rest old new so_far empty =
     let whole : so_far.done ≡ bytes = sym (append-nil so_far.done)
-        ∙ ap (λ (xs : List ℕ). so_far.done ++ xs) (sym empty) ∙ so_far.split in
+    ∙ ap (λ (xs : List ℕ). so_far.done ++ xs) (sym empty) ∙ so_far.split in
     subst (λ (xs : List ℕ). Leaves (replaced_by xs old) new) whole so_far.left
 
 pub part_written : (bytes rest : List ℕ) (old before after : Holding)
@@ -89,9 +92,11 @@ pub part_written : (bytes rest : List ℕ) (old before after : Holding)
     → (n : ℕ) × Leaves (replaced_by (take n bytes) old) after
 part_written bytes rest old before after so_far same =
     let front : so_far.done ≡ take (length so_far.done) bytes
-        = sym (take-append_seam so_far.done rest) ∙ ap (take (length so_far.done)) so_far.split in
-    (length so_far.done, subst (λ (xs : List ℕ). Leaves (replaced_by xs old) after) front
-        (leaves_still (replaced_by so_far.done old) before after so_far.left same))
+    = sym (take-append_seam so_far.done rest) ∙ ap (take (length so_far.done)) so_far.split in (
+      length so_far.done,
+      subst (λ (xs : List ℕ). Leaves (replaced_by xs old) after) front
+          (leaves_still (replaced_by so_far.done old) before after so_far.left same),
+    )
 
 -- each other path is still as it was
 pub others_still : {P : List ℕ → Type 0} (first before after : List ℕ → Holding)

@@ -1,8 +1,8 @@
 //! Reads a path whole, and writes one whole, over any files.
 #![tactic(auto)]
 
-ghost use Rattle.std.specs.Prelude.{◌≡◌, ◌≢◌, ◌⊎◌, ℕ, ◌<◌, ◌≤◌, ◌^◌, ◌+◌, take, drop, length,
-    vec_len, Ok, IfOk, IfSome, OnOk, OnErr, Err, IsErrOf};
+ghost use Rattle.std.specs.Prelude.{◌≡◌, ◌≢◌, ◌⊎◌, ℕ, ◌<◌, ◌≤◌, ◌^◌, ◌+◌, take, drop, length};
+ghost use Rattle.std.specs.Prelude.{vec_len, Ok, IfOk, IfSome, OnOk, OnErr, Err, IsErrOf};
 ghost use Rattle.outside_io.specs.Counts.{HasRisen, NoneFalls, NoneRises};
 ghost use Rattle.outside_io.specs.Files.{Leaves, LeavesOthers, LeavesAll, told_bytes, replaced_by};
 ghost use Rattle.outside_io.specs.Calls.{ReadCall, followed_by_call};
@@ -122,14 +122,13 @@ fn read_onto<F: Files>(
 
 /// Makes a path hold these bytes and no others. Where that fails, the path is as before, or holds
 /// first bytes of them.
-#[tactic(auto, using(crate::proofs::Asked::begun_with, crate::proofs::Asked::some_offers,
-    crate::proofs::Asked::offered))]
+#[tactic(auto, using(crate::proofs::Asked::begun_with, crate::proofs::Asked::some_offers, crate::proofs::Asked::offered))]
 pub fn write_whole<F: Files>(files: &mut F, path: &str, bytes: &[u8]) -> Result<(), Failed>
     ensures ok { OnOk result (Leaves (replaced_by bytes.now (F.holds files.old path.now))
         (F.holds files.new path.now)) }
     ensures err { OnErr result (Leaves (F.holds files.old path.now) (F.holds files.new path.now)
         ⊎ ((n : ℕ) × Leaves (replaced_by (take n bytes.now) (F.holds files.old path.now))
-            (F.holds files.new path.now))) }
+        (F.holds files.new path.now))) }
     ensures others { LeavesOthers path.now (F.holds files.old) (F.holds files.new) }
 
     // It fails only where the count of failed writes of this path rose.

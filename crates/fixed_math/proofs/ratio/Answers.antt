@@ -13,6 +13,6 @@ returns c =
     ratio_not_negative c.args.n c.args.d c.requires.not_negative c.requires.positive in
     let high : ratio_of c.args.n c.args.d ≤ℤ pos 65536 =
     ratio_at_most_one c.args.n c.args.d c.requires.not_negative c.requires.at_most_one
-        c.requires.positive in
+    c.requires.positive in
     let fits : FitsSigned w32 (ratio_of c.args.n c.args.d) = omega (arith, ints) in
     rw e (narrowed (ratio_of c.args.n c.args.d) fits)

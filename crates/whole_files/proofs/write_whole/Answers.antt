@@ -6,7 +6,7 @@ use Rattle.whole_files.proofs.write_whole.Goals as goal
 pub returns-in_err-count-clause-err : goal.returns-in_err-count-clause-err
 returns-in_err-count-clause-err g c =
     on_error _ _ (inr (part_written _ _ _ _ _ c.loop-rest.invariant.written
-        c.in_err-count.ensures.err))
+    c.in_err-count.ensures.err))
 
 pub returns-in_err-begin-clause-asked : goal.returns-in_err-begin-clause-asked
 returns-in_err-begin-clause-asked g c =
@@ -15,7 +15,7 @@ returns-in_err-begin-clause-asked g c =
 pub returns-in_err-count-clause-asked : goal.returns-in_err-count-clause-asked
 returns-in_err-count-clause-asked g c =
     some_offers _ _ _ _ _ (offered _ _ _ _ _ _ _ _ c.loop-rest.invariant.asked
-        c.in_err-count.ensures.called refl)
+    c.in_err-count.ensures.called refl)
 
 pub loop-rest-preserved : goal.loop-rest-preserved
 loop-rest-preserved g c = record {

@@ -1,5 +1,6 @@
-use Rattle.axis_space.proofs.CoordinateLemmas.{default_is, default_member, least_is, least_from,
-    least_each, greatest_is, greatest_from, greatest_each}
+use Rattle.axis_space.proofs.CoordinateLemmas.{default_is, default_member, least_is, least_from}
+use Rattle.axis_space.proofs.CoordinateLemmas.{least_each, greatest_is, greatest_from}
+use Rattle.axis_space.proofs.CoordinateLemmas.{greatest_each}
 use Rattle.axis_space.proofs.coordinates.scale_of.Goals as goal
 
 pub returns : goal.returns
@@ -9,8 +10,8 @@ returns c =
     let masters = c.args.masters.now in
     let from = c.coordinate-default.result.0 in
     let member = default_member kind c.args.origin axis masters c.index-masters-origin.result
-        c.coordinate-default.result c.requires.origin c.index-masters-origin.is
-        c.coordinate-default.ensures in
+    c.coordinate-default.result c.requires.origin c.index-masters-origin.is
+    c.coordinate-default.ensures in
     let low = least_is kind axis masters from c.least.result.0 member c.least.ensures in
     let high = greatest_is kind axis masters from c.greatest.result.0 member c.greatest.ensures in
     record {

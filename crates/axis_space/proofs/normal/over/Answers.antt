@@ -2,15 +2,15 @@ use Rattle.std.proofs.Common.{◌≡◌, arith, ◌∙◌, pos, negsuc, ◌*ℤ�
 use Rattle.std.proofs.lemmas.Int.{ints}
 use Rattle.std.specs.Int.{w16, w128}
 use Rattle.font_ir.specs.Normal.{nearest}
-use Rattle.axis_space.proofs.NearestLemmas.{nearest_low, nearest_high, nearest_opposite,
-    nearest_whole, narrowed, part_is}
+use Rattle.axis_space.proofs.NearestLemmas.{nearest_low, nearest_high, nearest_opposite}
+use Rattle.axis_space.proofs.NearestLemmas.{nearest_whole, narrowed, part_is}
 use Rattle.axis_space.proofs.normal.over.Goals as goal
 
 pub overflow_cast-result : goal.overflow_cast-result
 overflow_cast-result c =
     let part : c.nearest.result ≡ nearest (pos 16384 *ℤ c.args.way) c.args.whole =
     part_is c.args.way c.args.whole _ _ _ c.ranges.way c.ranges.whole c.from.ensures
-        c.from-2.ensures c.nearest.ensures in
+    c.from-2.ensures c.nearest.ensures in
     let low = nearest_low c.args.way c.args.whole c.requires.positive c.requires.low in
     let high = nearest_high c.args.way c.args.whole c.requires.positive c.requires.high in
     let least : negsuc 16383 ≤ℤ c.nearest.result = omega (arith, ints) in
@@ -21,7 +21,7 @@ pub returns : goal.returns
 returns c =
     let part : c.nearest.result ≡ nearest (pos 16384 *ℤ c.args.way) c.args.whole =
     part_is c.args.way c.args.whole _ _ _ c.ranges.way c.ranges.whole c.from.ensures
-        c.from-2.ensures c.nearest.ensures in
+    c.from-2.ensures c.nearest.ensures in
     let low = nearest_low c.args.way c.args.whole c.requires.positive c.requires.low in
     let high = nearest_high c.args.way c.args.whole c.requires.positive c.requires.high in
     let least : negsuc 16383 ≤ℤ c.nearest.result = omega (arith, ints) in

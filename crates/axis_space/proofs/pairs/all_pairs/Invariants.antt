@@ -5,4 +5,4 @@ use Rattle.axis_space.proofs.pairs.all_pairs.Given as goal
 abbrev pub invariant-loop-master : goal.invariant-loop-master
 invariant-loop-master l =
     l.pairs.items ≡ fixed_pairs ++ map (master_pair l.masters l.fn.origin l.axis)
-        (take l.master-index l.masters)
+    (take l.master-index l.masters)

@@ -9,7 +9,7 @@ returns-in-Some-clause-set c =
     let set = pairs_of c.args.masters.now c.args.origin c.args.axis in
     let fall : first_fall (in_order set) ≡ Some c.in-Some.x =
     sym (c.first_fall.ensures ∙ ap first_fall c.as_slice.ensures.value
-        ∙ ap first_fall c.in_ok-pairs.ensures) ∙ c.in-Some.is in
+    ∙ ap first_fall c.in_ok-pairs.ensures) ∙ c.in-Some.is in
     refused set c.in-Some.x fall
 
 pub returns-in-Some-clause-computed : goal.returns-in-Some-clause-computed
@@ -18,7 +18,7 @@ returns-in-Some-clause-computed c =
     let set = pairs_of c.args.masters.now c.args.origin c.args.axis in
     let fall : first_fall (in_order set) ≡ Some c.in-Some.x =
     sym (c.first_fall.ensures ∙ ap first_fall c.as_slice.ensures.value
-        ∙ ap first_fall c.in_ok-pairs.ensures) ∙ c.in-Some.is in
+    ∙ ap first_fall c.in_ok-pairs.ensures) ∙ c.in-Some.is in
     ap (λ o. judged_by o (in_order set)) fall
 
 pub returns-in-None-clause-set : goal.returns-in-None-clause-set
@@ -26,7 +26,7 @@ returns-in-None-clause-set c =
     let set = pairs_of c.args.masters.now c.args.origin c.args.axis in
     let none : first_fall (in_order set) ≡ None =
     sym (c.first_fall.ensures ∙ ap first_fall c.as_slice.ensures.value
-        ∙ ap first_fall c.in_ok-pairs.ensures) ∙ c.in-None.is in
+    ∙ ap first_fall c.in_ok-pairs.ensures) ∙ c.in-None.is in
     accepted set c.in_ok-pairs.pairs.items c.in_ok-pairs.ensures none
 
 pub returns-in-None-clause-computed : goal.returns-in-None-clause-computed
@@ -35,5 +35,5 @@ returns-in-None-clause-computed c =
     let set = pairs_of c.args.masters.now c.args.origin c.args.axis in
     let none : first_fall (in_order set) ≡ None =
     sym (c.first_fall.ensures ∙ ap first_fall c.as_slice.ensures.value
-        ∙ ap first_fall c.in_ok-pairs.ensures) ∙ c.in-None.is in
+    ∙ ap first_fall c.in_ok-pairs.ensures) ∙ c.in-None.is in
     ap (λ o. judged_by o (in_order set)) none ∙ ap Ok (sym c.in_ok-pairs.ensures)

@@ -5,5 +5,5 @@ use Rattle.axis_space.proofs.points.neighbour_below.Given as goal
 abbrev pub invariant-loop-master : goal.invariant-loop-master
 invariant-loop-master l =
     spec.higher l.nearest (spec.below l.design.0
-        (spec.points_of (drop l.master-index l.masters) l.axis))
-        ≡ spec.below l.design.0 (spec.points_of l.masters l.axis)
+    (spec.points_of (drop l.master-index l.masters) l.axis))
+    ≡ spec.below l.design.0 (spec.points_of l.masters l.axis)

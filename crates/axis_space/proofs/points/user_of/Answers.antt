@@ -14,8 +14,8 @@ reading-requires c = record {
 pub returns : goal.returns
 returns c =
     let value = value_is c.args.masters.now c.args.axis c.args.design.0 c.reading.result.0
-        c.neighbour_below-below.result c.neighbour_above-above.result
-        c.neighbour_below-below.ensures c.neighbour_above-above.ensures c.reading.ensures in
+    c.neighbour_below-below.result c.neighbour_above-above.result
+    c.neighbour_below-below.ensures c.neighbour_above-above.ensures c.reading.ensures in
     record {
       reading = reads c.args.masters.now c.args.axis c.args.design.0 c.reading.result.0
           c.requires.master value;

@@ -1,5 +1,5 @@
-use Rattle.std.proofs.Common.{◌≡◌, ◌+◌, ◌≤◌, [], ◌∷◌, ◌++◌, ◌∙◌, true, false, ap, sym, subst, arith,
-    append_assoc, drop, get_or}
+use Rattle.std.proofs.Common.{◌≡◌, ◌+◌, ◌≤◌, [], ◌∷◌, ◌++◌, ◌∙◌, true, false, ap, sym, subst, arith}
+use Rattle.std.proofs.Common.{append_assoc, drop, get_or}
 use Rattle.cmap_writer.specs.Runs.{run_of, continues, joined, longest_runs}
 use Rattle.cmap_writer.proofs.Joins.{is_next, step_on, step_off}
 use Rattle.cmap_writer.proofs.runs.runs_after.Goals as goal
@@ -18,19 +18,19 @@ loop-code-preserved c =
     elim c.if-continues.branch [
       | then-continues w ↦
           let here : continues run (run_of code) ≡ true = sym c.continues.ensures
-              ∙ w.if-continues.true in
+          ∙ w.if-continues.true in
           let next = is_next run (run_of code) here in
           record {
             bounded = subst (λ r. r.first + r.more ≤ 1114111) (sym w.run-is) (omega arith);
             told =
                 (λ j. (w.runs-is j).items ++ joined (w.run-is j) rest)
                 ∙ ap (λ more. runs ++ more) (sym (step_on codes i (0, 0) run c.loop-code-test.true
-                    here))
+                here))
                 ∙ before.told;
           }
       | else-continues+in_ok-push w ↦
           let here : continues run (run_of code) ≡ false = sym c.continues.ensures
-              ∙ w.if-continues.false in
+          ∙ w.if-continues.false in
           record {
             bounded = subst (λ r. r.first + r.more ≤ 1114111)
                 (sym (w.run-is ∙ w.run_of-run.ensures)) (omega arith);
@@ -40,7 +40,7 @@ loop-code-preserved c =
                 ∙ append_assoc runs (run ∷ []) (joined w.run_of-run.result rest)
                 ∙ ap (λ r. runs ++ (run ∷ joined r rest)) w.run_of-run.ensures
                 ∙ ap (λ more. runs ++ more) (sym (step_off codes i (0, 0) run c.loop-code-test.true
-                    here))
+                here))
                 ∙ before.told;
           }
     ]

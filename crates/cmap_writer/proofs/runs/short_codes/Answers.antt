@@ -8,6 +8,6 @@ returns c =
     let codes = c.args.codes.now in
     let parted = IsPartitionedBy-leb (λ code. code.0) codes 65534 (rising_keys codes c.requires) in
     let point = IsPartitionPoint-from_clause (λ code. nat_le code.0 65534) _ _
-        c.partition_point-count.ensures.partitioned parted (λ a r q k. search rules) in
+    c.partition_point-count.ensures.partitioned parted (λ a r q k. search rules) in
     take-filter (λ code. nat_le code.0 65534) codes _ c.partition_point-count.ensures.bound point.0
-        point.1
+    point.1

@@ -14,7 +14,7 @@ pub returns-then-length-gt-LONGEST_SUBTABLE : goal.returns-then-length-gt-LONGES
 returns-then-length-gt-LONGEST_SUBTABLE c =
     let same = ap length c.in_ok-segments.ensures in
     let count : c.len.result ≡ length (segments c.args.codes.now)
-        = omega (arith, c.len.ensures, same) in
+    = omega (arith, c.len.ensures, same) in
     is_too_large c.args.codes.now _ (c.format_4_length-length.ensures ∙ ap format_4_length count)
     c.if-length-gt-LONGEST_SUBTABLE.true
 
@@ -22,7 +22,7 @@ pub returns : goal.returns
 returns c =
     let same = ap length c.in_ok-segments.ensures in
     let count : c.len.result ≡ length (segments c.args.codes.now)
-        = omega (arith, c.len.ensures, same) in (
+    = omega (arith, c.len.ensures, same) in (
       is_not_too_large c.args.codes.now _ (c.format_4_length-length.ensures
           ∙ ap format_4_length count)
           c.if-length-gt-LONGEST_SUBTABLE.false,

@@ -7,7 +7,7 @@ use Rattle.cmap_writer.proofs.table.short_segments.Goals as goal
 pub longest_runs-requires : goal.longest_runs-requires
 longest_runs-requires c =
     All-same (λ code. code.0 ≤ 1114111) _ _ c.short_codes.ensures
-        (short_within c.args.codes.now c.requires)
+    (short_within c.args.codes.now c.requires)
 
 pub segments_of-requires : goal.segments_of-requires
 segments_of-requires c =

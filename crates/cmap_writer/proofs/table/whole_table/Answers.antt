@@ -14,6 +14,6 @@ returns c =
     (c.in_ok-push_format_4.ensures
     ∙ ap (λ table. table ++ format_4 segments)
     (c.in_ok-push_two_records.ensures ∙ ap (λ table. table ++ two_records len)
-        c.in_ok-table.ensures.items))
+    c.in_ok-table.ensures.items))
     ∙ whole_table_is segments groups len (c.format_4_length.ensures
-        ∙ sym (length-format_4 segments))
+    ∙ sym (length-format_4 segments))

@@ -12,7 +12,7 @@ returns-clause-laws c =
     let deltas : List (ℤ × ℤ) = c.args.deltas.now in
     let P : List Bool → Type 0 = AreMarks contours deltas in
     let whole = contours_all items c.args.contours.now c.loop-contour.contour-index _
-        c.loop-contour.marks.items (omitted contours deltas) (omega arith)
-        c.loop-contour.invariant.told in
+    c.loop-contour.marks.items (omitted contours deltas) (omega arith)
+    c.loop-contour.invariant.told in
     subst P (sym whole) (omitted_laws contours deltas
-        (c.requires ∙ sizes_of items c.args.contours.now))
+    (c.requires ∙ sizes_of items c.args.contours.now))

@@ -10,5 +10,5 @@ loop-at-preserved c =
     let at = c.loop-at.at in
     let P : Run → Type 0 = λ r. IsTried points old c.push.new.self.items r.first r.start (at + 1) in
     subst P (sym c.after-run.ensures) (tried_next points old c.loop-at.marks.items
-        c.push.new.self.items c.loop-at.run at c.fits-left_out.result c.loop-at.invariant
-        (omega arith) c.in_ok-push.ensures.items c.fits-left_out.ensures)
+    c.push.new.self.items c.loop-at.run at c.fits-left_out.result c.loop-at.invariant
+    (omega arith) c.in_ok-push.ensures.items c.fits-left_out.ensures)

@@ -7,9 +7,9 @@ pub returns : goal.returns
 returns c =
     let bytes = c.args.bytes.now in
     let read : c.read_u32.result ≡ big_number 4
-        (c.copy_from_slice.new.self ++ drop (length bytes) (0 ∷ 0 ∷ 0 ∷ 0 ∷ []))
-        = c.read_u32.ensures in
+    (c.copy_from_slice.new.self ++ drop (length bytes) (0 ∷ 0 ∷ 0 ∷ 0 ∷ []))
+    = c.read_u32.ensures in
     read
     ∙ ap (λ front. big_number 4 (front ++ drop (length bytes) (0 ∷ 0 ∷ 0 ∷ 0 ∷ [])))
-        c.copy_from_slice.ensures.after
+    c.copy_from_slice.ensures.after
     ∙ total-last bytes c.requires

@@ -6,7 +6,7 @@ pub returns-clause-bytes : goal.returns-clause-bytes
 unfolding directory_head
 returns-clause-bytes c =
     let power : c.pow-search_range.result ≡ 2 ^ c.entry_selector-entry_selector.result
-        = c.pow-search_range.ensures ∙ ap (λ n. 2 ^ n) c.from.ensures in
+    = c.pow-search_range.ensures ∙ ap (λ n. 2 ^ n) c.from.ensures in
     rw (← c.entry_selector-entry_selector.ensures.value, ← power)
     (rw (
       c.in_ok-push_uint16-4.ensures.bytes,

@@ -10,7 +10,7 @@ returns c =
     let points = stored_points c.args.contours.now in
     let sides =
     sym (at_drop_all (λ contours. widened_by_all c.loop-contour.bounds (stored_points contours))
-        c.args.contours.now c.loop-contour.contour-index (omega arith))
+    c.args.contours.now c.loop-contour.contour-index (omega arith))
     ∙ c.loop-contour.invariant
     ∙ widened_all points in
     record {

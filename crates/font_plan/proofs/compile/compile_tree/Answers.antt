@@ -10,4 +10,4 @@ compile_glyphs-requires-clause-order c =
     ap length c.as_slice.ensures.value
     ∙ sym (length-map c.in_ok-glyphs.glyphs.items arc_value)
     ∙ one_glyph_a_name c.args.tree.now c.in_ok-header.header c.in_ok-index.index
-        (glyphs_of c.in_ok-glyphs.glyphs.items) c.in_ok-glyphs.ensures.glyphs
+    (glyphs_of c.in_ok-glyphs.glyphs.items) c.in_ok-glyphs.ensures.glyphs

@@ -18,10 +18,10 @@ returns-in-Some-clause-glyph c =
     let t = c.args.tree.now in
     let h = c.args.header.now in
     subst (λ (o : Option (ℕ × Entry)). Gives (λ (glyph : FlatGlyph). glyph) c.drawn.result
-        (notdef_of t h o)) (sym found.2)
+    (notdef_of t h o)) (sym found.2)
     (subst (λ (o : Option Entry). IfSome o
-        (λ entry. Gives (λ (glyph : FlatGlyph). glyph) c.drawn.result
-        (drawn_of t h (c.in-Some.number, entry)))) found.1 c.drawn.ensures.glyph)
+    (λ entry. Gives (λ (glyph : FlatGlyph). glyph) c.drawn.result
+    (drawn_of t h (c.in-Some.number, entry)))) found.1 c.drawn.ensures.glyph)
 
 pub made_notdef-requires : goal.made_notdef-requires
 made_notdef-requires c = read_header_is_whole c.args.header.now c.requires.read
@@ -30,7 +30,7 @@ pub returns-in_ok-made_notdef-in-None-clause-glyph
     : goal.returns-in_ok-made_notdef-in-None-clause-glyph
 returns-in_ok-made_notdef-in-None-clause-glyph c =
     ap (notdef_of c.args.tree.now c.args.header.now) (no_notdef _ c.in-None.ensures.number)
-        ∙ ap Ok (sym c.in_ok-made_notdef-in-None.ensures.glyph)
+    ∙ ap Ok (sym c.in_ok-made_notdef-in-None.ensures.glyph)
 
 pub returns-in_ok-made_notdef-in-None-clause-drawn
     : goal.returns-in_ok-made_notdef-in-None-clause-drawn

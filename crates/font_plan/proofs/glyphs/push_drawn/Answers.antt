@@ -11,7 +11,7 @@ use Rattle.font_plan.proofs.glyphs.push_drawn.Goals as goal
 pub returns-clause-drawn : goal.returns-clause-drawn
 returns-clause-drawn c =
     subst (λ (items : List (Arc FlatGlyph Global)). All (IsDrawn c.args.header.now)
-        (glyphs_of items)) (sym c.in_ok-push.ensures.items)
+    (glyphs_of items)) (sym c.in_ok-push.ensures.items)
     (drawn_push c.args.header.now c.args.glyphs.now.items c.in_ok-new.field-0 c.requires.drawn
     (subst (λ (glyph : FlatGlyph). IsDrawn c.args.header.now glyph) (sym c.in_ok-new.ensures.ok)
-        c.in_ok-glyph.ensures.drawn))
+    c.in_ok-glyph.ensures.drawn))

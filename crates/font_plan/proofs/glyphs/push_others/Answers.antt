@@ -22,10 +22,10 @@ returns-in-Err-clause-glyphs c =
     let before = glyphs_of c.loop-number.glyphs.items in
     let entry : Entry = (c.entry_at.result.0.now, c.entry_at.result.1.now) in
     refused_here t h index n entry before _ c.in-Err.error c.entry_at.ensures
-        (sym c.is_other.ensures ∙ c.if-is_other.true) c.loop-number.invariant.0
+    (sym c.is_other.ensures ∙ c.if-is_other.true) c.loop-number.invariant.0
     (subst (λ o. IfSome o (λ x. RefusesRead c.in-Err.error
-        (followed_by before (all_drawn t h ((n, x) ∷ []))))) c.entry_at.ensures
-        c.in-Err.ensures.glyphs)
+    (followed_by before (all_drawn t h ((n, x) ∷ []))))) c.entry_at.ensures
+    c.in-Err.ensures.glyphs)
 
 pub loop-number-preserved : goal.loop-number-preserved
 loop-number-preserved c =
@@ -39,11 +39,11 @@ loop-number-preserved c =
       | then-is_other+in_default w ↦
           (let after = glyphs_of w.push_drawn.new.glyphs.items in
           let one = subst (λ o. IfSome o (λ x. followed_by before (all_drawn t h ((n, x) ∷ []))
-              ≡ Ok after)) c.entry_at.ensures w.in_default.ensures.glyphs in (
+          ≡ Ok after)) c.entry_at.ensures w.in_default.ensures.glyphs in (
             ap (λ (v : Vec (Arc FlatGlyph Global)). followed_by (glyphs_of v.items)
                 (all_drawn t h (others_from (n + 1) (drop (n + 1) index)))) w.glyphs-is
                 ∙ drawn_here t h index n entry before after c.entry_at.ensures
-                    (sym c.is_other.ensures ∙ w.if-is_other.true) one ∙ c.loop-number.invariant.0,
+                (sym c.is_other.ensures ∙ w.if-is_other.true) one ∙ c.loop-number.invariant.0,
             subst (λ (v : Vec (Arc FlatGlyph Global)). All (IsDrawn h) (glyphs_of v.items))
                 (sym w.glyphs-is) w.in_default.ensures.drawn,
           ))
@@ -51,8 +51,8 @@ loop-number-preserved c =
         ap (λ (v : Vec (Arc FlatGlyph Global)). followed_by (glyphs_of v.items)
             (all_drawn t h (others_from (n + 1) (drop (n + 1) index)))) w.glyphs-is
             ∙ ap (λ glyphs. followed_by before (all_drawn t h glyphs))
-                (sym (others_later index n entry c.entry_at.ensures
-                (sym c.is_other.ensures ∙ w.if-is_other.false))) ∙ c.loop-number.invariant.0,
+            (sym (others_later index n entry c.entry_at.ensures
+            (sym c.is_other.ensures ∙ w.if-is_other.false))) ∙ c.loop-number.invariant.0,
         subst (λ (v : Vec (Arc FlatGlyph Global)). All (IsDrawn h) (glyphs_of v.items))
             (sym w.glyphs-is) c.loop-number.invariant.1,
       )

@@ -9,7 +9,7 @@ use Rattle.font_plan.proofs.glyphs.push_others.Given as goal
 abbrev pub invariant-loop-number : goal.invariant-loop-number
 invariant-loop-number l =
     (followed_by (glyphs_of l.glyphs.items)
-        (all_drawn l.tree l.header (others_from l.number (drop l.number l.index)))
-        ≡ followed_by (glyphs_of l.initial.glyphs.items)
-        (all_drawn l.tree l.header (others_from 0 l.index)))
+    (all_drawn l.tree l.header (others_from l.number (drop l.number l.index)))
+    ≡ followed_by (glyphs_of l.initial.glyphs.items)
+    (all_drawn l.tree l.header (others_from 0 l.index)))
     × All (IsDrawn l.header) (glyphs_of l.glyphs.items)

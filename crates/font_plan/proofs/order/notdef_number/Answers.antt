@@ -10,7 +10,7 @@ returns-then-is_notdef c =
     let entry : Entry = (found.0.now, found.1.now) in
     let here : notdef_from 0 c.args.index.now ≡ Some (c.loop-number.number, entry) =
     sym c.loop-number.invariant ∙ notdef_here c.args.index.now c.loop-number.number entry
-        c.entry_at.ensures (sym c.is_notdef.ensures ∙ c.if-is_notdef.true)
+    c.entry_at.ensures (sym c.is_notdef.ensures ∙ c.if-is_notdef.true)
     in
     record {
       number = sym (ap (option_map (λ (glyph : ℕ × Entry). glyph.0)) here);
@@ -21,5 +21,5 @@ pub loop-number-preserved : goal.loop-number-preserved
 loop-number-preserved c =
     let found = c.entry_at.result in
     sym (notdef_later c.args.index.now c.loop-number.number (found.0.now, found.1.now)
-        c.entry_at.ensures (sym c.is_notdef.ensures ∙ c.if-is_notdef.false))
-        ∙ c.loop-number.invariant
+    c.entry_at.ensures (sym c.is_notdef.ensures ∙ c.if-is_notdef.false))
+    ∙ c.loop-number.invariant

@@ -10,7 +10,7 @@ use Rattle.font_plan.proofs.order.order_in.Goals as goal
 pub push_others-requires-clause-different : goal.push_others-requires-clause-different
 push_others-requires-clause-different c =
     subst (λ (names : List (List ℕ)). IsDistinct (pointwise nat_eq)
-        (names ++ map (λ glyph. glyph.1.0) (others_from 0 c.args.index.now)))
+    (names ++ map (λ glyph. glyph.1.0) (others_from 0 c.args.index.now)))
     (sym (c.in_ok-push_glyph.ensures.names
-        ∙ ap (λ (names : List (List ℕ)). names ++ codes ".notdef" ∷ []) c.new-order.ensures.names))
+    ∙ ap (λ (names : List (List ℕ)). names ++ codes ".notdef" ∷ []) c.new-order.ensures.names))
     (names_differ c.args.index.now c.len-count.ensures.different)

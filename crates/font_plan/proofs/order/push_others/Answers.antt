@@ -1,6 +1,6 @@
 -- the next name is none of those before it, and goes last
-use Rattle.std.proofs.Common.{◌≡◌, ◌≤◌, ◌+◌, ℕ, List, ◌∷◌, ◌++◌, map, length, Option, Some, false,
-    is_some, [], nat_eq, ap, sym, ◌∙◌, subst, drop, arith}
+use Rattle.std.proofs.Common.{◌≡◌, ◌≤◌, ◌+◌, ℕ, List, ◌∷◌, ◌++◌, map, length, Option, Some, false}
+use Rattle.std.proofs.Common.{is_some, [], nat_eq, ap, sym, ◌∙◌, subst, drop, arith}
 use Rattle.std.specs.List.{IsDistinct}
 use Rattle.refusal_codes.specs.declared.limits.TheConstants.{NAME_BYTES}
 use Rattle.font_ir.specs.Glyphs.{Glyphs, gid_of}
@@ -28,20 +28,24 @@ push_glyph-requires-clause-room c =
     let index = c.args.index.now in
     let n = c.loop-number.number in
     let whole = sym (others_next name_of c.loop-number.order.names index n
-        (found.0.now, found.1.now) c.entry_at.ensures (sym c.is_other.ensures ∙ c.if-is_other.true))
-        ∙ c.loop-number.invariant.1 in
+    (found.0.now, found.1.now) c.entry_at.ensures (sym c.is_other.ensures ∙ c.if-is_other.true))
+    ∙ c.loop-number.invariant.1 in
     let few : length (c.args.order.now.names ++ map name_of (others_from 0 index)) ≤ 65535
-        = omega (arith, length-append c.args.order.now.names (map name_of (others_from 0 index)),
-        length-map (others_from 0 index) name_of, c.requires.glyphs) in
+    = omega (
+      arith,
+      length-append c.args.order.now.names (map name_of (others_from 0 index)),
+      length-map (others_from 0 index) name_of,
+      c.requires.glyphs,
+    ) in
     room_left c.loop-number.order.names (map name_of (others_from (n + 1) (drop (n + 1) index))) _
-        found.0.now whole few
+    found.0.now whole few
 
 pub push_glyph-requires-clause-short : goal.push_glyph-requires-clause-short
 push_glyph-requires-clause-short c =
     let found = c.entry_at.result in
     subst (λ (name : List ℕ). length name ≤ NAME_BYTES) (sym c.as_bytes.ensures)
-        (short_there c.args.index.now c.loop-number.number (found.0.now, found.1.now)
-        c.requires.named c.entry_at.ensures)
+    (short_there c.args.index.now c.loop-number.number (found.0.now, found.1.now)
+    c.requires.named c.entry_at.ensures)
 
 pub push_glyph-requires-clause-new : goal.push_glyph-requires-clause-new
 push_glyph-requires-clause-new c =
@@ -49,13 +53,13 @@ push_glyph-requires-clause-new c =
     let index = c.args.index.now in
     let n = c.loop-number.number in
     let whole = sym (others_next name_of c.loop-number.order.names index n
-        (found.0.now, found.1.now) c.entry_at.ensures (sym c.is_other.ensures ∙ c.if-is_other.true))
-        ∙ c.loop-number.invariant.1 in
+    (found.0.now, found.1.now) c.entry_at.ensures (sym c.is_other.ensures ∙ c.if-is_other.true))
+    ∙ c.loop-number.invariant.1 in
     subst (λ (name : List ℕ). is_some (gid_of c.loop-number.order.names name) ≡ false)
-        (sym c.as_bytes.ensures)
+    (sym c.as_bytes.ensures)
     (new_name c.loop-number.order.names (map name_of (others_from (n + 1) (drop (n + 1) index)))
-        found.0.now (subst (λ (names : List (List ℕ)). IsDistinct (pointwise nat_eq) names)
-        (sym whole) c.requires.different))
+    found.0.now (subst (λ (names : List (List ℕ)). IsDistinct (pointwise nat_eq) names)
+    (sym whole) c.requires.different))
 
 pub loop-number-preserved : goal.loop-number-preserved
 loop-number-preserved c =
@@ -72,12 +76,12 @@ loop-number-preserved c =
                 (ap (λ (order : Glyphs). order.numbers) w.order-is
                 ∙ w.in_ok-push_glyph.ensures.numbers)
                 ∙ sym (others_next number_of before.numbers index n entry c.entry_at.ensures here)
-                    ∙ c.loop-number.invariant.0,
+                ∙ c.loop-number.invariant.0,
             moved before.names after.names (map name_of (rest n index)) (name_of (n, entry))
                 (ap (λ (order : Glyphs). order.names) w.order-is ∙ w.in_ok-push_glyph.ensures.names
                 ∙ ap (λ (name : List ℕ). before.names ++ name ∷ []) w.as_bytes.ensures)
                 ∙ sym (others_next name_of before.names index n entry c.entry_at.ensures here)
-                    ∙ c.loop-number.invariant.1,
+                ∙ c.loop-number.invariant.1,
           ))
       | else-is_other w ↦
           (let passed = sym c.is_other.ensures ∙ w.if-is_other.false in (

@@ -12,5 +12,5 @@ all_parts-requires-clause-drawn c = drawn_behind c.args.header.now c.args.glyphs
 pub returns : goal.returns
 returns c =
     subst (λ (bytes : List (List ℕ)). IfOk c.all_parts.result
-        (λ parts. map (λ (part : Arc (Vec ℕ) Global). part.value.items) parts.items ≡ bytes))
+    (λ parts. map (λ (part : Arc (Vec ℕ) Global). part.value.items) parts.items ≡ bytes))
     (parts_behind c.args.header.now c.args.glyphs.now) c.all_parts.ensures

@@ -20,21 +20,21 @@ pub file_of-requires-clause-head : goal.file_of-requires-clause-head
 file_of-requires-clause-head c =
     subst HasHead
     (sym (six c.in_ok-table.ensures (c.in_ok-table-2.ensures
-        ∙ ap (table_of_tag (codes "head")) c.in_ok-head.ensures)
+    ∙ ap (table_of_tag (codes "head")) c.in_ok-head.ensures)
     (c.in_ok-table-3.ensures ∙ ap (table_of_tag (codes "hhea")) c.in_ok-hhea.ensures)
-        (c.in_ok-table-4.ensures ∙ ap (table_of_tag (codes "hmtx")) c.in_ok-hmtx.ensures)
+    (c.in_ok-table-4.ensures ∙ ap (table_of_tag (codes "hmtx")) c.in_ok-hmtx.ensures)
     c.in_ok-table-5.ensures (c.in_ok-table-6.ensures
-        ∙ ap (table_of_tag (codes "maxp")) c.in_ok-maxp.ensures)))
+    ∙ ap (table_of_tag (codes "maxp")) c.in_ok-maxp.ensures)))
     (has_head c.args.header.now c.args.measures.now c.args.glyf.items c.args.loca.items)
 
 pub returns : goal.returns
 returns c =
     subst (λ (tables : List Table). Compiles (λ (font : Vec ℕ). font.items) c.file_of.result
-        (filed tables))
+    (filed tables))
     (six c.in_ok-table.ensures (c.in_ok-table-2.ensures
-        ∙ ap (table_of_tag (codes "head")) c.in_ok-head.ensures)
+    ∙ ap (table_of_tag (codes "head")) c.in_ok-head.ensures)
     (c.in_ok-table-3.ensures ∙ ap (table_of_tag (codes "hhea")) c.in_ok-hhea.ensures)
-        (c.in_ok-table-4.ensures ∙ ap (table_of_tag (codes "hmtx")) c.in_ok-hmtx.ensures)
+    (c.in_ok-table-4.ensures ∙ ap (table_of_tag (codes "hmtx")) c.in_ok-hmtx.ensures)
     c.in_ok-table-5.ensures (c.in_ok-table-6.ensures
-        ∙ ap (table_of_tag (codes "maxp")) c.in_ok-maxp.ensures))
+    ∙ ap (table_of_tag (codes "maxp")) c.in_ok-maxp.ensures))
     c.file_of.ensures

@@ -17,14 +17,19 @@ loop-contour-preserved c =
     let contours = c.args.contours.now in
     let item = c.contour-item.result in
     let some : 0 < length item.points = subst (λ contour. 0 < length contour.points)
-        (sym c.contour-item.is) (c.requires.none_empty c.loop-contour.contour-index item
-        (omega arith)) in
+    (sym c.contour-item.is) (c.requires.none_empty c.loop-contour.contour-index item
+    (omega arith)) in
     record {
       told = end_step (λ contour. length contour.points) contours c.loop-contour.contour-index item
           _ _ _ c.loop-contour.count c.len-count.result (omega arith) c.contour-item.is
           c.len-count.ensures (omega (arith, some, c.len-count.ensures))
           c.in_ok-push_uint16.ensures.bytes c.loop-contour.invariant.told;
-      counted = omega (arith, c.loop-contour.invariant.counted, c.len-count.ensures, count_step
-          (λ contour. length contour.points) contours c.loop-contour.contour-index item
-          (omega arith) c.contour-item.is);
+      counted = omega (
+        arith,
+        c.loop-contour.invariant.counted,
+        c.len-count.ensures,
+        count_step
+            (λ contour. length contour.points) contours c.loop-contour.contour-index item
+            (omega arith) c.contour-item.is,
+      );
     }

@@ -1,6 +1,5 @@
-use Rattle.std.proofs.Common.{◌≡◌, ◌+◌, ◌<◌, ◌≤◌, ◌++◌, ℕ, ℤ, pos, Bool, true, false, ltb, List,
-    length, get_or,
-    sym, ap, ◌∙◌, arith, append_assoc}
+use Rattle.std.proofs.Common.{◌≡◌, ◌+◌, ◌<◌, ◌≤◌, ◌++◌, ℕ, ℤ, pos, Bool, true, false, ltb, List}
+use Rattle.std.proofs.Common.{length, get_or, sym, ap, ◌∙◌, arith, append_assoc}
 use Rattle.std.proofs.lemmas.Bool.Decides.{nat_tests}
 use Rattle.glyf_writer.specs.CompositeData.{component_bytes, component_at}
 use Rattle.glyf_writer.proofs.Components.{written_from, written_more}
@@ -24,9 +23,9 @@ loop-number-preserved c =
     ∙ append_assoc c.loop-number.bytes.items (written c.as_slice.result.now) rest
     ∙ ap (λ at. c.loop-number.bytes.items ++ (written at ++ rest)) c.as_slice.ensures
     ∙ ap (λ k. c.loop-number.bytes.items
-        ++ (component_bytes more (component_at c.args.origin k (get_or gids i 0)) ++ rest))
-        c.index-kept-number.is
+    ++ (component_bytes more (component_at c.args.origin k (get_or gids i 0)) ++ rest))
+    c.index-kept-number.is
     ∙ ap (λ bytes. c.loop-number.bytes.items ++ bytes)
-        (sym (written_more c.args.origin kept gids i item 0 more c.requires.gids (omega arith)
-            (λ e. grind (arith, nat_tests)) (λ e. grind (arith, nat_tests))))
+    (sym (written_more c.args.origin kept gids i item 0 more c.requires.gids (omega arith)
+    (λ e. grind (arith, nat_tests)) (λ e. grind (arith, nat_tests))))
     ∙ c.loop-number.invariant

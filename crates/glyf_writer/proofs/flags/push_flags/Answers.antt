@@ -1,5 +1,5 @@
-use Rattle.std.proofs.Common.{◌≡◌, ◌+◌, ◌-◌, ◌++◌, List, ℕ, length, take, drop, get_or, ap, sym,
-    ◌∙◌, arith, append_assoc, length-drop, drop-drop}
+use Rattle.std.proofs.Common.{◌≡◌, ◌+◌, ◌-◌, ◌++◌, List, ℕ, length, take, drop, get_or, ap, sym}
+use Rattle.std.proofs.Common.{◌∙◌, arith, append_assoc, length-drop, drop-drop}
 use Rattle.glyf_writer.specs.GlyphData.{with_repeats, flag_bytes}
 use Rattle.glyf_writer.proofs.Runs.{front_of, take_whole}
 use Rattle.glyf_writer.proofs.flags.push_flags.Goals as goal
@@ -20,8 +20,8 @@ loop-at-preserved c =
           ap (λ written. written ++ with_repeats (drop (at + n) flags)) c.in_ok-push_run.ensures
           ∙ append_assoc old piece (with_repeats (drop (at + n) flags))
           ∙ ap (λ more. old ++ (piece ++ with_repeats more))
-              (sym (drop-drop n at flags) ∙ ap (drop n) (sym whole))
+          (sym (drop-drop n at flags) ∙ ap (drop n) (sym whole))
           ∙ ap (λ more. old ++ more) (sym (front_of rest n run.some run.few run.equal run.longest)
-              ∙ ap with_repeats whole)
+          ∙ ap with_repeats whole)
           ∙ c.loop-at.invariant.told;
     }

@@ -18,14 +18,14 @@ loop-point-preserved c =
     let dx = kept_difference point.x (cast_signed w16 c.loop-point.x-bits) small.0 before.x_small in
     let dy = kept_difference point.y (cast_signed w16 c.loop-point.y-bits) small.1 before.y_small in
     let pushed = c.in_ok-push.ensures.items
-        ∙ (λ j. c.loop-point.steps.items ++ (record { dx = dx j; dy = dy j; on = point.on }) ∷ [])
-        in
+    ∙ (λ j. c.loop-point.steps.items ++ (record { dx = dx j; dy = dy j; on = point.on }) ∷ [])
+    in
     record {
       told =
           (λ j. c.push.new.self.items ++ steps_from (x_kept j) (y_kept j) (drop (i + 1) points))
           ∙ step_step points i (record { x = pos 0; y = pos 0; on = false })
-              c.loop-point.steps.items c.push.new.self.items _ (cast_signed w16 c.loop-point.x-bits)
-              (cast_signed w16 c.loop-point.y-bits) (omega arith) pushed before.told;
+          c.loop-point.steps.items c.push.new.self.items _ (cast_signed w16 c.loop-point.x-bits)
+          (cast_signed w16 c.loop-point.y-bits) (omega arith) pushed before.told;
       x_small = subst IsSmall (sym x_kept) small.0;
       y_small = subst IsSmall (sym y_kept) small.1;
     }

@@ -8,16 +8,26 @@ pub returns-then-loca_length-gt-LONGEST_TABLE : goal.returns-then-loca_length-gt
 returns-then-loca_length-gt-LONGEST_TABLE c =
     let parts = map (λ part. part.value.items) c.args.parts.now in
     loca_over parts _ _ c.total_length-glyf_length.ensures (omega arith)
-        (omega (arith, c.saturating_mul-loca_length.ensures, c.saturating_add.ensures, length-map
-        c.args.parts.now (λ part. part.value.items))) c.if-loca_length-gt-LONGEST_TABLE.true
+    (omega (
+      arith,
+      c.saturating_mul-loca_length.ensures,
+      c.saturating_add.ensures,
+      length-map
+          c.args.parts.now (λ part. part.value.items),
+    )) c.if-loca_length-gt-LONGEST_TABLE.true
 
 pub returns-in_err-short_tables : goal.returns-in_err-short_tables
 returns-in_err-short_tables c =
     let parts = map (λ part. part.value.items) c.args.parts.now in
     let none = none_over parts c.total_length-glyf_length.result c.saturating_mul-loca_length.result
-        c.total_length-glyf_length.ensures (omega arith)
-        (omega (arith, c.saturating_mul-loca_length.ensures, c.saturating_add.ensures, length-map
-        c.args.parts.now (λ part. part.value.items))) (omega arith) in
+    c.total_length-glyf_length.ensures (omega arith)
+    (omega (
+      arith,
+      c.saturating_mul-loca_length.ensures,
+      c.saturating_add.ensures,
+      length-map
+          c.args.parts.now (λ part. part.value.items),
+    )) (omega arith) in
     let p = err_from_is_err_and c.from_residual.result c.from_residual.ensures.1 in
     rw (p.1, p.2) none
 
@@ -25,7 +35,12 @@ pub returns : goal.returns
 returns c =
     let parts = map (λ part. part.value.items) c.args.parts.now in
     let none = none_over parts c.total_length-glyf_length.result c.saturating_mul-loca_length.result
-        c.total_length-glyf_length.ensures (omega arith)
-        (omega (arith, c.saturating_mul-loca_length.ensures, c.saturating_add.ensures, length-map
-        c.args.parts.now (λ part. part.value.items))) (omega arith) in
+    c.total_length-glyf_length.ensures (omega arith)
+    (omega (
+      arith,
+      c.saturating_mul-loca_length.ensures,
+      c.saturating_add.ensures,
+      length-map
+          c.args.parts.now (λ part. part.value.items),
+    )) (omega arith) in
     (none, λ i. (c.in_ok-short_tables.ensures.glyf i, c.in_ok-short_tables.ensures.loca i))

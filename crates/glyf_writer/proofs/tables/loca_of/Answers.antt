@@ -24,7 +24,12 @@ loop-part-preserved c =
       told = offset_step (λ part. part.value.items) parts c.loop-part.part-index item _ _ _
           c.loop-part.offset _ (omega arith) c.part-item.is sized c.in_ok-push_uint32.ensures.bytes
           c.loop-part.invariant.told;
-      counted = omega (arith, c.loop-part.invariant.counted, sized, total_step
-          (λ part. part.value.items) parts c.loop-part.part-index item (omega arith)
-          c.part-item.is);
+      counted = omega (
+        arith,
+        c.loop-part.invariant.counted,
+        sized,
+        total_step
+            (λ part. part.value.items) parts c.loop-part.part-index item (omega arith)
+            c.part-item.is,
+      );
     }

@@ -12,14 +12,14 @@ at place = record { rule = MissingLayer; place = place }
 pub returns-then-missing : goal.returns-then-missing
 returns-then-missing c =
     let few : ltb (length c.args.layers.now) (length c.args.masters.now)
-        ≡ true = grind (arith, nat_tests) in
+    ≡ true = grind (arith, nat_tests) in
     ap (λ (place : ℕ). Some (at place)) c.place_at.ensures
     ∙ missing_told c.args.tree.now c.args.masters.now c.args.glyph c.args.layers.now true c.requires
-        few
+    few
 
 pub returns-else-missing : goal.returns-else-missing
 returns-else-missing c =
     let all : ltb (length c.args.layers.now) (length c.args.masters.now)
-        ≡ false = grind (arith, nat_tests) in
+    ≡ false = grind (arith, nat_tests) in
     missing_told c.args.tree.now c.args.masters.now c.args.glyph c.args.layers.now false c.requires
-        all
+    all

@@ -15,11 +15,11 @@ loop-master-preserved c =
       flat_map_turn (master_layers t ns) c.args.masters.now c.loop-master.master-index
           c.master-item.result _ _ _ (omega arith)
           (c.in_ok-push_layer.ensures.layers ∙
-              ap (λ (m : Master). c.loop-master.layers.items ++ master_layers t ns m)
-              c.master-item.is) turn.0,
+          ap (λ (m : Master). c.loop-master.layers.items ++ master_layers t ns m)
+          c.master-item.is) turn.0,
       noted_turn (master_failures t ns) c.args.masters.now c.loop-master.master-index
           c.master-item.result _ _ _ (omega arith)
           (c.in_ok-push_layer.ensures.failures
-              ∙ ap (λ (m : Master). noted c.loop-master.first (master_failures t ns m))
-              c.master-item.is) turn.1,
+          ∙ ap (λ (m : Master). noted c.loop-master.first (master_failures t ns m))
+          c.master-item.is) turn.1,
     )

@@ -9,6 +9,6 @@ use Rattle.glyphs_layers.proofs.layers.read_shapes.Given as goal
 abbrev pub invariant-loop-number : goal.invariant-loop-number
 invariant-loop-number l =
     (l.shapes.items ++ flat_map (shapes_of l.tree) (drop l.number-index l.numbers)
-        ≡ flat_map (shapes_of l.tree) l.numbers)
+    ≡ flat_map (shapes_of l.tree) l.numbers)
     × (noted l.first (flat_map (shape_failures l.tree) (drop l.number-index l.numbers))
     ≡ noted l.initial.first (flat_map (shape_failures l.tree) l.numbers))

@@ -8,6 +8,6 @@ returns-then-not-is_empty c =
     let items = c.args.points.now.items in
     let some : 0 < length items = grind (arith, common_steps) in
     let turned : c.rotate_right.new.self ≡ drop (length items - 1) items
-        ++ take (length items - 1) items =
+    ++ take (length items - 1) items =
     grind (arith, common_steps) in
     turned_back items c.rotate_right.new.self c.args.points.now.len (search rules) some turned

@@ -12,7 +12,7 @@ loop-node-preserved c =
     let turn = c.loop-node.invariant in (
       map_turn (point_of t) c.args.nodes.now c.loop-node.node-index 0 _ _ _ (omega arith)
           (c.in_ok-push.ensures.items ∙ ap (λ (p : DrawnPoint). c.loop-node.points.items ++ p ∷ [])
-              c.read_node.ensures.point) turn.0,
+          c.read_node.ensures.point) turn.0,
       noted_turn (node_failures t) c.args.nodes.now c.loop-node.node-index 0 _ _ _ (omega arith)
           c.read_node.ensures.failures turn.1,
     )

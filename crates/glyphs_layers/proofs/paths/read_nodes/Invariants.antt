@@ -9,6 +9,6 @@ use Rattle.glyphs_layers.proofs.paths.read_nodes.Given as goal
 abbrev pub invariant-loop-node : goal.invariant-loop-node
 invariant-loop-node l =
     (l.points.items ++ map (point_of l.tree) (drop l.node-index l.nodes)
-        ≡ map (point_of l.tree) l.nodes)
+    ≡ map (point_of l.tree) l.nodes)
     × (noted l.first (flat_map (node_failures l.tree) (drop l.node-index l.nodes))
     ≡ noted l.initial.first (flat_map (node_failures l.tree) l.nodes))

@@ -22,9 +22,9 @@ pub returns-clause-added : goal.returns-clause-added
 returns-clause-added c = λ e.
     let m = c.args.entries.now in
     let none : get (pointwise nat_eq) m c.in_ok-name.name ≡ None = sym c.in_ok-earlier.ensures.old
-        ∙ none_from c.in_ok-earlier.earlier (sym c.is_some.ensures ∙ e) in
+    ∙ none_from c.in_ok-earlier.earlier (sym c.is_some.ensures ∙ e) in
     c.in_ok-earlier.ensures.entries
     ∙ insert_entry-new (pointwise nat_eq) m c.in_ok-name.name c.in_ok-entry.entry none
     ∙ ap (λ (name : List ℕ). m.entries ++ (name, c.in_ok-entry.entry) ∷ []) c.in_ok-name.ensures
     ∙ ap (λ (entry : IndexEntry). m.entries ++ (glyph_name c.args.tree.now c.args.glyph, entry)
-        ∷ []) c.in_ok-entry.ensures
+    ∷ []) c.in_ok-entry.ensures

@@ -7,6 +7,6 @@ use Rattle.glyphs_source.proofs.index.collect.Given as goal
 abbrev pub invariant-loop-number : goal.invariant-loop-number
 invariant-loop-number l =
     (repeated_names l.tree (keys_of l.entries.entries) (drop l.number l.glyphs)
-        ≡ repeated_names l.tree [] l.glyphs)
+    ≡ repeated_names l.tree [] l.glyphs)
     × (l.entries.entries ++ entries_from l.tree l.number (drop l.number l.glyphs)
-        ≡ entries_from l.tree 0 l.glyphs)
+    ≡ entries_from l.tree 0 l.glyphs)

@@ -7,4 +7,4 @@ use Rattle.glyphs_source.proofs.index.first_repeat.Given as goal
 abbrev pub invariant-loop-entry : goal.invariant-loop-entry
 invariant-loop-entry l =
     repeated_codes l.tree l.seen.keys l.entry-iterator
-        ≡ repeated_codes l.tree l.initial.seen.keys (values l.entries)
+    ≡ repeated_codes l.tree l.initial.seen.keys (values l.entries)

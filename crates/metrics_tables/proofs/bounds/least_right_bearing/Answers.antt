@@ -1,5 +1,5 @@
-use Rattle.std.proofs.Common.{arith, ◌≡◌, ◌+◌, ◌<◌, drop, get_or, length, pos, ◌-ℤ◌, ◌∙◌, sym, ap,
-    to_z, of_z}
+use Rattle.std.proofs.Common.{arith, ◌≡◌, ◌+◌, ◌<◌, drop, get_or, length, pos, ◌-ℤ◌, ◌∙◌, sym, ap}
+use Rattle.std.proofs.Common.{to_z, of_z}
 use Rattle.std.specs.Int.{w32, int_min}
 use Rattle.std.specs.List.{fold}
 use Rattle.std.proofs.lemmas.Int.{ints}
@@ -20,18 +20,18 @@ loop-gid-preserved c =
     elim c.match-bounds-gid.branch [
       | in-Some w ↦
           let bearing : to_z w32 (of_z w32 w.right_bearing.result)
-              ≡ pos (get_or advances i 0) -ℤ get_or w.in-Some.sides 2 (pos 0)
-              = omega (arith, ints, w.right_bearing.ensures) in
+          ≡ pos (get_or advances i 0) -ℤ get_or w.in-Some.sides 2 (pos 0)
+          = omega (arith, ints, w.right_bearing.ensures) in
           let least : to_z w32 (of_z w32 w.lesser_bearing.result)
-              ≡ w.lesser_bearing.result = omega (arith, ints) in
+          ≡ w.lesser_bearing.result = omega (arith, ints) in
           ap (λ so_far. least_onto so_far rest) w.so_far-is
           ∙ ap (λ z. fold int_min z rest) (least ∙ w.lesser_bearing.ensures
-              ∙ ap (lesser_of c.loop-gid.so_far) bearing)
+          ∙ ap (lesser_of c.loop-gid.so_far) bearing)
           ∙ sym (bearing_there advances bounds i w.in-Some.sides c.loop-gid.so_far h k w.in-Some.is)
           ∙ c.loop-gid.invariant
       | in_default w ↦
           ap (λ so_far. least_onto so_far rest) w.so_far-is
           ∙ ap (least_onto c.loop-gid.so_far) (sym
-              (no_bearing advances bounds i h k w.in_default.is))
+          (no_bearing advances bounds i h k w.in_default.is))
           ∙ c.loop-gid.invariant
     ]

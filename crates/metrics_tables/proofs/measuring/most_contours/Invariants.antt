@@ -6,5 +6,5 @@ use Rattle.metrics_tables.proofs.measuring.most_contours.Given as goal
 abbrev pub invariant-loop-glyph : goal.invariant-loop-glyph
 invariant-loop-glyph l =
     max l.so_far (greatest_count (map (λ glyph. length (contours_at l.place glyph.value))
-        (drop l.glyph-index l.glyphs))) ≡ greatest_count
-        (map (λ glyph. length (contours_at l.place glyph.value)) l.glyphs)
+    (drop l.glyph-index l.glyphs))) ≡ greatest_count
+    (map (λ glyph. length (contours_at l.place glyph.value)) l.glyphs)

@@ -10,9 +10,9 @@ overflow_cast-result c =
     let d = c.index-as_slice-place.result in
     let lt : c.args.place < length drawn = omega arith in
     let less = few_contours (get_or drawn c.args.place d) (flat.no_empty_contour c.args.place d lt)
-        in
+    in
     let few = flat.few_points c.args.place d lt in
     let is = ap length c.index-as_slice-place.is in
     let same = ap (λ (xs : List (List Contour)). length (get_or xs c.args.place d))
-        c.as_slice.ensures in
+    c.as_slice.ensures in
     omega (arith, less, few, is, same, c.len.ensures)

@@ -1,7 +1,7 @@
 use Rattle.std.proofs.Common.{refl}
 use Rattle.plist_reader.specs.Reading.{read_of}
-use Rattle.plist_reader.proofs.OneAnswer.{refused, refusal-of, tree-of, answer-of, refusals-same,
-    not_both}
+use Rattle.plist_reader.proofs.OneAnswer.{refused, refusal-of, tree-of, answer-of, refusals-same}
+use Rattle.plist_reader.proofs.OneAnswer.{not_both}
 use Rattle.plist_reader.proofs.GivenTexts.{given}
 use Rattle.plist_reader.proofs.source.sources_have_one_answer.Goals as goal
 

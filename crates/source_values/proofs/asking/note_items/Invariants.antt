@@ -8,4 +8,4 @@ abbrev pub invariant-loop-item : goal.invariant-loop-item
 invariant-loop-item g l =
     let failures = g.A.Asked.failures l.asked l.tree in
     noted l.first (flat_map failures (drop l.item-index l.items))
-        ≡ noted l.initial.first (flat_map failures l.items)
+    ≡ noted l.initial.first (flat_map failures l.items)

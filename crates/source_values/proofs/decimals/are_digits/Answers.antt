@@ -12,6 +12,6 @@ pub returns-then-not-is_empty : goal.returns-then-not-is_empty
 unfolding are_digits
 returns-then-not-is_empty c =
     let all : c.all.result ≡ list_all is_ascii_digit c.args.text.now
-        = all_from_yields_List is_ascii_digit _ _ _ c.all.ensures.ran
-        (YieldsList-from_slice c.args.text.now cc) (λ x b q k. search (rules, tests)) in
+    = all_from_yields_List is_ascii_digit _ _ _ c.all.ensures.ran
+    (YieldsList-from_slice c.args.text.now cc) (λ x b q k. search (rules, tests)) in
     grind (arith, nat_tests)

@@ -7,4 +7,4 @@ use Rattle.source_values.proofs.decimals.point_in.Goals as goal
 pub returns-clause-first : goal.returns-clause-first
 returns-clause-first c =
     position_from_yields_List (λ byte. byte == 46) _ _ _ c.position.ensures.ran
-        (YieldsList-from_slice c.args.text.now cc) (λ x b q k. search (rules, tests))
+    (YieldsList-from_slice c.args.text.now cc) (λ x b q k. search (rules, tests))

@@ -9,4 +9,4 @@ pub returns : goal.returns
 returns c =
     if_ok c.length_of.result c.length_of.ensures (λ n is.
     is ∙ ap (λ pieces. length_of (pieces_of pieces)) c.as_slice.ensures.value
-        ∙ ap length_of c.in_ok-pieces.ensures ∙ length_bytes (layout_of c.args.tree.now))
+    ∙ ap length_of c.in_ok-pieces.ensures ∙ length_bytes (layout_of c.args.tree.now))

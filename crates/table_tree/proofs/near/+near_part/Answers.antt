@@ -1,5 +1,5 @@
-use Rattle.std.proofs.Common.{◌≡◌, ◌+◌, [], ◌∷◌, ◌++◌, drop, ap, sym, ◌∙◌, append_assoc, add-one,
-    arith}
+use Rattle.std.proofs.Common.{◌≡◌, ◌+◌, [], ◌∷◌, ◌++◌, drop, ap, sym, ◌∙◌, append_assoc, add-one}
+use Rattle.std.proofs.Common.{arith}
 use Rattle.std.proofs.lemmas.List.{map-append}
 use Rattle.table_tree.specs.Trees.{tree_size}
 use Rattle.table_tree.specs.TreeOf.{before, tree_of}
@@ -12,7 +12,7 @@ use Rattle.table_tree.proofs.near.+near_part.Goals as goal
 pub near_part-own_cell-requires : goal.near_part-own_cell-requires
 near_part-own_cell-requires t c =
     let within = size_at c.fields-fields.result.now c.loop-field.field-index c.field-item.result
-        c.loop-field-test.true c.field-item.is in
+    c.loop-field-test.true c.field-item.is in
     (omega (arith, within, ap tree_size c.fields-fields.ensures, c.decreases), tt)
 
 pub near_part-loop-field-preserved : goal.near_part-loop-field-preserved
@@ -35,11 +35,11 @@ near_part-loop-field-preserved t c =
           ∙ append_assoc (cells_of own) (cell_of cell ∷ []) rest
           ∙ ap (λ cells. cells_of own ++ cells) (sym (c.in_ok-cell.ensures.own others))
           ∙ ap (λ tree. cells_of own ++ own_cells (places_in behind) behind.next (items_of tree))
-              (sym here)
+          (sym here)
           ∙ c.loop-field.invariant.own;
       cells =
           sym (c.in_ok-cell.ensures.cells others)
           ∙ ap (λ tree. cells_of behind.cells.items
-              ++ cells_behind (places_in behind) behind.next (items_of tree)) (sym here)
+          ++ cells_behind (places_in behind) behind.next (items_of tree)) (sym here)
           ∙ c.loop-field.invariant.cells;
     }

@@ -9,8 +9,14 @@ invariant-loop-worker g l =
     let root = g.B.Counted.root l.about.value.value in
     record {
       table : l.seat.table_id ≡ l.common.table_id;
-      seat : l.seat.me ≡ (record { stage = Away; members
-          = newcomers root l.worker (l.about.passes - l.worker) }, []);
+      seat : l.seat.me ≡ (
+        record {
+          stage = Away;
+          members
+              = newcomers root l.worker (l.about.passes - l.worker);
+        },
+        [],
+      );
       len : vec_len l.all ≡ l.worker;
       room : l.about.passes ≤ vec_capacity l.all;
       all : l.all.items ++ new_passes l.common.table_id root l.worker (l.about.passes - l.worker)

@@ -11,8 +11,8 @@ loop-pass-init g c =
     let last = c.in-Some.last in
     let rest = c.pop.new.self.items in
     let popped = All-pop (λ (p : PassView g.row.B-Entry.Denot g.row.B-Root.Denot). (p.table ≡ table)
-        × (p.is_out ≡ false)) c.args.passes.items rest (Some last) c.in-Some.ensures.items
-        c.requires.each in
+    × (p.is_out ≡ false)) c.args.passes.items rest (Some last) c.in-Some.ensures.items
+    c.requires.each in
     let seat = c.into_seat-seat.ensures.1 in record {
       table = c.into_seat-seat.ensures.0 ∙ popped.1.0;
       seat = rests_with c.into_seat-seat.result.me _ (ap (λ me. me.0.stage) seat) refl
@@ -26,8 +26,8 @@ pub into_seat-requires : goal.into_seat-requires
 into_seat-requires g c =
     let table = c.args.common.now.table_id in
     let popped = All-pop (λ (p : PassView g.row.B-Entry.Denot g.row.B-Root.Denot). (p.table ≡ table)
-        × (p.is_out ≡ false)) c.loop-pass.passes.items c.pop-in-loop-pass.new.self.items
-        (Some c.in-Some-pop.pass) c.in-Some-pop.ensures.items c.loop-pass.invariant.each in
+    × (p.is_out ≡ false)) c.loop-pass.passes.items c.pop-in-loop-pass.new.self.items
+    (Some c.in-Some-pop.pass) c.in-Some-pop.ensures.items c.loop-pass.invariant.each in
     popped.1.1
 
 pub join_seat-requires : goal.join_seat-requires
@@ -36,8 +36,8 @@ join_seat-requires g c =
     let words = c.requires.table in
     let inv = c.loop-pass.invariant in
     let popped = All-pop (λ (p : PassView g.row.B-Entry.Denot g.row.B-Root.Denot). (p.table ≡ table)
-        × (p.is_out ≡ false)) c.loop-pass.passes.items c.pop-in-loop-pass.new.self.items
-        (Some c.in-Some-pop.pass) c.in-Some-pop.ensures.items inv.each in
+    × (p.is_out ≡ false)) c.loop-pass.passes.items c.pop-in-loop-pass.new.self.items
+    (Some c.in-Some-pop.pass) c.in-Some-pop.ensures.items inv.each in
     let seat = c.into_seat.ensures.1 in (
       inv.table,
       c.into_seat.ensures.0 ∙ popped.1.0,
@@ -55,7 +55,7 @@ loop-pass-preserved g c =
     let pass = c.in-Some-pop.pass in
     let items = c.in-Some-pop.ensures.items in
     let popped = All-pop (λ (p : PassView g.row.B-Entry.Denot g.row.B-Root.Denot). (p.table ≡ table)
-        × (p.is_out ≡ false)) c.loop-pass.passes.items rest (Some pass) items inv.each in
+    × (p.is_out ≡ false)) c.loop-pass.passes.items rest (Some pass) items inv.each in
     let seat = c.into_seat.ensures.1 in
     let both = c.join_seat.ensures.2 in record {
       table = c.join_seat.ensures.0 ∙ inv.table;
@@ -64,5 +64,5 @@ loop-pass-preserved g c =
       each = popped.0;
       all = ap (λ me. map member_of rest ++ me.0.members) both
           ∙ (gathered rest pass c.loop-pass.passes.items items _ (ap (λ me. me.0.members) seat)
-              c.loop-pass.seat.me.0.members ∙ inv.all);
+          c.loop-pass.seat.me.0.members ∙ inv.all);
     }

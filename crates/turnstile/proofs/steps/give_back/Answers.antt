@@ -1,5 +1,5 @@
-use Rattle.std.proofs.Common.{◌≡◌, ◌%◌, ◌^◌, [], ◌∷◌, ◌++◌, length, drop, Some, None, refl, sym, ap,
-    ◌∙◌, subst, arith}
+use Rattle.std.proofs.Common.{◌≡◌, ◌%◌, ◌^◌, [], ◌∷◌, ◌++◌, length, drop, Some, None, refl, sym, ap}
+use Rattle.std.proofs.Common.{◌∙◌, subst, arith}
 use Rattle.atomic_table.specs.Table.{rest}
 use Rattle.turnstile.specs.declared.knowledge.Stage.TheVariants.{Noted}
 use Rattle.turnstile.specs.Entries.{AddsAtMostOne}
@@ -31,9 +31,10 @@ exchange-empty-requires g c =
     let m = at.0 in
     let h = at.1 in
     let noted = c.note.ensures.noted h.at m h.view in
-    let slot = noted.1 ∙ h.slot in
-    (c.note.ensures.table ∙ c.requires.table.0,
-        (None, slot ∙ ap (λ cs. (0, None) ∷ rest cs) (sym slot)))
+    let slot = noted.1 ∙ h.slot in (
+      c.note.ensures.table ∙ c.requires.table.0,
+      (None, slot ∙ ap (λ cs. (0, None) ∷ rest cs) (sym slot)),
+    )
 
 pub unreachable-requires : goal.unreachable-requires
 unreachable-requires g c =
@@ -59,7 +60,7 @@ store-requires g c =
       give_allowed g.B.Counted.entries g.B.Counted.root _ _ _ _ _ h.at _ _ c.args.value
           (ap (λ me. me.0) put ∙ noted.0)
           (ap (λ me. me.1) put ∙ ap (λ cs. (0, Some c.args.value) ∷ rest cs) slot) refl h.same_root
-              (omega arith),
+          (omega arith),
     )
 
 pub returns-then-peek-next-clause-left : goal.returns-then-peek-next-clause-left
@@ -71,7 +72,7 @@ returns-then-peek-next-clause-left g c m h =
     let list = g.B.Counted.entries c.args.value in
     let seen = ap (λ v. seen_of v.members) h.view in
     let kept = ap (λ me. me.0) put ∙ (noted.0
-        ∙ ap (λ xs. seat_of (Noted h.at) (after_adding list (drop (length xs) list) m)) seen) in
+    ∙ ap (λ xs. seat_of (Noted h.at) (after_adding list (drop (length xs) list) m)) seen) in
     let view = gave.0 ∙ ap (λ v. away_of v) kept in
     let slots = gave.1 ∙ (ap (λ me. rest me.1) put ∙ ap (λ cs. rest cs) slot) in
     λ i. (view i, slots i)
@@ -85,7 +86,7 @@ returns-else-peek-next-clause-left g c m h =
     let list = g.B.Counted.entries c.args.value in
     let seen = ap (λ v. seen_of v.members) h.view in
     let kept = ap (λ me. me.0) put ∙ (noted.0
-        ∙ ap (λ xs. seat_of (Noted h.at) (after_adding list (drop (length xs) list) m)) seen) in
+    ∙ ap (λ xs. seat_of (Noted h.at) (after_adding list (drop (length xs) list) m)) seen) in
     let view = gave.0 ∙ ap (λ v. away_of v) kept in
     let slots = gave.1 ∙ (ap (λ me. rest me.1) put ∙ ap (λ cs. rest cs) slot) in
     λ i. (view i, slots i)

@@ -17,9 +17,10 @@ pub exchange-requires : goal.exchange-requires
 exchange-requires g c =
     let at = c.requires.away in
     let drawn = c.draw-ticket.ensures.drawn at.0 at.1 in
-    let took = c.wait_for.ensures.taken drawn.0 at.0 drawn.1 drawn.2 in
-    (c.wait_for.ensures.table ∙ (c.draw-ticket.ensures.table ∙ c.requires.table.0),
-        (Some took.value, took.slot ∙ ap (λ cs. (0, Some took.value) ∷ rest cs) (sym took.slot)))
+    let took = c.wait_for.ensures.taken drawn.0 at.0 drawn.1 drawn.2 in (
+      c.wait_for.ensures.table ∙ (c.draw-ticket.ensures.table ∙ c.requires.table.0),
+      (Some took.value, took.slot ∙ ap (λ cs. (0, Some took.value) ∷ rest cs) (sym took.slot)),
+    )
 
 pub unwrap-value-requires : goal.unwrap-value-requires
 unwrap-value-requires g c =
@@ -27,7 +28,7 @@ unwrap-value-requires g c =
     let drawn = c.draw-ticket.ensures.drawn at.0 at.1 in
     let took = c.wait_for.ensures.taken drawn.0 at.0 drawn.1 drawn.2 in
     let same : Some took.value ≡ c.exchange.result
-        = slot_value _ _ _ _ _ _ (sym took.slot ∙ c.exchange.ensures.2) in
+    = slot_value _ _ _ _ _ _ (sym took.slot ∙ c.exchange.ensures.2) in
     subst (λ x. IsSome x) same refl
 
 pub returns-clause-turn : goal.returns-clause-turn
@@ -35,7 +36,7 @@ returns-clause-turn g c m is =
     let drawn = c.draw-ticket.ensures.drawn m is in
     let took = c.wait_for.ensures.taken drawn.0 m drawn.1 drawn.2 in
     let same : Some took.value ≡ c.exchange.result
-        = slot_value _ _ _ _ _ _ (sym took.slot ∙ c.exchange.ensures.2) in
+    = slot_value _ _ _ _ _ _ (sym took.slot ∙ c.exchange.ensures.2) in
     let value : took.value ≡ c.unwrap-value.result = search rules in
     let now = c.exchange.ensures.3 in record {
       at = drawn.0;

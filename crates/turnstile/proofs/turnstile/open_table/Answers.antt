@@ -12,5 +12,5 @@ new-requires g c =
     let entries = g.B.Counted.entries in
     let root = g.B.Counted.root in
     subst (λ slots. Kept entries root passes (root value)
-        (opening (0 ∷ 0 ∷ 0 ∷ []) slots (everyone (root value) passes))) (sym c.requires.slots)
+    (opening (0 ∷ 0 ∷ 0 ∷ []) slots (everyone (root value) passes))) (sym c.requires.slots)
     (opens entries root value passes c.requires.empty c.requires.few)

@@ -43,4 +43,5 @@ returns g c =
     in_order t _ closed.title c.args.workers c.as_mut_slice.result.now qs closed.entries.items
     (c.as_mut_slice.ensures.value ∙ c.in_ok-turnstile.ensures.each) len
     c.all_take_turns.ensures.workers c.all_take_turns.ensures.done history
-    (λ k le. c.in_ok-list.ensures.nobody_else k (omega (arith, le, c.in_ok-turnstile.ensures.passes)))
+    (λ k le. c.in_ok-list.ensures.nobody_else k
+    (omega (arith, le, c.in_ok-turnstile.ensures.passes)))

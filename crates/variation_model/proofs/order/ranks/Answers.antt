@@ -12,6 +12,6 @@ returns c =
     ap (map (λ key. key.items)) c.as_slice.ensures.value ∙ c.in_ok-keys.ensures in
     IfOk-weaker c.ranks_among.result
     (λ ranks. ranks.items ≡ map (λ key. count_by (λ other. spec.is_less_key other.items key.items)
-        keys) keys)
+    keys) keys)
     (λ ranks. ranks.items ≡ spec.ranks c.args.places.now)
     (λ ranks e. ranks_from_keys c.args.places.now keys ranks.items same e) c.ranks_among.ensures

@@ -6,4 +6,4 @@ use Rattle.variation_model.proofs.order.ranks_among.Given as goal
 abbrev pub invariant-loop-key : goal.invariant-loop-key
 invariant-loop-key l =
     l.ranks.items ≡ map (λ key. count_by (λ other. spec.is_less_key other.items key.items) l.keys)
-        (take l.key-index l.keys)
+    (take l.key-index l.keys)

@@ -10,16 +10,16 @@ loop-i-init c = (one_IsScalar, refl)
 pub mul-product-requires : goal.mul-product-requires
 mul-product-requires c =
     scalar_fits c.as_slice-sides.result.now c.args.at.now c.loop-i.i c.loop-i.product.0
-        c.axis_scalar.result.0 c.loop-i.invariant.0 c.axis_scalar.ensures
+    c.axis_scalar.result.0 c.loop-i.invariant.0 c.axis_scalar.ensures
 
 pub loop-i-preserved : goal.loop-i-preserved
 loop-i-preserved c =
     let within : c.loop-i.i < length c.args.at.now
-        = omega (arith, ap length c.as_slice-sides.ensures) in
+    = omega (arith, ap length c.as_slice-sides.ensures) in
     scalar_more c.as_slice-sides.result.now c.args.at.now c.loop-i.i c.loop-i.product.0
-        c.axis_scalar.result.0 c.mul-product.result.0
-        (scalar_of c.as_slice-sides.result.now c.args.at.now) c.loop-i-test.true within
-        c.loop-i.invariant c.axis_scalar.ensures c.mul-product.ensures
+    c.axis_scalar.result.0 c.mul-product.result.0
+    (scalar_of c.as_slice-sides.result.now c.args.at.now) c.loop-i-test.true within
+    c.loop-i.invariant c.axis_scalar.ensures c.mul-product.ensures
 
 pub returns : goal.returns
 returns c =

@@ -3,9 +3,13 @@ use Rattle.access_context.proofs.Places.{within_items, item_read, unread}
 use Rattle.access_context.proofs.reads.Reads.found.Goals as goal
 
 pub index-requires : goal.index-requires
-index-requires g c = omega (arith, c.self.inside.items.ok.0, within_items g.Id.PartialEq.eq
-    c.self.inside.items.items c.args.id.now c.in-Some.place.now
-    (sym (c.self.invariant c.if-self.true c.args.id.now) ∙ sym c.in-Some.ensures.value))
+index-requires g c = omega (
+  arith,
+  c.self.inside.items.ok.0,
+  within_items g.Id.PartialEq.eq
+      c.self.inside.items.items c.args.id.now c.in-Some.place.now
+      (sym (c.self.invariant c.if-self.true c.args.id.now) ∙ sym c.in-Some.ensures.value),
+)
 
 pub returns-in-Some : goal.returns-in-Some
 returns-in-Some g c = rw (← c.self.view_is)

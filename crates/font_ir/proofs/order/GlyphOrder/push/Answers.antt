@@ -12,7 +12,7 @@ invariant_of-self-in-Continue-branch-4 c =
     let old = c.self.inside.names.keys in
     let new = c.insert.new.self.keys in
     let grown : length new ≡ length old + 1 = c.in_ok-added.ensures.len
-        ∙ ap (λ added. length old + cond added 1 0) c.if-added.true in
+    ∙ ap (λ added. length old + cond added 1 0) c.if-added.true in
     let names_old = length-map old (λ name. name.items) in
     let names_new = length-map new (λ name. name.items) in
     record {
@@ -23,8 +23,13 @@ invariant_of-self-in-Continue-branch-4 c =
       short = short_inserted (λ key. key.items) _ old new _ c.in_ok-added.ensures.keys
           c.self.invariant.short
           (omega (arith, ap length c.in_ok-name.ensures.items, c.requires.short));
-      one_number = omega (arith, names_old, names_new, c.in_ok-push.ensures.len,
-          c.in_ok-reserve.ensures.len);
+      one_number = omega (
+        arith,
+        names_old,
+        names_new,
+        c.in_ok-push.ensures.len,
+        c.in_ok-reserve.ensures.len,
+      );
     }
 
 pub returns-in_ok-push-clause-added : goal.returns-in_ok-push-clause-added
@@ -33,9 +38,9 @@ returns-in_ok-push-clause-added c =
     let name = c.args.name.now in
     c.in_ok-added.ensures.added
     ∙ ap (λ bytes. not (list_any (λ key. pointwise nat_eq bytes key.items) keys))
-        c.in_ok-name.ensures.items
+    c.in_ok-name.ensures.items
     ∙ ap not (sym (is_some-position_map (pointwise nat_eq name) (λ key. key.items) keys)
-        ∙ ap (λ order. is_some (gid_of order.names name)) c.self.view_is)
+    ∙ ap (λ order. is_some (gid_of order.names name)) c.self.view_is)
 
 pub returns-else-added-clause-added : goal.returns-else-added-clause-added
 returns-else-added-clause-added c =
@@ -43,6 +48,6 @@ returns-else-added-clause-added c =
     let name = c.args.name.now in
     c.in_ok-added.ensures.added
     ∙ ap (λ bytes. not (list_any (λ key. pointwise nat_eq bytes key.items) keys))
-        c.in_ok-name.ensures.items
+    c.in_ok-name.ensures.items
     ∙ ap not (sym (is_some-position_map (pointwise nat_eq name) (λ key. key.items) keys)
-        ∙ ap (λ order. is_some (gid_of order.names name)) c.self.view_is)
+    ∙ ap (λ order. is_some (gid_of order.names name)) c.self.view_is)

@@ -9,6 +9,6 @@ pub sum_of-sum-requires : goal.sum_of-sum-requires
 sum_of-sum-requires c =
     subst (λ ids. All (λ k. IsSome (value_read nat_eq c.args.reads.now k)) ids)
     (sym (c.reads_at.ensures ∙ ap (λ rows. (row_access (slice_get rows c.args.id.now)).reads)
-        c.as_slice-rows.ensures.value))
+    c.as_slice-rows.ensures.value))
     (due_values c.args.self.now.opening.items c.args.self.now.rows.items c.args.id.now
-        c.args.reads.now c.requires.due c.requires.done)
+    c.args.reads.now c.requires.due c.requires.done)

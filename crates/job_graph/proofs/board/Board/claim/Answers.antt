@@ -1,16 +1,19 @@
-use Rattle.std.proofs.Common.{◌≡◌, ◌<◌, [], ◌∷◌, ◌++◌, length, is_some, count_by, Some, None, refl,
-    sym, ap, ◌∙◌, arith}
+use Rattle.std.proofs.Common.{◌≡◌, ◌<◌, [], ◌∷◌, ◌++◌, length, is_some, count_by, Some, None, refl}
+use Rattle.std.proofs.Common.{sym, ap, ◌∙◌, arith}
 use Rattle.job_graph.specs.declared.event.Event.TheVariants as event
 use Rattle.job_graph.specs.Rounds.{state_from}
-use Rattle.job_graph.proofs.Boards.{length_outs, out_within, board_claim, board_same, board_history,
-    hands_out, none_claimable, has_ended, same_workers, view_push, view_same, next_moved, next_none,
-    next_some}
+use Rattle.job_graph.proofs.Boards.{length_outs, out_within, board_claim, board_same, board_history}
+use Rattle.job_graph.proofs.Boards.{hands_out, none_claimable, has_ended, same_workers, view_push}
+use Rattle.job_graph.proofs.Boards.{view_same, next_moved, next_none, next_some}
 use Rattle.job_graph.proofs.Halts.{now_has}
 use Rattle.job_graph.proofs.board.Board.claim.Goals as goal
 
 pub returns-then-self-clause-answer : goal.returns-then-self-clause-answer
-returns-then-self-clause-answer g c = (rw (← c.self.view_is)
-    (sym c.self.invariant.any_is ∙ c.if-self.true), refl)
+returns-then-self-clause-answer g c = (
+  rw (← c.self.view_is)
+      (sym c.self.invariant.any_is ∙ c.if-self.true),
+  refl,
+)
 
 pub returns-then-self-clause-history : goal.returns-then-self-clause-history
 returns-then-self-clause-history g c = rw (← c.self.view_is)
@@ -48,18 +51,21 @@ returns-then-count-gt0-clause-history g c
 
 pub returns-else-count-gt0-clause-answer : goal.returns-else-count-gt0-clause-answer
 returns-else-count-gt0-clause-answer g c =
-    let zero_runs : c.running-count.result ≡ 0 = omega (arith, c.if-count-gt0.false) in
-    (rw (← c.self.view_is) (has_ended _ _ _ (g.met.P.Plan.lawful c.self.inside.plan) _ _ _ _ _
-        c.self.invariant c.if-self.false (next_none g.P.Id.PartialEq.eq
-        (g.P.Plan.meaning c.self.inside.plan)
-        (state_from c.self.inside.jobs.items c.self.inside.values.items) c.self.inside.events.items
-        c.in-Ok-None.field-0 (next_moved g.P.Id.PartialEq.eq (g.P.Plan.meaning c.self.inside.plan)
-        c.as_slice.result.now c.self.inside.jobs.items c.as_slice-2.result.now
-        c.self.inside.values.items c.as_slice-3.result.now c.self.inside.events.items
-        c.as_slice.ensures.value c.as_slice-2.ensures.value c.as_slice-3.ensures.value
-        c.in-Ok-None.field-0 c.in-Ok-None.ensures) c.in-Ok-None.field-0-is)
-        (sym (c.running-count.ensures ∙ ap (count_by is_some) c.as_slice-in-Ok-None.ensures.value)
-        ∙ zero_runs)), refl)
+    let zero_runs : c.running-count.result ≡ 0 = omega (arith, c.if-count-gt0.false) in (
+      rw (← c.self.view_is) (has_ended _ _ _ (g.met.P.Plan.lawful c.self.inside.plan) _ _ _ _ _
+          c.self.invariant c.if-self.false (next_none g.P.Id.PartialEq.eq
+          (g.P.Plan.meaning c.self.inside.plan)
+          (state_from c.self.inside.jobs.items c.self.inside.values.items)
+          c.self.inside.events.items
+          c.in-Ok-None.field-0 (next_moved g.P.Id.PartialEq.eq (g.P.Plan.meaning c.self.inside.plan)
+          c.as_slice.result.now c.self.inside.jobs.items c.as_slice-2.result.now
+          c.self.inside.values.items c.as_slice-3.result.now c.self.inside.events.items
+          c.as_slice.ensures.value c.as_slice-2.ensures.value c.as_slice-3.ensures.value
+          c.in-Ok-None.field-0 c.in-Ok-None.ensures) c.in-Ok-None.field-0-is)
+          (sym (c.running-count.ensures ∙ ap (count_by is_some) c.as_slice-in-Ok-None.ensures.value)
+          ∙ zero_runs)),
+      refl,
+    )
 
 pub returns-else-count-gt0-clause-history : goal.returns-else-count-gt0-clause-history
 returns-else-count-gt0-clause-history g c
@@ -70,26 +76,30 @@ pub note-requires : goal.note-requires
 note-requires g c = rw c.as_slice-in-Ok-Some.ensures.value c.self.invariant.room
 
 pub index_mut-requires : goal.index_mut-requires
-index_mut-requires g c = omega (arith, c.self.inside.outs.ok.0, out_within _ _ _
-    (g.met.P.Plan.lawful c.self.inside.plan) _ _ _ _ _ c.self.invariant c.args.worker _
-    (rw (← c.self.view_is) at c.requires.free))
+index_mut-requires g c = omega (
+  arith,
+  c.self.inside.outs.ok.0,
+  out_within _ _ _
+      (g.met.P.Plan.lawful c.self.inside.plan) _ _ _ _ _ c.self.invariant c.args.worker _
+      (rw (← c.self.view_is) at c.requires.free),
+)
 
 pub invariant_of-self : goal.invariant_of-self
 invariant_of-self g c =
     let lt : c.args.worker < c.self.inside.workers
-        = (let e = same_workers _ _ c.self.view_is in omega (arith, c.requires.known)) in
+    = (let e = same_workers _ _ c.self.view_is in omega (arith, c.requires.known)) in
     let next = next_some g.P.Id.PartialEq.eq (g.P.Plan.meaning c.self.inside.plan)
-        (state_from c.self.inside.jobs.items c.self.inside.values.items) c.self.inside.events.items
-        c.in-Ok-Some.field-0 c.in-Ok-Some.id c.in-Ok-Some.reads
-        (next_moved g.P.Id.PartialEq.eq (g.P.Plan.meaning c.self.inside.plan) c.as_slice.result.now
-        c.self.inside.jobs.items c.as_slice-2.result.now c.self.inside.values.items
-        c.as_slice-3.result.now c.self.inside.events.items c.as_slice.ensures.value
-        c.as_slice-2.ensures.value c.as_slice-3.ensures.value c.in-Ok-Some.field-0
-        c.in-Ok-Some.ensures) c.in-Ok-Some.field-0-is in
+    (state_from c.self.inside.jobs.items c.self.inside.values.items) c.self.inside.events.items
+    c.in-Ok-Some.field-0 c.in-Ok-Some.id c.in-Ok-Some.reads
+    (next_moved g.P.Id.PartialEq.eq (g.P.Plan.meaning c.self.inside.plan) c.as_slice.result.now
+    c.self.inside.jobs.items c.as_slice-2.result.now c.self.inside.values.items
+    c.as_slice-3.result.now c.self.inside.events.items c.as_slice.ensures.value
+    c.as_slice-2.ensures.value c.as_slice-3.ensures.value c.in-Ok-Some.field-0
+    c.in-Ok-Some.ensures) c.in-Ok-Some.field-0-is in
     board_claim _ _ _ (g.met.P.Plan.lawful c.self.inside.plan) _ _ _ _ _ c.self.invariant
-        c.args.worker c.in-Ok-Some.id lt (rw (← c.self.view_is) at c.requires.free) c.if-self.false
-        next.0 next.1 next.2 c.note.new.events c.if-note.ensures.items
-        (rw c.as_slice-in-Ok-Some.ensures.value at c.note.ensures.room)
+    c.args.worker c.in-Ok-Some.id lt (rw (← c.self.view_is) at c.requires.free) c.if-self.false
+    next.0 next.1 next.2 c.note.new.events c.if-note.ensures.items
+    (rw c.as_slice-in-Ok-Some.ensures.value at c.note.ensures.room)
 
 pub invariant_of-self-else-note : goal.invariant_of-self-else-note
 invariant_of-self-else-note g c = board_same _ _ _ _ c.note.new.events _ _ _ _ c.self.invariant
@@ -98,13 +108,13 @@ invariant_of-self-else-note g c = board_same _ _ _ _ c.note.new.events _ _ _ _ c
 pub returns-then-note-clause-answer : goal.returns-then-note-clause-answer
 returns-then-note-clause-answer g c =
     let next = next_some g.P.Id.PartialEq.eq (g.P.Plan.meaning c.self.inside.plan)
-        (state_from c.self.inside.jobs.items c.self.inside.values.items) c.self.inside.events.items
-        c.in-Ok-Some.field-0 c.in-Ok-Some.id c.in-Ok-Some.reads
-        (next_moved g.P.Id.PartialEq.eq (g.P.Plan.meaning c.self.inside.plan) c.as_slice.result.now
-        c.self.inside.jobs.items c.as_slice-2.result.now c.self.inside.values.items
-        c.as_slice-3.result.now c.self.inside.events.items c.as_slice.ensures.value
-        c.as_slice-2.ensures.value c.as_slice-3.ensures.value c.in-Ok-Some.field-0
-        c.in-Ok-Some.ensures) c.in-Ok-Some.field-0-is in (
+    (state_from c.self.inside.jobs.items c.self.inside.values.items) c.self.inside.events.items
+    c.in-Ok-Some.field-0 c.in-Ok-Some.id c.in-Ok-Some.reads
+    (next_moved g.P.Id.PartialEq.eq (g.P.Plan.meaning c.self.inside.plan) c.as_slice.result.now
+    c.self.inside.jobs.items c.as_slice-2.result.now c.self.inside.values.items
+    c.as_slice-3.result.now c.self.inside.events.items c.as_slice.ensures.value
+    c.as_slice-2.ensures.value c.as_slice-3.ensures.value c.in-Ok-Some.field-0
+    c.in-Ok-Some.ensures) c.in-Ok-Some.field-0-is in (
       rw (← c.self.view_is) (sym c.self.invariant.any_is ∙ c.if-self.false),
       rw (← c.self.view_is) (hands_out _ _ _ (g.met.P.Plan.lawful c.self.inside.plan) _ _ _ _ _
           c.self.invariant c.of.result next.0 next.1 (next.2 ∙ sym c.of.ensures) c.in-Ok-Some.reads
@@ -122,20 +132,20 @@ returns-then-note-clause-answer g c =
 pub returns-then-note-clause-history : goal.returns-then-note-clause-history
 returns-then-note-clause-history g c =
     let lt : c.args.worker < c.self.inside.workers
-        = (let e = same_workers _ _ c.self.view_is in omega (arith, c.requires.known)) in
+    = (let e = same_workers _ _ c.self.view_is in omega (arith, c.requires.known)) in
     let next = next_some g.P.Id.PartialEq.eq (g.P.Plan.meaning c.self.inside.plan)
-        (state_from c.self.inside.jobs.items c.self.inside.values.items) c.self.inside.events.items
-        c.in-Ok-Some.field-0 c.in-Ok-Some.id c.in-Ok-Some.reads
-        (next_moved g.P.Id.PartialEq.eq (g.P.Plan.meaning c.self.inside.plan) c.as_slice.result.now
-        c.self.inside.jobs.items c.as_slice-2.result.now c.self.inside.values.items
-        c.as_slice-3.result.now c.self.inside.events.items c.as_slice.ensures.value
-        c.as_slice-2.ensures.value c.as_slice-3.ensures.value c.in-Ok-Some.field-0
-        c.in-Ok-Some.ensures) c.in-Ok-Some.field-0-is in
+    (state_from c.self.inside.jobs.items c.self.inside.values.items) c.self.inside.events.items
+    c.in-Ok-Some.field-0 c.in-Ok-Some.id c.in-Ok-Some.reads
+    (next_moved g.P.Id.PartialEq.eq (g.P.Plan.meaning c.self.inside.plan) c.as_slice.result.now
+    c.self.inside.jobs.items c.as_slice-2.result.now c.self.inside.values.items
+    c.as_slice-3.result.now c.self.inside.events.items c.as_slice.ensures.value
+    c.as_slice-2.ensures.value c.as_slice-3.ensures.value c.in-Ok-Some.field-0
+    c.in-Ok-Some.ensures) c.in-Ok-Some.field-0-is in
     board_history _ _ _ (g.met.P.Plan.lawful c.self.inside.plan) _ _ _ _ _
-        (board_claim _ _ _ (g.met.P.Plan.lawful c.self.inside.plan) _ _ _ _ _ c.self.invariant
-        c.args.worker c.in-Ok-Some.id lt (rw (← c.self.view_is) at c.requires.free) c.if-self.false
-        next.0 next.1 next.2 c.note.new.events c.if-note.ensures.items
-        (rw c.as_slice-in-Ok-Some.ensures.value at c.note.ensures.room))
+    (board_claim _ _ _ (g.met.P.Plan.lawful c.self.inside.plan) _ _ _ _ _ c.self.invariant
+    c.args.worker c.in-Ok-Some.id lt (rw (← c.self.view_is) at c.requires.free) c.if-self.false
+    next.0 next.1 next.2 c.note.new.events c.if-note.ensures.items
+    (rw c.as_slice-in-Ok-Some.ensures.value at c.note.ensures.room))
 
 pub returns-else-note-clause-answer : goal.returns-else-note-clause-answer
 returns-else-note-clause-answer g c = view_same _ _ _ c.self.view_is c.if-note.ensures.items

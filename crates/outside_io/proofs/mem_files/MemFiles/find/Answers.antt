@@ -14,7 +14,7 @@ returns-clause-number c =
     let path = c.args.path.now in
     c.place_among.ensures
     ∙ ap (λ (slots : List Slot). position_from (λ slot. bytes_eq slot.name.items path) 0
-        (take used slots)) c.deref.ensures.value
+    (take used slots)) c.deref.ensures.value
     ∙ sym (number_of-shown (take used c.self.inside.slots.items) path)
     ∙ ap (λ (m : Memory). number_of m.paths path) c.self.view_is
 

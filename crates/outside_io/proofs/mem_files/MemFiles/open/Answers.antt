@@ -16,9 +16,9 @@ emptied c =
     let inside = c.self.inside in
     let shows = ap (λ (m : Memory). m.paths) c.self.view_is in
     changed-at inside.slots.items inside.used c.args.path.now c.args.self.now.paths shows
-        c.in-Some.place c.index_mut.result.now
-        (record { name = c.index_mut.result.now.name; bytes = c.clear.new.self })
-        (sym c.in-Some.ensures.number) c.index_mut.ensures.value refl
+    c.in-Some.place c.index_mut.result.now
+    (record { name = c.index_mut.result.now.name; bytes = c.clear.new.self })
+    (sym c.in-Some.ensures.number) c.index_mut.ensures.value refl
     ∙ ap (with_bytes c.args.self.now.paths c.args.path.now) c.clear.ensures.items
 
 -- the path is new
@@ -37,7 +37,7 @@ added c =
     let inside = c.self.inside in
     let shows = ap (λ (m : Memory). m.paths) c.self.view_is in
     new-at inside.slots.items inside.used c.args.path.now c.args.self.now.paths shows
-        c.name_slot.new.slot (is_new c) (spare c) c.name_slot.ensures.name
+    c.name_slot.new.slot (is_new c) (spare c) c.name_slot.ensures.name
     ∙ ap (with_bytes c.args.self.now.paths c.args.path.now) c.name_slot.ensures.bytes
 
 pub returns-in-Some-clause-after : goal.returns-in-Some-clause-after
@@ -49,7 +49,7 @@ pub returns-in-Some-clause-number : goal.returns-in-Some-clause-number
 returns-in-Some-clause-number c =
     ap (λ paths. number_of paths c.args.path.now) (emptied c)
     ∙ kept-number c.args.self.now.paths c.args.path.now c.in-Some.place []
-        (sym c.in-Some.ensures.number)
+    (sym c.in-Some.ensures.number)
 
 pub returns-clause-after : goal.returns-clause-after
 returns-clause-after c = ap (with_paths (the_view c.self.inside)) (added c)
@@ -61,4 +61,4 @@ returns-clause-number c =
     let shows = ap (λ (m : Memory). m.paths) c.self.view_is in
     ap (λ paths. number_of paths c.args.path.now) (added c)
     ∙ new-number c.self.inside.slots.items c.self.inside.used c.args.path.now c.args.self.now.paths
-        shows [] (is_new c) (let h = spare c in omega arith)
+    shows [] (is_new c) (let h = spare c in omega arith)

@@ -7,7 +7,7 @@ pub begin-tells : goal.begin-tells
 begin-tells c =
     let ok = begin-path c.args.self.now c.new.self.now c.args.path.now c.result c.ensures.after in
     let others = begin-others c.args.self.now c.new.self.now c.args.path.now c.result
-        c.ensures.after in
+    c.ensures.after in
     record {
       ok = ok;
       err = grind (arith, common_steps);
@@ -22,9 +22,9 @@ begin-tells c =
 pub append-tells : goal.append-tells
 append-tells c =
     let ok = append-path c.args.self.now c.new.self.now c.args.path.now c.args.bytes.now c.result
-        c.ensures.ok in
+    c.ensures.ok in
     let others = append-others c.args.self.now c.new.self.now c.args.path.now c.args.bytes.now
-        c.result c.ensures.ok c.ensures.err in
+    c.result c.ensures.ok c.ensures.err in
     record {
       some = grind (arith, common_steps);
       ok = ok;

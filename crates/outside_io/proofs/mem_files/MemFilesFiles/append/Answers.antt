@@ -1,5 +1,5 @@
-use Rattle.std.proofs.Common.{◌≡◌, ◌-◌, [], ◌++◌, length, take, unwrap_or, refl, sym, ap, ◌∙◌,
-    arith}
+use Rattle.std.proofs.Common.{◌≡◌, ◌-◌, [], ◌++◌, length, take, unwrap_or, refl, sym, ap, ◌∙◌}
+use Rattle.std.proofs.Common.{arith}
 use Rattle.std.proofs.lemmas.Grind.{common_steps}
 use Rattle.std.proofs.lemmas.List.{length-take-le}
 use Rattle.outside_io.specs.Memory.{Memory, number_of, with_bytes, counted}
@@ -25,17 +25,20 @@ returns-clause-ok c =
     let path = c.args.path.now in
     let taken = take c.min-count.result c.args.bytes.now in
     let opened : the_view inside ≡ counted now = c.self.view_is
-        ∙ c.is_next_listed-is_listed.ensures.after in
+    ∙ c.is_next_listed-is_listed.ensures.after in
     let shows = ap (λ (m : Memory). m.paths) opened in
     let n = sym (c.in-Some.ensures.number ∙ ap (λ (m : Memory). number_of m.paths path)
-        c.is_next_listed-is_listed.ensures.after) in
+    c.is_next_listed-is_listed.ensures.after) in
     let here = bytes-at inside.slots.items inside.used path now.paths shows c.in-Some.number
-        c.index_mut-slot.result.now n c.index_mut-slot.ensures.value in
-    let slot : Slot = record { name = c.index_mut-slot.result.now.name; bytes
-        = c.extend_from_slice.new.self } in
+    c.index_mut-slot.result.now n c.index_mut-slot.ensures.value in
+    let slot : Slot = record {
+      name = c.index_mut-slot.result.now.name;
+      bytes
+          = c.extend_from_slice.new.self;
+    } in
     let paths = changed-at inside.slots.items inside.used path now.paths shows c.in-Some.number
-        c.index_mut-slot.result.now slot n c.index_mut-slot.ensures.value refl
+    c.index_mut-slot.result.now slot n c.index_mut-slot.ensures.value refl
     ∙ ap (with_bytes now.paths path) (added c ∙ ap (λ o. unwrap_or o [] ++ taken) (sym here)) in
     let room = ap (λ (m : Memory). m.room - c.min-count.result) opened
-        ∙ ap (λ k. now.room - k) (sym (counted_bytes c)) in
+    ∙ ap (λ k. now.room - k) (sym (counted_bytes c)) in
     (λ i. with_paths_and_room (opened i) (paths i) (room i))

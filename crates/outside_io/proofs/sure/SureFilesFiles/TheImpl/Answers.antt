@@ -2,8 +2,8 @@ use Rattle.std.proofs.Common.{ℕ, ◌-◌, ◌<◌, ◌≤◌, ◌⊎◌, lengt
 use Rattle.outside_io.specs.Counts.{HasRisen, NoneRises}
 use Rattle.outside_io.specs.Files.{Holding, Leaves, replaced_by, followed_by}
 use Rattle.outside_io.specs.Sure.{Sure, sure_holding}
-use Rattle.outside_io.proofs.SureLaws.{never_err, never_err_if_ok, on_ok, if_ok_at, sure_gives,
-    sure_ends, untold}
+use Rattle.outside_io.proofs.SureLaws.{never_err, never_err_if_ok, on_ok, if_ok_at, sure_gives}
+use Rattle.outside_io.proofs.SureLaws.{sure_ends, untold}
 use Rattle.outside_io.proofs.sure.SureFilesFiles.TheImpl.Goals as goal
 
 pub read_some-tells : goal.read_some-tells

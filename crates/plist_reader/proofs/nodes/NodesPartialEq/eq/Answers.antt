@@ -14,10 +14,10 @@ returns-then-ne c =
     let i = c.loop-index.index in
     let rest = pointwise same_node (drop (i + 1) own) (drop (i + 1) others) in
     differs (option_eq (on seen_node same_node) c.node.result c.node-in-loop-index.result) rest
-        c.if-ne.ensures
+    c.if-ne.ensures
     ∙ sym (pointwise-at seen_node same_node own others i c.node.result c.node-in-loop-index.result
-        c.node.ensures c.node-in-loop-index.ensures
-        (omega (arith, c.loop-index-test.true, c.len-index-end.ensures)) c.loop-index.invariant.0)
+    c.node.ensures c.node-in-loop-index.ensures
+    (omega (arith, c.loop-index-test.true, c.len-index-end.ensures)) c.loop-index.invariant.0)
     ∙ c.loop-index.invariant.1
 
 pub loop-index-preserved : goal.loop-index-preserved
@@ -30,8 +30,8 @@ loop-index-preserved c =
       sym (agrees (option_eq (on seen_node same_node) c.node.result c.node-in-loop-index.result)
           rest c.if-ne.ensures)
           ∙ sym (pointwise-at seen_node same_node own others i c.node.result
-              c.node-in-loop-index.result c.node.ensures c.node-in-loop-index.ensures
-              (omega (arith, c.loop-index-test.true, c.len-index-end.ensures))
-              c.loop-index.invariant.0)
+          c.node-in-loop-index.result c.node.ensures c.node-in-loop-index.ensures
+          (omega (arith, c.loop-index-test.true, c.len-index-end.ensures))
+          c.loop-index.invariant.0)
           ∙ c.loop-index.invariant.1,
     )

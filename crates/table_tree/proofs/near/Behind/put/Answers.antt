@@ -11,6 +11,6 @@ returns-clause-places c =
     let none = lookup-map c.args.spelled.items old.entries ∙ c.requires in
     ap (λ places. map pair places.entries) c.loop-cell.invariant.places
     ∙ ap (map pair) (c.in_ok-insert.ensures.entries
-        ∙ insert_entry-new (λ a b. pointwise nat_eq a.items b.items) old c.args.spelled
-        c.args.self.now.next none)
+    ∙ insert_entry-new (λ a b. pointwise nat_eq a.items b.items) old c.args.spelled
+    c.args.self.now.next none)
     ∙ map-append pair old.entries ((c.args.spelled, c.args.self.now.next) ∷ [])

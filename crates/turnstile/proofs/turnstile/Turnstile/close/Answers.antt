@@ -20,12 +20,12 @@ unwrap-requires g c =
     let every : length c.gather-seat.result.me.0.members ≡ key.passes =
     ap (λ me. length me.0.members) end
     ∙ (length-map items member_of ∙ (c.requires.all
-        ∙ (sym (ap (λ t. t.passes) c.self.view_is) ∙ sym c.self.invariant.2))) in
+    ∙ (sym (ap (λ t. t.passes) c.self.view_is) ∙ sym c.self.invariant.2))) in
     let left = closes entries root key.passes (root key.value.value) c.gather-seat.result.id
-        c.gather-seat.result.me.0 _ _ (ap (λ me. me.0.stage) end) every
-        c.close_with-closed.ensures.values.2 in
+    c.gather-seat.result.me.0 _ _ (ap (λ me. me.0.stage) end) every
+    c.close_with-closed.ensures.values.2 in
     let same : c.take-value.result ≡ Some left.value
-        = some-injective _ _ (sym c.take-value.ensures.value ∙ left.there) in
+    = some-injective _ _ (sym c.take-value.ensures.value ∙ left.there) in
     subst (λ x. IsSome x) (sym same) refl
 
 pub returns-clause-history : goal.returns-clause-history
@@ -38,18 +38,18 @@ returns-clause-history g c =
     let every : length c.gather-seat.result.me.0.members ≡ key.passes =
     ap (λ me. length me.0.members) end
     ∙ (length-map items member_of ∙ (c.requires.all
-        ∙ (sym (ap (λ t. t.passes) c.self.view_is) ∙ sym c.self.invariant.2))) in
+    ∙ (sym (ap (λ t. t.passes) c.self.view_is) ∙ sym c.self.invariant.2))) in
     let left = closes entries root key.passes (root key.value.value) c.gather-seat.result.id
-        c.gather-seat.result.me.0 _ _ (ap (λ me. me.0.stage) end) every
-        c.close_with-closed.ensures.values.2 in
+    c.gather-seat.result.me.0 _ _ (ap (λ me. me.0.stage) end) every
+    c.close_with-closed.ensures.values.2 in
     let same : c.take-value.result ≡ Some left.value
-        = some-injective _ _ (sym c.take-value.ensures.value ∙ left.there) in
+    = some-injective _ _ (sym c.take-value.ensures.value ∙ left.there) in
     let value : left.value ≡ c.unwrap.result = search rules in
     let know = subst (λ ms. AllKnow (entries left.value) (root key.value.value) ms)
-        (ap (λ me. me.0.members) end) left.know in
+    (ap (λ me. me.0.members) end) left.know in
     subst (λ (b : g.row.B.Denot). All (IsHistoryOf (entries b) (root b)) items) value
     (all_history (entries left.value) (root key.value.value) (root left.value) left.same_root items
-        know)
+    know)
 
 pub returns-clause-nobody_else : goal.returns-clause-nobody_else
 returns-clause-nobody_else g c k le =
@@ -61,14 +61,14 @@ returns-clause-nobody_else g c k le =
     let every : length c.gather-seat.result.me.0.members ≡ key.passes =
     ap (λ me. length me.0.members) end
     ∙ (length-map items member_of ∙ (c.requires.all
-        ∙ (sym (ap (λ t. t.passes) c.self.view_is) ∙ sym c.self.invariant.2))) in
+    ∙ (sym (ap (λ t. t.passes) c.self.view_is) ∙ sym c.self.invariant.2))) in
     let left = closes entries root key.passes (root key.value.value) c.gather-seat.result.id
-        c.gather-seat.result.me.0 _ _ (ap (λ me. me.0.stage) end) every
-        c.close_with-closed.ensures.values.2 in
+    c.gather-seat.result.me.0 _ _ (ap (λ me. me.0.stage) end) every
+    c.close_with-closed.ensures.values.2 in
     let same : c.take-value.result ≡ Some left.value
-        = some-injective _ _ (sym c.take-value.ensures.value ∙ left.there) in
+    = some-injective _ _ (sym c.take-value.ensures.value ∙ left.there) in
     let value : left.value ≡ c.unwrap.result = search rules in
     let passes : key.passes ≡ c.args.self.passes = c.self.invariant.2
-        ∙ ap (λ t. t.passes) c.self.view_is in
+    ∙ ap (λ t. t.passes) c.self.view_is in
     ap (λ (b : g.row.B.Denot). entries_of k (entries b)) (sym value)
-        ∙ left.nobody_else k (omega arith)
+    ∙ left.nobody_else k (omega arith)

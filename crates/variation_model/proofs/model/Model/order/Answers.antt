@@ -12,7 +12,7 @@ returns-clause-sorted c =
     let R : List (List F2Dot14) → Type 0 = λ places. IsInOrder places c.as_slice.result.now in
     subst R c.self.view_is
     (subst Q (sym (c.as_slice.ensures.value ∙ c.self.invariant.in_order))
-        (places_sorted c.self.inside.places.items c.self.invariant.are_places))
+    (places_sorted c.self.inside.places.items c.self.invariant.are_places))
 
 pub returns-clause-compares : goal.returns-clause-compares
 returns-clause-compares c = comes_before_IsOrder c.args.self.now
