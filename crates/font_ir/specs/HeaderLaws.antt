@@ -1,6 +1,6 @@
 -- A header of one master, without axes, instances and kerning, fulfils all conditions on a header
 -- where its numbers are in their ranges: no axis has a map to be there, and no two masters could
--- lie at one place.
+-- lie at one place. For the proofs of other crates alone.
 use Rattle.std.proofs.Common.{◌≡◌, ℕ, ◌≤◌, List, [], ◌∷◌, length, sym, ap, subst, arith}
 use Rattle.std.specs.List.{All}
 use Rattle.std.proofs.lemmas.List.{length-map}
@@ -29,6 +29,7 @@ module _ (h : Header) (m : Master) where
         minor = minor;
         few_axes = omega (arith, axes);
         axes = λ k d within. absurd (omega (arith, within, axes));
+        tags = λ k d within. absurd (omega (arith, within, axes));
         few_masters = omega (arith, masters);
         masters = subst (All (IsMaster (length h.axes))) (sym one)
             (All-from_recursion (IsMaster (length h.axes)) (m ∷ [])
@@ -37,6 +38,7 @@ module _ (h : Header) (m : Master) where
         few_instances = omega (arith, instances);
         instances = λ k d within. absurd (omega (arith, within, instances));
         kerning = λ k d within. absurd (omega (arith, within, kerning));
+        kerning_values = λ k d within. absurd (omega (arith, within, kerning));
         one_value = λ i j d below within. absurd (omega (arith, below, within, kerning));
         locations = λ axis within. absurd (omega (arith, within, axes));
         different = λ i j d below within.

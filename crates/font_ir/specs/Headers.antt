@@ -1,7 +1,7 @@
 -- What a header fulfils: the ranges of its numbers, lengths and counts, as many coordinates as
 -- axes, masters that lie where their coordinates say, no two of them at one place, and a map from
 -- user to design coordinates on each axis. The ranges are fontc's own.
-use Rattle.std.specs.Prelude.{◌≡◌, ◌≢◌, ℕ, ◌<◌, ◌≤◌, pos, neg_ℤ, ◌≤ℤ◌, List, length, map}
+use Rattle.std.specs.Prelude.{◌≡◌, ◌≢◌, ℕ, ◌<◌, ◌≤◌, ℤ, pos, neg_ℤ, ◌≤ℤ◌, List, length, map}
 use Rattle.std.specs.Prelude.{slice_index_or}
 use Rattle.std.specs.List.{All, AllPairs}
 use Rattle.fixed_math.specs.declared.Fixed.{Fixed}
@@ -13,6 +13,7 @@ use Rattle.font_ir.specs.declared.header.Master.{Master}
 use Rattle.font_ir.specs.declared.header.KernEntry.{KernEntry}
 use Rattle.font_ir.specs.declared.header.Header.{Header}
 use Rattle.font_ir.specs.declared.header.CoordinateScale.TheVariants.{Design}
+use Rattle.font_ir.specs.Tags.{IsTag}
 use Rattle.font_ir.specs.FlatGlyphs.{IsSmall}
 use Rattle.font_ir.specs.Coordinates.{normal_on}
 use Rattle.font_ir.specs.AxisMaps.{Pair, pairs_of, IsRisingList}
@@ -20,6 +21,10 @@ use Rattle.font_ir.specs.AxisMaps.{Pair, pairs_of, IsRisingList}
 -- a name has 1 to 255 bytes
 abbrev pub IsNameLong : List ℕ → Type 0
 IsNameLong name = (1 ≤ length name) × (length name ≤ NAME_BYTES)
+
+-- a kerning value is a number of 16 bits (OpenType 1.9, "Data types", FWORD)
+abbrev pub IsKerningValue : ℤ → Type 0
+IsKerningValue z = (neg_ℤ (pos 32768) ≤ℤ z) × (z ≤ℤ pos 32767)
 
 -- a coordinate is from -32767 to 32767: in 16.16 its raw number is at most 32767 times 65536 in
 -- size
@@ -69,12 +74,14 @@ pub record IsHeader (header : Header) : Type 0 where
   pub minor : header.minor ≤ 999
   pub few_axes : length header.axes ≤ AXES
   pub axes : All (λ axis. IsNameLong axis.name) header.axes
+  pub tags : All (λ axis. IsTag axis.tag) header.axes
   pub few_masters : length header.masters ≤ MASTERS
   pub masters : All (IsMaster (length header.axes)) header.masters
   pub origin : header.origin < length header.masters
   pub few_instances : length header.instances ≤ INSTANCES
   pub instances : All (IsInstance (length header.axes)) header.instances
   pub kerning : All (λ entry. entry.master < length header.masters) header.kerning
+  pub kerning_values : All (λ entry. IsKerningValue entry.value) header.kerning
   pub one_value : AllPairs AreOfTwoPairs header.kerning
   pub locations : (axis : ℕ) → axis < length header.axes → LieWhereTheySay header axis
   pub different : AllPairs (λ a b. a ≢ b) (map (λ master. master.location) header.masters)

@@ -9,6 +9,7 @@ pub mod Notdef
 pub mod Outlines
 pub mod Places
 pub mod ReadGlyphs
+pub mod Tags
 -- lemmas that the proofs of other crates need
 pub mod ExtremesLaws
 pub mod HeaderLaws
