@@ -8,6 +8,7 @@ mod normal;
 mod pairs;
 mod points;
 
+pub use coordinates::{Scale, scale_of};
 pub use errors::MapError;
 pub use normal::normalise;
 pub use pairs::avar_map;

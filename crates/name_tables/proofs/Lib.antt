@@ -1,4 +1,3 @@
-pub mod Ends
 pub mod Maps
 pub mod Stores
 pub mod Units
