@@ -8,3 +8,4 @@ pub mod Telling
 pub mod Values
 pub mod WayLaws
 pub mod Ways
+pub mod Words

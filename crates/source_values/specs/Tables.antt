@@ -1,5 +1,6 @@
 -- What each kind of value is asked, as tables: of each rule, the values that fail it. fontc's own.
-use Rattle.std.specs.Prelude.{ℕ, Bool, true, not, ◌&&◌, ◌||◌, nat_le, List, ◌++◌, length, is_some}
+use Rattle.std.specs.Prelude.{ℕ, Bool, true, false, not, ◌&&◌, ◌||◌, nat_le, List, ◌++◌, length}
+use Rattle.std.specs.Prelude.{is_some}
 use Rattle.std.specs.Option.{option_map_or}
 use Rattle.plist_reader.specs.declared.tree.Tree.{Tree}
 use Rattle.plist_reader.specs.Tree.{text_at}
@@ -34,6 +35,14 @@ text_passes test t n = option_map_or test (text_at t.nodes n) true
 abbrev pub is_within : Range → Decimal → Bool
 is_within range d = not (is_whole d) || in_range range d
 
+-- a decimal with a fraction, and a whole number outside a range
+abbrev pub has_fraction : Tree → ℕ → Bool
+has_fraction t n = option_map_or (λ d. not (is_whole d)) (decimal_at t n) false
+
+abbrev pub is_outside : Range → Tree → ℕ → Bool
+is_outside range t n =
+    option_map_or (λ d. is_whole d && not (in_range range d)) (decimal_at t n) false
+
 -- a whole number in a range
 abbrev pub whole_table : Range → List Row
 whole_table range =
@@ -51,6 +60,10 @@ text_table = here WrongShape is_text_value
 -- a name has 1 to 255 bytes
 abbrev pub has_name_length : List ℕ → Bool
 has_name_length text = nat_le 1 (length text) && nat_le (length text) 255
+
+-- a text that is shorter or longer
+abbrev pub has_other_length : Tree → ℕ → Bool
+has_other_length t n = option_map_or (λ text. not (has_name_length text)) (text_at t.nodes n) false
 
 abbrev pub name_table : List Row
 name_table = here WrongShape is_text_value ++ here OutOfRange (text_passes has_name_length)

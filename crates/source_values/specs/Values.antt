@@ -37,6 +37,11 @@ decimal_at t n = option_and_then decimal_of (text_at t.nodes n)
 abbrev pub is_code : ℕ → Bool
 is_code c = not (nat_le 55296 c && nat_le c 57343) && not (c == 65535)
 
+-- whether there is a decimal, and it is 0
+abbrev pub is_zero : Option Decimal → Bool
+is_zero None = false
+is_zero (Some d) = is_whole d && d.whole == 0
+
 -- whether a whole number is in its range
 abbrev pub in_range : Range → Decimal → Bool
 in_range Any d = true

@@ -13,6 +13,6 @@ pub use decimals::{Decimal, texts_spell_their_decimals};
 pub use kinds::{AnyDictionary, EmptyDictionary, EmptyList, NameText, PlainText, Range, Whole};
 pub use naturals::{NaturalOr, optional_natural, required_natural};
 pub use values::{
-    copied, decimal_at, decimal_under, is_dictionary, is_list, is_text, items_at, items_under,
+    copied, decimal_at, decimal_under, is_dictionary, is_list, is_word, items_at, items_under,
     note_at, place_at, text_at, text_under,
 };

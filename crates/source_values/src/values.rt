@@ -33,7 +33,7 @@ pub fn text_at(tree: &Tree, number: u32) -> Option<&str>
 }
 
 /// Whether a value is this text.
-pub fn is_text(tree: &Tree, word: &[u8], number: u32) -> bool
+pub fn is_word(tree: &Tree, word: &[u8], number: u32) -> bool
     ensures { result ≡ is_key tree.now word.now number }
 {
     tree.nodes.is_text(number, word)
