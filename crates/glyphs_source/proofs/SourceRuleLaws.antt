@@ -1,21 +1,29 @@
 -- What the tables of the header and of the index say of single rules.
 use Rattle.std.proofs.Common.{inl, inr, ◌≡◌, ◌⊎◌, ℕ, Bool, true, false, not, List, refl, sym, ap}
-use Rattle.std.proofs.Common.{true≢false}
+use Rattle.std.proofs.Common.{◌∙◌, true≢false}
 use Rattle.std.specs.Prelude.{codes}
 use Rattle.plist_reader.specs.declared.tree.Tree.{Tree}
 use Rattle.refusal_codes.specs.declared.rule.Rule.{Rule}
-use Rattle.refusal_codes.specs.declared.rule.Rule.TheVariants.{MissingKey, WrongVersion}
+use Rattle.refusal_codes.specs.declared.rule.Rule.TheVariants.{MissingKey, NotWhole, WrongVersion}
+use Rattle.refusal_codes.specs.declared.rule.Rule.TheVariants.{OutOfRange}
 use Rattle.refusal_codes.specs.declared.first.Failure.{Failure}
 use Rattle.source_values.specs.Asking.{dictionary}
 use Rattle.source_values.specs.Ways.{Step, Row, FailsRow, Fails, rows_of, has}
 use Rattle.source_values.specs.WayLaws.{by_rule}
-use Rattle.source_values.specs.Tables.{decimal_passes}
+use Rattle.source_values.specs.declared.kinds.Range.TheVariants.{Code}
+use Rattle.source_values.specs.Decimals.{is_whole}
+use Rattle.source_values.specs.Tables.{decimal_passes, text_passes, is_within, has_name_length}
+use Rattle.source_values.specs.Tables.{has_fraction, is_outside, has_other_length}
+use Rattle.source_values.specs.Words.{fraction, outside, other_length, none_outside_any}
 use Rattle.glyphs_source.specs.HeaderReading.{is_version, top_failures}
 use Rattle.glyphs_source.specs.IndexReading.{glyph_list_failures}
 use Rattle.glyphs_source.specs.SourceTables.{header_table, HeaderIsTabled, index_table}
 use Rattle.glyphs_source.specs.SourceTables.{IndexIsTabled, IsInSource, lacks, to_font, to_version}
 use Rattle.glyphs_source.specs.SourceTables.{to_master, to_glyphs, MissingKeysOfTheHeader}
 use Rattle.glyphs_source.specs.SourceTables.{is_other_version, WrongVersions, MissingKeysOfTheIndex}
+use Rattle.glyphs_source.specs.SourceTables.{to_top, to_glyph, to_codes, to_code}
+use Rattle.glyphs_source.specs.SourceTables.{FractionsOfTheHeader, FractionsOfTheIndex}
+use Rattle.glyphs_source.specs.SourceTables.{RangesOfTheIndex}
 use Rattle.glyphs_source.proofs.SourceTableLaws.{header_told, index_told}
 
 pub header_by_rule : HeaderIsTabled
@@ -133,4 +141,123 @@ pub nameless_glyphs : MissingKeysOfTheIndex
 nameless_glyphs t place = (
   λ p. to_nameless t place ((index_by_rule t MissingKey place).0 p),
   λ p. (index_by_rule t MissingKey place).1 (of_nameless t place p),
+)
+
+-- one row, whose test doesn't hold exactly where another test does
+module _ (t : Tree) (rule : Rule) (place : ℕ) (way : List Step) (holds test : Tree → ℕ → Bool)
+    (same : (n : ℕ) → not (holds t n) ≡ test t n) where
+  in_words : FailsRow (record { way = way; rule = rule; holds = holds }) t t.top
+      (record { rule = rule; place = place }) → IsInSource t way test place
+  in_words p =
+      let (n, reaches, passes, is) = to_words t rule place way holds p in
+      (n, reaches, sym (same n) ∙ passes, is)
+
+  from_words : IsInSource t way test place
+      → FailsRow (record { way = way; rule = rule; holds = holds }) t t.top
+      (record { rule = rule; place = place })
+  from_words (n, reaches, passes, is) =
+      of_words t rule place way holds (n, reaches, same n ∙ passes, is)
+
+module _ (t : Tree) (place : ℕ) where
+  abbrev Broken : List Step → Type 0
+  Broken way = IsInSource t way has_fraction place
+
+  abbrev FractionRow : List Step → Type 0
+  FractionRow way = FailsRow (record {
+    way = way;
+    rule = NotWhole;
+    holds
+        = decimal_passes is_whole;
+  })
+      t t.top (record { rule = NotWhole; place = place })
+
+  broken_words : (way : List Step) → FractionRow way → Broken way
+  broken_words way = in_words t NotWhole place way (decimal_passes is_whole) has_fraction
+      (fraction t)
+
+  broken_row : (way : List Step) → Broken way → FractionRow way
+  broken_row way = from_words t NotWhole place way (decimal_passes is_whole) has_fraction
+      (fraction t)
+
+  abbrev BrokenHeader : Type 0
+  BrokenHeader =
+      Broken (to_top (codes "unitsPerEm"))
+      ⊎ (Broken (to_top (codes "versionMajor")) ⊎ Broken (to_top (codes "versionMinor")))
+
+  to_broken_header : HeaderFails t NotWhole place → BrokenHeader
+  to_broken_header (inl p) = inl (broken_words (to_top (codes "unitsPerEm")) p)
+  to_broken_header (inr (inl p)) = inr (inl (broken_words (to_top (codes "versionMajor")) p))
+  to_broken_header (inr (inr (inl p))) =
+      inr (inr (broken_words (to_top (codes "versionMinor")) p))
+  to_broken_header (inr (inr (inr p))) = absurd p
+
+  of_broken_header : BrokenHeader → HeaderFails t NotWhole place
+  of_broken_header (inl p) = inl (broken_row (to_top (codes "unitsPerEm")) p)
+  of_broken_header (inr (inl p)) = inr (inl (broken_row (to_top (codes "versionMajor")) p))
+  of_broken_header (inr (inr p)) = inr (inr (inl (broken_row (to_top (codes "versionMinor")) p)))
+
+  abbrev BrokenIndex : Type 0
+  BrokenIndex = Broken to_codes ⊎ (Broken to_code ⊎ Broken (to_glyph (codes "export")))
+
+  to_broken_index : IndexFails t NotWhole place → BrokenIndex
+  to_broken_index (inl p) = inl (broken_words to_codes p)
+  to_broken_index (inr (inl p)) = inr (inl (broken_words to_code p))
+  to_broken_index (inr (inr (inl p))) = inr (inr (broken_words (to_glyph (codes "export")) p))
+  to_broken_index (inr (inr (inr p))) = absurd p
+
+  of_broken_index : BrokenIndex → IndexFails t NotWhole place
+  of_broken_index (inl p) = inl (broken_row to_codes p)
+  of_broken_index (inr (inl p)) = inr (inl (broken_row to_code p))
+  of_broken_index (inr (inr p)) = inr (inr (inl (broken_row (to_glyph (codes "export")) p)))
+
+  abbrev NoCode : List Step → Type 0
+  NoCode way = IsInSource t way (is_outside Code) place
+
+  abbrev CodeRow : List Step → Type 0
+  CodeRow way = FailsRow
+      (record { way = way; rule = OutOfRange; holds = decimal_passes (is_within Code) })
+      t t.top (record { rule = OutOfRange; place = place })
+
+  code_words : (way : List Step) → CodeRow way → NoCode way
+  code_words way = in_words t OutOfRange place way (decimal_passes (is_within Code))
+      (is_outside Code) (outside Code t)
+
+  code_row : (way : List Step) → NoCode way → CodeRow way
+  code_row way = from_words t OutOfRange place way (decimal_passes (is_within Code))
+      (is_outside Code) (outside Code t)
+
+  abbrev OutOfIndex : Type 0
+  OutOfIndex = IsInSource t (to_glyph (codes "glyphname")) has_other_length place
+      ⊎ (NoCode to_codes ⊎ NoCode to_code)
+
+  to_out : IndexFails t OutOfRange place → OutOfIndex
+  to_out (inl p) = inl (in_words t OutOfRange place (to_glyph (codes "glyphname"))
+      (text_passes has_name_length) has_other_length (other_length t) p)
+  to_out (inr (inl p)) = inr (inl (code_words to_codes p))
+  to_out (inr (inr (inl p))) = inr (inr (code_words to_code p))
+  to_out (inr (inr (inr (inl (n, reaches, fails, is))))) = absurd (none_outside_any t n fails)
+  to_out (inr (inr (inr (inr p)))) = absurd p
+
+  of_out : OutOfIndex → IndexFails t OutOfRange place
+  of_out (inl p) = inl (from_words t OutOfRange place (to_glyph (codes "glyphname"))
+      (text_passes has_name_length) has_other_length (other_length t) p)
+  of_out (inr (inl p)) = inr (inl (code_row to_codes p))
+  of_out (inr (inr p)) = inr (inr (inl (code_row to_code p)))
+
+pub fractions_of_header : FractionsOfTheHeader
+fractions_of_header t place = (
+  λ p. to_broken_header t place ((header_by_rule t NotWhole place).0 p),
+  λ p. (header_by_rule t NotWhole place).1 (of_broken_header t place p),
+)
+
+pub fractions_of_index : FractionsOfTheIndex
+fractions_of_index t place = (
+  λ p. to_broken_index t place ((index_by_rule t NotWhole place).0 p),
+  λ p. (index_by_rule t NotWhole place).1 (of_broken_index t place p),
+)
+
+pub ranges_of_index : RangesOfTheIndex
+ranges_of_index t place = (
+  λ p. to_out t place ((index_by_rule t OutOfRange place).0 p),
+  λ p. (index_by_rule t OutOfRange place).1 (of_out t place p),
 )

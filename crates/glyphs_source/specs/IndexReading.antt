@@ -1,6 +1,6 @@
 -- The glyphs that a source names, in the order of the file, and the rules that they may fail
 -- (Glyphs file format, version 3; the rules are fontc's own). Their layers are not read here.
-use Rattle.std.specs.Prelude.{ℕ, ◌+◌, Bool, false, not, ◌&&◌, ◌||◌, ◌==◌, nat_eq, List, [], ◌∷◌}
+use Rattle.std.specs.Prelude.{ℕ, ◌+◌, Bool, false, not, ◌&&◌, ◌||◌, nat_eq, List, [], ◌∷◌}
 use Rattle.std.specs.Prelude.{◌++◌, map, Option, Some, None, Result, codes, if◌then◌else◌}
 use Rattle.std.specs.Option.{option_map_or}
 use Rattle.std.specs.List.{All, list_any}
@@ -17,7 +17,8 @@ use Rattle.refusal_codes.specs.declared.job.TheConstants.{INDEX}
 use Rattle.source_values.specs.declared.decimals.Decimal.{Decimal}
 use Rattle.source_values.specs.declared.kinds.Range.TheVariants.{Any, Code}
 use Rattle.source_values.specs.Decimals.{is_whole}
-use Rattle.source_values.specs.Values.{items_at, is_list, decimal_at, in_range, items_under}
+use Rattle.source_values.specs.Values.{items_at, is_list, decimal_at, is_zero, in_range}
+use Rattle.source_values.specs.Values.{items_under}
 use Rattle.source_values.specs.Values.{text_under, text_or_empty, decimal_under}
 use Rattle.source_values.specs.Asking.{fails, whole_failures, text_failures, name_failures, each}
 use Rattle.source_values.specs.Asking.{dictionary, required, optional}
@@ -68,10 +69,6 @@ glyph_codes t g = option_map_or (codes_at t) (find_in t g (codes "unicode")) []
 
 unfoldable pub glyph_name : Tree → ℕ → List ℕ
 glyph_name t g = text_or_empty t g (codes "glyphname")
-
-abbrev pub is_zero : Option Decimal → Bool
-is_zero None = false
-is_zero (Some d) = d.whole == 0
 
 -- a glyph is exported unless its `export` is 0; `.notdef` always is
 unfoldable pub is_exported : Tree → ℕ → Bool

@@ -1,4 +1,5 @@
--- What a header that is read fulfils holds all conditions on a header.
+-- A header that is read fulfils all conditions on a header. For the proofs of other crates, and for
+-- the law that says it.
 use Rattle.std.proofs.Common.{◌≡◌, List, [], ◌∷◌, length, map, get_or, refl, ap, subst, arith}
 use Rattle.std.specs.List.{AllByRecursion}
 use Rattle.std.proofs.lemmas.List.{length-map}

@@ -6,7 +6,7 @@ use Rattle.std.specs.Prelude.{◌≡◌, ℕ, Bool, true, false, not, List, [], 
 use Rattle.plist_reader.specs.declared.tree.Tree.{Tree}
 use Rattle.refusal_codes.specs.declared.rule.Rule.{Rule}
 use Rattle.refusal_codes.specs.declared.rule.Rule.TheVariants.{WrongShape, MissingKey, WrongVersion}
-use Rattle.refusal_codes.specs.declared.rule.Rule.TheVariants.{OutOfRange}
+use Rattle.refusal_codes.specs.declared.rule.Rule.TheVariants.{NotWhole, OutOfRange}
 use Rattle.source_values.specs.declared.kinds.Range.TheVariants.{Any, Natural, Code}
 use Rattle.source_values.specs.Values.{place_at, is_list, is_dictionary}
 use Rattle.source_values.specs.Ways.{IsOneOf, Step, under, each_item, item, when, Reaches, Row}
@@ -14,7 +14,8 @@ use Rattle.source_values.specs.Ways.{Fails, rows_of, here, behind, has}
 use Rattle.source_values.specs.Tables.{decimal_passes, whole_table, decimal_table, text_table}
 use Rattle.source_values.specs.Tables.{name_table, dictionary_table, empty_list_table}
 use Rattle.source_values.specs.Tables.{empty_dictionary_table, required_table, optional_table}
-use Rattle.source_values.specs.Tables.{each_table, inside_table}
+use Rattle.source_values.specs.Tables.{each_table, inside_table, has_fraction, is_outside}
+use Rattle.source_values.specs.Tables.{has_other_length}
 use Rattle.glyphs_source.specs.HeaderReading.{is_version, is_axis_value, header_failures}
 use Rattle.glyphs_source.specs.IndexReading.{index_failures}
 
@@ -167,3 +168,47 @@ MissingKeysOfTheIndex =
     (t : Tree) (place : ℕ)
     → IsOneOf (index_failures t) (record { rule = MissingKey; place = place })
     ↔ IsInSource t to_glyphs (lacks (codes "glyphname")) place
+
+-- a number of the header isn't whole exactly where the em or a part of the font's version has a
+-- fraction
+abbrev pub to_top : List ℕ → List Step
+to_top key = when is_dictionary ∷ under key ∷ []
+
+abbrev pub FractionsOfTheHeader : Type 0
+FractionsOfTheHeader =
+    (t : Tree) (place : ℕ)
+    → IsOneOf (header_failures t) (record { rule = NotWhole; place = place })
+    ↔ (IsInSource t (to_top (codes "unitsPerEm")) has_fraction place
+    ⊎ (IsInSource t (to_top (codes "versionMajor")) has_fraction place
+    ⊎ IsInSource t (to_top (codes "versionMinor")) has_fraction place))
+
+-- the ways to the values of glyphs under a key, to the codes of glyphs that have a list of them,
+-- and
+-- to the code of those that have no list
+abbrev pub to_glyph : List ℕ → List Step
+to_glyph key = to_glyphs ++ (under key ∷ [])
+
+abbrev pub to_codes : List Step
+to_codes = to_glyph (codes "unicode") ++ (when is_list ∷ each_item ∷ [])
+
+abbrev pub to_code : List Step
+to_code = to_glyph (codes "unicode") ++ (when is_no_list ∷ [])
+
+-- a number of the index isn't whole exactly where a code or the `export` of a glyph has a fraction
+abbrev pub FractionsOfTheIndex : Type 0
+FractionsOfTheIndex =
+    (t : Tree) (place : ℕ)
+    → IsOneOf (index_failures t) (record { rule = NotWhole; place = place })
+    ↔ (IsInSource t to_codes has_fraction place
+    ⊎ (IsInSource t to_code has_fraction place
+    ⊎ IsInSource t (to_glyph (codes "export")) has_fraction place))
+
+-- something of the index is out of range exactly where the name of a glyph has not 1 to 255 bytes,
+-- or where a whole number in place of a code is none
+abbrev pub RangesOfTheIndex : Type 0
+RangesOfTheIndex =
+    (t : Tree) (place : ℕ)
+    → IsOneOf (index_failures t) (record { rule = OutOfRange; place = place })
+    ↔ (IsInSource t (to_glyph (codes "glyphname")) has_other_length place
+    ⊎ (IsInSource t to_codes (is_outside Code) place
+    ⊎ IsInSource t to_code (is_outside Code) place))

@@ -1,7 +1,7 @@
 ghost use Rattle.std.specs.Prelude.{◌≡◌, map, IfOk};
-ghost use Rattle.source_values.specs.Values.{text_under, decimal_under};
+ghost use Rattle.source_values.specs.Values.{text_under, decimal_under, is_zero};
 ghost use Rattle.glyphs_source.specs.IndexReading.{code_at, codes_at, glyph_codes, glyph_name};
-ghost use Rattle.glyphs_source.specs.IndexReading.{is_zero, is_exported, entry_of};
+ghost use Rattle.glyphs_source.specs.IndexReading.{is_exported, entry_of};
 
 use font_ir::Name;
 use plain_lists::Sequence;
@@ -72,7 +72,7 @@ fn is_zero_under(tree: &Tree, pairs: u32, key: &[u8]) -> bool
     ensures { result ≡ is_zero (decimal_under tree.now pairs key.now) }
 {
     match decimal_under(tree, pairs, key) {
-        Some(decimal) => decimal.whole == 0,
+        Some(decimal) => decimal.billionths == 0 && decimal.whole == 0,
         None => false,
     }
 }

@@ -14,6 +14,8 @@ pub use font_header::{header, headers_have_one_master};
 pub use index::{GlyphIndex, glyph_index};
 pub use laws::{glyph_names_are_short, read_headers_are_whole};
 pub use rule_laws::{
+    fractions_of_the_header_are_refused, fractions_of_the_index_are_refused,
     glyphs_without_a_name_are_refused, header_rules_are_tabled, index_rules_are_tabled,
-    missing_keys_of_the_header_are_refused, wrong_versions_are_refused,
+    missing_keys_of_the_header_are_refused, ranges_of_the_index_are_kept,
+    wrong_versions_are_refused,
 };

@@ -1,6 +1,7 @@
 ghost use Rattle.glyphs_source.specs.SourceTables.{HeaderIsTabled, IndexIsTabled};
 ghost use Rattle.glyphs_source.specs.SourceTables.{MissingKeysOfTheHeader, WrongVersions};
-ghost use Rattle.glyphs_source.specs.SourceTables.{MissingKeysOfTheIndex};
+ghost use Rattle.glyphs_source.specs.SourceTables.{MissingKeysOfTheIndex, FractionsOfTheHeader};
+ghost use Rattle.glyphs_source.specs.SourceTables.{FractionsOfTheIndex, RangesOfTheIndex};
 
 /// A local rule of the header fails at a place exactly where the table of what is asked of a header
 /// says so. A law: the function does nothing.
@@ -31,4 +32,23 @@ pub fn wrong_versions_are_refused()
 /// nothing.
 pub fn glyphs_without_a_name_are_refused()
     ensures { MissingKeysOfTheIndex }
+{}
+
+/// A number of the header isn't whole exactly where the em or a part of the font's version has a
+/// fraction. A law: the function does nothing.
+pub fn fractions_of_the_header_are_refused()
+    ensures { FractionsOfTheHeader }
+{}
+
+/// A number of the index isn't whole exactly where a code or the `export` of a glyph has a
+/// fraction.
+/// A law: the function does nothing.
+pub fn fractions_of_the_index_are_refused()
+    ensures { FractionsOfTheIndex }
+{}
+
+/// Something of the index is out of range exactly where the name of a glyph has not 1 to 255 bytes,
+/// or where a whole number in place of a code is none. A law: the function does nothing.
+pub fn ranges_of_the_index_are_kept()
+    ensures { RangesOfTheIndex }
 {}

@@ -1,0 +1,5 @@
+use Rattle.glyphs_source.proofs.SourceRuleLaws.{fractions_of_header}
+use Rattle.glyphs_source.proofs.rule_laws.fractions_of_the_header_are_refused.Goals as goal
+
+pub returns : goal.returns
+returns c = fractions_of_header
