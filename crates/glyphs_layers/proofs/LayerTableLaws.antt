@@ -14,7 +14,7 @@ use Rattle.refusal_codes.specs.declared.first.Failure.{Failure}
 use Rattle.source_values.specs.declared.decimals.Decimal.{Decimal}
 use Rattle.source_values.specs.declared.kinds.Range.TheVariants.{Natural, Coordinate}
 use Rattle.source_values.specs.Decimals.{is_whole}
-use Rattle.source_values.specs.Values.{items_at, decimal_at}
+use Rattle.source_values.specs.Values.{items_at, decimal_at, is_zero}
 use Rattle.source_values.specs.Asking.{fails, whole_failures, under_by, optional}
 use Rattle.source_values.specs.Ways.{IsOneOf, Fails, has}
 use Rattle.source_values.specs.WayLaws.{among_left, among_right, among_cases, never}
@@ -30,7 +30,7 @@ use Rattle.glyphs_layers.specs.LayerRules.{shape_parts_failures, shape_failures,
 use Rattle.glyphs_layers.specs.LayerRules.{layer_failures, entry_failures, entries_failures}
 use Rattle.glyphs_layers.specs.LayerRules.{layer_numbers, layer_of, master_failures, glyph_failures}
 use Rattle.glyphs_layers.specs.LayerTables.{is_node_value, is_no_cubic_node, is_no_quadratic_node}
-use Rattle.glyphs_layers.specs.LayerTables.{is_type, node_table, is_zero, is_not_open, path_table}
+use Rattle.glyphs_layers.specs.LayerTables.{is_type, node_table, is_not_open, path_table}
 use Rattle.glyphs_layers.specs.LayerTables.{is_no_component, other_table, shape_parts_table}
 use Rattle.glyphs_layers.specs.LayerTables.{shape_table, layer_table, entries_table, FailsInLayers}
 

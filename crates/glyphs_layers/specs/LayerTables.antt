@@ -2,23 +2,24 @@
 -- the rules are fontc's own). They tell of each local rule where it fails: exactly at the values
 -- that a row of that rule reaches, and of which it doesn't hold. So they know no order, and no
 -- walk.
-use Rattle.std.specs.Prelude.{◌≡◌, ℕ, Bool, true, false, not, ◌&&◌, ◌||◌, ◌==◌, List, [], ◌∷◌, ◌++◌}
-use Rattle.std.specs.Prelude.{slice_index, codes, Option, Some, None, ◌⊎◌, ◌↔◌}
+use Rattle.std.specs.Prelude.{◌≡◌, ℕ, Bool, true, false, not, ◌||◌, List, [], ◌∷◌, ◌++◌}
+use Rattle.std.specs.Prelude.{slice_index, codes, Some, ◌⊎◌, ◌↔◌}
 use Rattle.std.specs.Option.{option_map_or}
 use Rattle.plist_reader.specs.declared.tree.Tree.{Tree}
 use Rattle.font_ir.specs.declared.header.Master.{Master}
 use Rattle.refusal_codes.specs.declared.rule.Rule.{Rule}
 use Rattle.refusal_codes.specs.declared.rule.Rule.TheVariants.{WrongShape, MissingKey, NotWhole}
-use Rattle.refusal_codes.specs.declared.rule.Rule.TheVariants.{CubicNode, OpenContour}
+use Rattle.refusal_codes.specs.declared.rule.Rule.TheVariants.{OutOfRange, CubicNode, OpenContour}
+use Rattle.refusal_codes.specs.declared.rule.Rule.TheVariants.{CoordinateTooLarge}
 use Rattle.refusal_codes.specs.declared.first.Failure.{Failure}
-use Rattle.source_values.specs.declared.decimals.Decimal.{Decimal}
 use Rattle.source_values.specs.declared.kinds.Range.TheVariants.{Natural, Coordinate}
 use Rattle.source_values.specs.Decimals.{is_whole}
-use Rattle.source_values.specs.Values.{place_at, items_at, is_dictionary, decimal_under}
+use Rattle.source_values.specs.Values.{place_at, items_at, is_dictionary, is_zero, decimal_under}
 use Rattle.source_values.specs.Ways.{IsOneOf, Step, under, each_item, item, when, Reaches, Row}
 use Rattle.source_values.specs.Ways.{Fails, rows_of, here, behind, has}
 use Rattle.source_values.specs.Tables.{decimal_table, whole_table, text_table, empty_list_table}
 use Rattle.source_values.specs.Tables.{required_table, optional_table, each_table, inside_table}
+use Rattle.source_values.specs.Tables.{has_fraction, is_outside}
 use Rattle.glyphs_layers.specs.LayerRules.{is_node, is_line, is_cubic, is_quadratic, layer_numbers}
 use Rattle.glyphs_layers.specs.LayerRules.{layer_of, glyph_failures}
 
@@ -63,10 +64,6 @@ node_table = here WrongShape is_node_value ++ behind (when is_node_value) node_p
 -- ---- paths and other shapes
 
 -- whether what stands under `closed` is 0
-abbrev pub is_zero : Option Decimal → Bool
-is_zero None = false
-is_zero (Some d) = is_whole d && d.whole == 0
-
 abbrev pub is_open : Tree → ℕ → Bool
 is_open t n = is_zero (decimal_under t n (codes "closed"))
 
@@ -180,3 +177,44 @@ MissingKeysAreRefused =
     → IsOneOf (glyph_failures t masters glyph) (record { rule = MissingKey; place = place })
     ↔ (IsInALayer t masters glyph [] has_no_width place
     ⊎ IsInALayer t masters glyph to_others is_no_component place)
+
+-- the ways from a layer to its width, to `closed` of its paths, and to the x and y of their nodes
+abbrev pub to_width : List Step
+to_width = under (codes "width") ∷ []
+
+abbrev pub to_closed : List Step
+to_closed = to_paths ++ (under (codes "closed") ∷ [])
+
+abbrev pub to_x : List Step
+to_x = to_nodes ++ (item 0 ∷ [])
+
+abbrev pub to_y : List Step
+to_y = to_nodes ++ (item 1 ∷ [])
+
+-- a width is out of range exactly where a layer of a master has a whole `width` that is not from 0
+-- to 32767
+abbrev pub WidthsAreBounded : Type 0
+WidthsAreBounded =
+    (t : Tree) (masters : List Master) (glyph place : ℕ)
+    → IsOneOf (glyph_failures t masters glyph) (record { rule = OutOfRange; place = place })
+    ↔ IsInALayer t masters glyph to_width (is_outside (Natural 0 32767)) place
+
+-- a coordinate is too large exactly where a node of a layer of a master has a whole x or y of more
+-- than 16383 in size
+abbrev pub LargeCoordinatesAreRefused : Type 0
+LargeCoordinatesAreRefused =
+    (t : Tree) (masters : List Master) (glyph place : ℕ)
+    → IsOneOf (glyph_failures t masters glyph) (record { rule = CoordinateTooLarge; place = place })
+    ↔ (IsInALayer t masters glyph to_x (is_outside Coordinate) place
+    ⊎ IsInALayer t masters glyph to_y (is_outside Coordinate) place)
+
+-- a number isn't whole exactly where the `width` of a layer of a master, `closed` of one of its
+-- paths, or x or y of one of their nodes has a fraction
+abbrev pub FractionsInLayersAreRefused : Type 0
+FractionsInLayersAreRefused =
+    (t : Tree) (masters : List Master) (glyph place : ℕ)
+    → IsOneOf (glyph_failures t masters glyph) (record { rule = NotWhole; place = place })
+    ↔ (IsInALayer t masters glyph to_width has_fraction place
+    ⊎ (IsInALayer t masters glyph to_closed has_fraction place
+    ⊎ (IsInALayer t masters glyph to_x has_fraction place
+    ⊎ IsInALayer t masters glyph to_y has_fraction place)))

@@ -1,5 +1,5 @@
 ghost use Rattle.std.specs.Prelude.{◌≡◌, ◌<◌, ◌^◌, length, map, flat_map, slice_get, Ok, Err, IfOk};
-ghost use Rattle.std.specs.Prelude.{OnOk, IfSome, [], ◌∷◌, ◌++◌};
+ghost use Rattle.std.specs.Prelude.{OnOk, IfSome};
 ghost use Rattle.glyphs_source.specs.HeaderReading.{header_of};
 ghost use Rattle.font_ir.specs.ReadGlyphs.{IsReadGlyph, HasNoComponents, HasNoAnchors};
 ghost use Rattle.refusal_codes.specs.First.{noted, foremost};
@@ -9,7 +9,7 @@ ghost use Rattle.glyphs_layers.specs.LayerRules.{glyph_whole_failures};
 ghost use Rattle.glyphs_layers.specs.LayerReading.{master_layers, glyph_of};
 
 use crate::layers::{Entry, read_layers};
-use font_ir::{GlyphIr, Header, LayerIr, Location, Master, Name};
+use font_ir::{GlyphIr, Header, LayerIr, Master, Name, locations_of};
 use glyphs_source::{GlyphIndex, headers_have_one_master};
 use plain_lists::Sequence;
 use plist_reader::Tree;
@@ -85,7 +85,7 @@ fn read_glyph(
         number,
         place: place_at(tree, glyph),
         masters: masters.len() as u32,
-        places: places(alloc, masters)?,
+        places: locations_of(alloc, masters)?,
         layers: Sequence::from_vec(layers),
     })
 }
@@ -129,22 +129,4 @@ fn glyph_layers(
         masters,
         first,
     )
-}
-
-/// The masters' locations.
-fn places(alloc: Global, masters: &[Master]) -> Result<Sequence<Location>, AllocError>
-    ensures { IfOk result (λ places. places ≡ map (λ m. m.location) masters.now) }
-{
-    let mut places = Vec::with_capacity(alloc, masters.len())?;
-    for master in masters {
-        push_place(alloc, master, &mut places)?;
-    }
-    Ok(Sequence::from_vec(places))
-}
-
-fn push_place(alloc: Global, master: &Master, places: &mut Vec<Location>) -> Result<(), AllocError>
-    ensures { OnOk result (places.new.items ≡ places.old.items ++ master.now.location ∷ []) }
-{
-    places.push(master.location.copy(alloc)?)?;
-    Ok(())
 }

@@ -16,7 +16,7 @@ use plain_lists::Sequence;
 use plist_reader::Tree;
 use refusal_codes::{FirstFailure, Rule};
 use source_values::{
-    Asked, Range, decimal_at, is_dictionary, is_text, items_at, note_at, optional,
+    Asked, Range, decimal_at, is_dictionary, is_word, items_at, note_at, optional,
 };
 use std::alloc::{AllocError, Global};
 
@@ -252,20 +252,20 @@ fn note_type(tree: &Tree, node: u32, kind: u32, first: &mut FirstFailure)
 fn is_line(tree: &Tree, kind: u32) -> bool
     ensures { result ≡ is_line tree.now kind }
 {
-    is_text(tree, b"l", kind) || is_text(tree, b"ls", kind)
+    is_word(tree, b"l", kind) || is_word(tree, b"ls", kind)
 }
 
 fn is_cubic(tree: &Tree, kind: u32) -> bool
     ensures { result ≡ is_cubic tree.now kind }
 {
-    is_text(tree, b"c", kind) || is_text(tree, b"cs", kind)
+    is_word(tree, b"c", kind) || is_word(tree, b"cs", kind)
 }
 
 fn is_quadratic(tree: &Tree, kind: u32) -> bool
     ensures { result ≡ is_quadratic tree.now kind }
 {
-    is_text(tree, b"q", kind)
-        || is_text(tree, b"qs", kind)
-        || is_text(tree, b"o", kind)
-        || is_text(tree, b"os", kind)
+    is_word(tree, b"q", kind)
+        || is_word(tree, b"qs", kind)
+        || is_word(tree, b"o", kind)
+        || is_word(tree, b"os", kind)
 }
