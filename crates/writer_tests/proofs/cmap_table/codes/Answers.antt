@@ -7,8 +7,11 @@ pub loop-glyph-init : goal.loop-glyph-init
 loop-glyph-init c =
     let none = ap length c.in_ok-codes.ensures.items in
     record {
-      are = record { rise = λ i j d low high. absurd (omega arith); within
-          = λ k d high. absurd (omega arith) };
+      are = record {
+        rise = λ i j d low high. absurd (omega arith);
+        within
+            = λ k d high. absurd (omega arith);
+      };
       below = λ k d high. absurd (omega arith);
     }
 
@@ -27,5 +30,5 @@ loop-glyph-preserved c =
       };
       below = rw pushed (All-push (λ a. a.0 < code + c.args.distance) items one
           (All-weaker (λ a. a.0 < code) (λ a. a.0 < code + c.args.distance)
-              (λ a (h : a.0 < code). omega arith) items before.below) (omega arith));
+          (λ a (h : a.0 < code). omega arith) items before.below) (omega arith));
     }
