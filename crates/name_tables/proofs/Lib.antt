@@ -1,4 +1,3 @@
-pub mod Headers
 pub mod Ends
 pub mod Maps
 pub mod Stores

@@ -43,7 +43,7 @@ fn push_head(table: &mut Vec<u8>, axes: u16, instances: u16) -> Result<(), Alloc
 }
 
 /// Appends a VariationAxisRecord.
-#[tactic(auto, using(crate::proofs::Headers::has_axis), unfolding(crate::specs::Fvar::axis_record))]
+#[tactic(auto, using(crate::specs::HeaderLaws::has_axis), unfolding(crate::specs::Fvar::axis_record))]
 fn push_axis(
     table: &mut Vec<u8>,
     header: &Header,

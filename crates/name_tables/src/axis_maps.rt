@@ -17,7 +17,7 @@ use table_bytes::{push_int16, push_uint16};
 type Pair = (F2Dot14, F2Dot14);
 
 /// The pairs of an axis, which rise.
-#[tactic(auto, using(crate::proofs::Headers::has_axis))]
+#[tactic(auto, using(crate::specs::HeaderLaws::has_axis))]
 fn rising_pairs(alloc: Global, header: &Header, axis: usize) -> Result<Vec<Pair>, NoMemory>
     requires header { IsHeader header.now }
     requires axis { axis < length header.now.axes }

@@ -52,7 +52,7 @@ fn push_instance(
 }
 
 /// Appends the records of all instances.
-#[tactic(auto, using(crate::proofs::Headers::has_coordinates))]
+#[tactic(auto, using(crate::specs::HeaderLaws::has_coordinates))]
 pub fn push_instances(table: &mut Vec<u8>, header: &Header) -> Result<(), AllocError>
     requires { IsHeader header.now }
     ensures { OnOk result (table.new.items

@@ -11,6 +11,8 @@ mod store;
 mod texts;
 mod utf16;
 
-pub use axes::fvar;
+pub use axes::{FIRST_AXIS_NAME, fvar};
 pub use axis_maps::avar;
+pub use fields::push_fixed;
 pub use names::name;
+pub use scales::default_user;

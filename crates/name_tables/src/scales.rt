@@ -46,7 +46,7 @@ fn greatest_user(masters: &[Master], axis: usize) -> Fixed
 }
 
 /// The default master's user coordinate on an axis.
-fn default_user(masters: &[Master], origin: usize, axis: usize) -> Fixed
+pub fn default_user(masters: &[Master], origin: usize, axis: usize) -> Fixed
     requires origin { origin < length masters.now }
     requires axes { All (HasAxis axis) masters.now }
     ensures { result.0 ≡ default_on User origin axis masters.now }

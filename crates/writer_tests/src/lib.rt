@@ -4,7 +4,11 @@
 #[cfg(test)]
 mod assembly;
 #[cfg(test)]
+mod axis_tables;
+#[cfg(test)]
 mod cmap_table;
+#[cfg(test)]
+mod font_names;
 #[cfg(test)]
 mod glyf;
 #[cfg(test)]

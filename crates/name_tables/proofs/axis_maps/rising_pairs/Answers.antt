@@ -1,7 +1,7 @@
 use Rattle.std.proofs.Common.{List, subst, sym, ap, length, arith}
 use Rattle.font_ir.specs.AxisMaps.{IsRisingList, pairs_of}
 use Rattle.font_ir.specs.declared.header.Master.{Master}
-use Rattle.name_tables.proofs.Headers.{few_masters}
+use Rattle.name_tables.specs.HeaderLaws.{few_masters}
 use Rattle.name_tables.proofs.Maps.{few_pairs}
 use Rattle.name_tables.proofs.axis_maps.rising_pairs.Goals as goal
 

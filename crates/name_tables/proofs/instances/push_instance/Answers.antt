@@ -1,5 +1,5 @@
 use Rattle.std.proofs.Common.{length, ap, arith}
-use Rattle.name_tables.proofs.Headers.{has_axes}
+use Rattle.name_tables.specs.HeaderLaws.{has_axes}
 use Rattle.name_tables.proofs.instances.push_instance.Goals as goal
 
 pub push_user_coordinates-requires-clause-axes : goal.push_user_coordinates-requires-clause-axes
