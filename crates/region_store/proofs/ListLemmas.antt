@@ -1,46 +1,11 @@
 -- Lists and the images of their elements: the first place that passes a test, and what is told of
 -- all.
-use Rattle.std.proofs.Common.{
-  ◌≡◌,
-  ℕ,
-  zero,
-  suc,
-  ◌+◌,
-  Bool,
-  true,
-  false,
-  cond,
-  not,
-  ◌||◌,
-  List,
-  [],
-  ◌∷◌,
-  ◌++◌,
-  length,
-  map,
-  is_some,
-  get_or,
-  Option,
-  Some,
-  None,
-  ltb,
-  refl,
-  ap,
-  sym,
-  ◌∙◌,
-  arith,
-}
+use Rattle.std.proofs.Common.{◌≡◌, ℕ, zero, suc, ◌+◌, Bool, true, false, cond, not, ◌||◌, List, []}
+use Rattle.std.proofs.Common.{◌∷◌, ◌++◌, length, map, is_some, get_or, Option, Some, None, ltb}
+use Rattle.std.proofs.Common.{refl, ap, sym, ◌∙◌, arith}
 use Rattle.std.specs.Prelude.{slice_get}
-use Rattle.std.specs.List.{
-  position,
-  position_or_len,
-  prefix_len,
-  list_any,
-  flat_map,
-  range_with_len,
-  IsDistinct,
-  AllByRecursion,
-}
+use Rattle.std.specs.List.{position, position_or_len, prefix_len, list_any, flat_map}
+use Rattle.std.specs.List.{range_with_len, IsDistinct, AllByRecursion}
 use Rattle.std.proofs.lemmas.Bool.Decides.{nat_tests}
 use Rattle.std.proofs.lemmas.List.{length-map, flat_map_more}
 

@@ -1,30 +1,7 @@
 -- What a row's place among others says of adding it.
-use Rattle.std.proofs.Common.{
-  ◌≡◌,
-  ℕ,
-  ◌<◌,
-  Bool,
-  true,
-  false,
-  List,
-  [],
-  ◌∷◌,
-  ◌++◌,
-  length,
-  map,
-  is_some,
-  get_or,
-  Option,
-  Some,
-  None,
-  refl,
-  ap,
-  sym,
-  ◌∙◌,
-  subst,
-  length-append,
-  arith,
-}
+use Rattle.std.proofs.Common.{◌≡◌, ℕ, ◌<◌, Bool, true, false, List, [], ◌∷◌, ◌++◌, length, map}
+use Rattle.std.proofs.Common.{is_some, get_or, Option, Some, None, refl, ap, sym, ◌∙◌, subst}
+use Rattle.std.proofs.Common.{length-append, arith}
 use Rattle.std.specs.Prelude.{ℤ, Vec, Ok, Err, slice_get, if◌then◌else◌, nat_eq}
 use Rattle.std.specs.declared.alloc.Global.{Global}
 use Rattle.std.specs.List.{All, IsDistinct, position, list_any, flat_map}
@@ -44,12 +21,8 @@ use Rattle.std.proofs.lemmas.Option.{slice_get-get_or}
 use Rattle.region_store.specs.Builders.{IsBuilt, place_among, rows_with, lacks_room, AddsRow}
 use Rattle.region_store.specs.Stores.{item_variation_data_head, item_variation_data, delta_set}
 use Rattle.region_store.specs.Views.{rows_of, store_of}
-use Rattle.region_store.proofs.ListLemmas.{
-  position-map,
-  is_some-position,
-  IsDistinct-map,
-  slice_get-last,
-}
+use Rattle.region_store.proofs.ListLemmas.{position-map, is_some-position, IsDistinct-map}
+use Rattle.region_store.proofs.ListLemmas.{slice_get-last}
 
 -- the room for a row that has this place among so many
 abbrev lacks_at : ℕ → Option ℕ → Option ℕ

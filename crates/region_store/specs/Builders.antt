@@ -1,24 +1,6 @@
 -- A store to which rows are added one by one, and which keeps each row once.
-use Rattle.std.specs.Prelude.{
-  ◌≡◌,
-  ◌≢◌,
-  ℕ,
-  ℤ,
-  List,
-  [],
-  ◌∷◌,
-  ◌++◌,
-  length,
-  is_some,
-  if◌then◌else◌,
-  Option,
-  Some,
-  None,
-  Result,
-  Ok,
-  Err,
-  nat_eq,
-}
+use Rattle.std.specs.Prelude.{◌≡◌, ◌≢◌, ℕ, ℤ, List, [], ◌∷◌, ◌++◌, length, is_some, if◌then◌else◌}
+use Rattle.std.specs.Prelude.{Option, Some, None, Result, Ok, Err, nat_eq}
 use Rattle.std.specs.List.{AllPairs, position}
 use Rattle.std.specs.Option.{unwrap_or}
 use Rattle.std.specs.Ordering.{int_eq}

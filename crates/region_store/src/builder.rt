@@ -1,17 +1,5 @@
-ghost use Rattle.std.specs.Prelude.{
-  ◌≡◌,
-  ◌≤◌,
-  ◌++◌,
-  [],
-  ◌∷◌,
-  length,
-  None,
-  Some,
-  slice_get,
-  IfOk,
-  OnOk,
-  OnErr,
-};
+ghost use Rattle.std.specs.Prelude.{◌≡◌, ◌≤◌, ◌++◌, [], ◌∷◌, length, None, Some, slice_get, IfOk};
+ghost use Rattle.std.specs.Prelude.{OnOk, OnErr};
 ghost use Rattle.std.specs.List.{All};
 ghost use Rattle.region_store.specs.Stores.{item_variation_data, store_tree};
 ghost use Rattle.region_store.specs.Builders.{AddsRow, IsBuilt, place_among, rows_with};

@@ -2,16 +2,9 @@ ghost use Rattle.std.specs.Prelude.{◌≡◌, ◌≤◌, ◌++◌, IfOk, OnOk, 
 ghost use Rattle.std.specs.List.{flat_map, range_with_len};
 ghost use Rattle.table_bytes.specs.DataTypes.{uint16};
 ghost use Rattle.table_tree.specs.Trees.{end, bytes, number, near, two, four};
-ghost use Rattle.region_store.specs.Stores.{
-  IsStore,
-  region_axis_coordinates,
-  variation_region,
-  variation_region_list,
-  item_variation_data_head,
-  item_variation_data,
-  delta_set,
-  store_tree,
-};
+ghost use Rattle.region_store.specs.Stores.{IsStore, region_axis_coordinates, variation_region};
+ghost use Rattle.region_store.specs.Stores.{variation_region_list, item_variation_data_head};
+ghost use Rattle.region_store.specs.Stores.{item_variation_data, delta_set, store_tree};
 
 use fixed_math::F2Dot14;
 use font_ir::Region;
@@ -144,7 +137,8 @@ pub fn store_node(
     subtable: Vec<u8>,
 ) -> Result<Node, NoMemory>
     ensures { IfOk result (λ node. node ≡ number two 1 (near four (bytes list.items end)
-        (if nat_eq rows 0 then number two 0 end else number two 1 (near four (bytes subtable.items end) end)))) }
+        (if nat_eq rows 0 then number two 0 end else number two 1
+        (near four (bytes subtable.items end) end)))) }
 {
     let mut fields = Vec::with_capacity(alloc, 4)?;
     fields.push(Field::U16(FORMAT))?;

@@ -1,13 +1,12 @@
 -- The test of equality, field by field.
-use Rattle.std.proofs.Common.{◌≡◌, ◌≢◌, ℕ, suc, ◌+◌, ◌<◌, ◌++◌, Bool, true, false, ◌&&◌, List, [],
-    ◌∷◌, length,
-    get_or, drop, nat_eq, refl, ap, sym, ◌∙◌, arith}
+use Rattle.std.proofs.Common.{◌≡◌, ◌≢◌, ℕ, suc, ◌+◌, ◌<◌, ◌++◌, Bool, true, false, ◌&&◌, List, []}
+use Rattle.std.proofs.Common.{◌∷◌, length, get_or, drop, nat_eq, refl, ap, sym, ◌∙◌, arith}
 use Rattle.std.specs.Cmp.Lexicographic.{pointwise, bytes_decides}
 use Rattle.table_tree.specs.declared.node.Field.{Field}
-use Rattle.table_tree.specs.declared.node.Field.TheVariants.{U8, U16, U32, Bytes, Off16, Off32,
-    Far32, Null16, Null32}
-use Rattle.table_tree.specs.Trees.{Tree, end, spelling, spelled_bytes, spelling_prefix,
-    bytes_injective}
+use Rattle.table_tree.specs.declared.node.Field.TheVariants.{U8, U16, U32, Bytes, Off16, Off32}
+use Rattle.table_tree.specs.declared.node.Field.TheVariants.{Far32, Null16, Null32}
+use Rattle.table_tree.specs.Trees.{Tree, end, spelling, spelled_bytes, spelling_prefix}
+use Rattle.table_tree.specs.Trees.{bytes_injective}
 use Rattle.table_tree.specs.TreeOf.{before, tree_of}
 use Rattle.table_tree.specs.Equal.{tree_eq, field_eq, equal_nodes, node_equals_itself}
 use Rattle.table_tree.proofs.TreeLemmas.{tree_drop}
@@ -31,12 +30,12 @@ near_eq : (x y r s : Tree) → pointwise nat_eq (spelling x ++ spelling r) (spel
 near_eq x y r s =
     same_truth _ _
     (λ e. let one = spelling_prefix x y (spelling r) (spelling s)
-        ((bytes_decides (spelling x ++ spelling r) (spelling y ++ spelling s)).0 e) in
-      both_true _ _ (node_equals_itself x y one.0)
-        ((bytes_decides (spelling r) (spelling s)).1 one.1))
+    ((bytes_decides (spelling x ++ spelling r) (spelling y ++ spelling s)).0 e) in
+    both_true _ _ (node_equals_itself x y one.0)
+    ((bytes_decides (spelling r) (spelling s)).1 one.1))
     (λ e. let two = and_true (tree_eq x y) (tree_eq r s) e in
-      (bytes_decides (spelling x ++ spelling r) (spelling y ++ spelling s)).1
-        (λ i. spelling (equal_nodes x y two.0 i) ++ spelling (equal_nodes r s two.1 i)))
+    (bytes_decides (spelling x ++ spelling r) (spelling y ++ spelling s)).1
+    (λ i. spelling (equal_nodes x y two.0 i) ++ spelling (equal_nodes r s two.1 i)))
 
 content_eq : (c d : List ℕ) (r s : Tree)
     → pointwise nat_eq (spelled_bytes c (spelling r)) (spelled_bytes d (spelling s))
@@ -44,12 +43,12 @@ content_eq : (c d : List ℕ) (r s : Tree)
 content_eq c d r s =
     same_truth _ _
     (λ e. let one = bytes_injective c d (spelling r) (spelling s)
-        ((bytes_decides (spelled_bytes c (spelling r)) (spelled_bytes d (spelling s))).0 e) in
-      both_true _ _ ((bytes_decides c d).1 one.0)
-          ((bytes_decides (spelling r) (spelling s)).1 one.1))
+    ((bytes_decides (spelled_bytes c (spelling r)) (spelled_bytes d (spelling s))).0 e) in
+    both_true _ _ ((bytes_decides c d).1 one.0)
+    ((bytes_decides (spelling r) (spelling s)).1 one.1))
     (λ e. let two = and_true (pointwise nat_eq c d) (tree_eq r s) e in
-      (bytes_decides (spelled_bytes c (spelling r)) (spelled_bytes d (spelling s))).1
-        (λ i. spelled_bytes ((bytes_decides c d).0 two.0 i) (spelling (equal_nodes r s two.1 i))))
+    (bytes_decides (spelled_bytes c (spelling r)) (spelled_bytes d (spelling s))).1
+    (λ i. spelled_bytes ((bytes_decides c d).0 two.0 i) (spelling (equal_nodes r s two.1 i))))
 
 -- a field before others
 before_eq : (f g : Field) (r s : Tree) → tree_eq (before f r) (before g s)
@@ -122,7 +121,7 @@ fields_as_many [] (g ∷ gs) e = let unlike = end_first g (tree_of gs) in cc
 fields_as_many (f ∷ fs) [] e = let unlike = end_second f (tree_of fs) in cc
 fields_as_many (f ∷ fs) (g ∷ gs) e =
     let both = and_true (field_eq f g) (tree_eq (tree_of fs) (tree_of gs))
-        (sym (before_eq f g (tree_of fs) (tree_of gs)) ∙ e) in
+    (sym (before_eq f g (tree_of fs) (tree_of gs)) ∙ e) in
     ap suc (fields_as_many fs gs both.1)
 
 pub unlike_lengths : (fs gs : List Field) → length fs ≢ length gs

@@ -3,8 +3,8 @@ use Rattle.std.specs.Prelude.{◌≡◌, ℕ, Bool, true, false, ◌&&◌, List,
 use Rattle.std.specs.Cmp.{IsEquivalence, on_equiv}
 use Rattle.std.specs.Cmp.Lexicographic.{pointwise, bytes_decides, nat_list_eq_equiv}
 use Rattle.table_tree.specs.declared.node.Field.{Field}
-use Rattle.table_tree.specs.declared.node.Field.TheVariants.{U8, U16, U32, Bytes, Off16, Off32,
-    Far32, Null16, Null32}
+use Rattle.table_tree.specs.declared.node.Field.TheVariants.{U8, U16, U32, Bytes, Off16, Off32}
+use Rattle.table_tree.specs.declared.node.Field.TheVariants.{Far32, Null16, Null32}
 use Rattle.table_tree.specs.Trees.{Tree, spelling, spelling_injective}
 
 abbrev pub tree_eq : Tree → Tree → Bool

@@ -13,7 +13,7 @@ nodes_equal-returns-then-fields-others t c =
 pub nodes_equal-fields_equal-requires : goal.nodes_equal-fields_equal-requires
 nodes_equal-fields_equal-requires t c =
     let within = size_at c.fields-fields.result.now c.loop-i.i c.index-fields-i.result
-        c.loop-i-test.true c.index-fields-i.is in
+    c.loop-i-test.true c.index-fields-i.is in
     (omega (arith, within, ap tree_size c.fields-fields.ensures, c.decreases), tt)
 
 pub nodes_equal-returns-then-not-fields_equal : goal.nodes_equal-returns-then-not-fields_equal
@@ -24,8 +24,8 @@ nodes_equal-returns-then-not-fields_equal t c =
     let in_gs : c.loop-i.i < length gs = omega arith in
     let unlike : field_eq c.index-fields-i.result c.index-others-i.result ≡ false = cc in
     sym (c.loop-i.invariant
-        ∙ unequal_turn fs gs c.loop-i.i c.index-fields-i.result c.index-others-i.result
-            c.loop-i-test.true c.index-fields-i.is in_gs c.index-others-i.is unlike)
+    ∙ unequal_turn fs gs c.loop-i.i c.index-fields-i.result c.index-others-i.result
+    c.loop-i-test.true c.index-fields-i.is in_gs c.index-others-i.is unlike)
     ∙ (λ i. tree_eq (c.fields-fields.ensures i) (c.fields-others.ensures i))
 
 pub nodes_equal-loop-i-preserved : goal.nodes_equal-loop-i-preserved
@@ -37,4 +37,4 @@ nodes_equal-loop-i-preserved t c =
     let alike : field_eq c.index-fields-i.result c.index-others-i.result ≡ true = cc in
     c.loop-i.invariant
     ∙ equal_turn fs gs c.loop-i.i c.index-fields-i.result c.index-others-i.result
-        c.loop-i-test.true c.index-fields-i.is in_gs c.index-others-i.is alike
+    c.loop-i-test.true c.index-fields-i.is in_gs c.index-others-i.is alike
