@@ -34,8 +34,7 @@ lacks_room rows row =
     (length rows) else None
 
 -- Exactly where there is no room that is the error; else the answer is the outer index, 0, and the
--- inner one, the row's place. Memory
--- may run out.
+-- inner one, the row's place. Memory may run out.
 abbrev pub RefusesRow : StoreError → Option ℕ → Type 0
 RefusesRow (store_errors.Full n) lacks = lacks ≡ Some n
 RefusesRow store_errors.NoMemory lacks = Unit {0}

@@ -1,7 +1,6 @@
 -- An item variation store (OpenType 1.9, "Font variations common table formats", "Item variation
--- stores"), with one list of regions
--- and at most one subtable of rows, in which each row has a delta for each region and all deltas
--- are words.
+-- stores"), with one list of regions and at most one subtable of rows, in which each row has a
+-- delta for each region and all deltas are words.
 use Rattle.std.specs.Prelude.{◌≡◌, ◌≤◌, ℕ, ℤ, List, ◌++◌, length, nat_eq, if◌then◌else◌}
 use Rattle.std.specs.List.{All, flat_map, range_with_len}
 use Rattle.std.specs.Coded.{Coded, code_by, coded×, coded_ℕ, coded_ℤ, coded_list}
@@ -18,8 +17,7 @@ pub record Store : Type 0 where
   pub rows : List (List ℤ)
 
 -- The greatest number of regions, since the high bit of wordDeltaCount says something else, and of
--- rows; each region has a side on
--- each axis, and each row a delta for each region.
+-- rows; each region has a side on each axis, and each row a delta for each region.
 pub record IsStore (store : Store) : Type 0 where
   pub few_regions : length store.regions ≤ 32767
   pub few_rows : length store.rows ≤ 65535
@@ -46,8 +44,7 @@ variation_region_list axes regions =
     uint16 axis_count ++ uint16 region_count ++ flat_map variation_region regions
 
 -- ItemVariationData before its deltas, for so many rows over so many regions: all deltas are words,
--- and the regions are those of the
--- list in its order
+-- and the regions are those of the list in its order
 abbrev pub item_variation_data_head : ℕ → ℕ → List ℕ
 item_variation_data_head rows regions =
     let item_count : ℕ = rows in

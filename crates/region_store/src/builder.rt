@@ -54,12 +54,10 @@ impl StoreBuilder {
     }
 
     /// The place of a row, which has a delta for each region: the outer index, which is 0, and the
-    /// inner one. A row that is equal to an
-    /// earlier one has the place of that; any other is added behind the others. It is found without
-    /// a scan. The error is `Full` exactly
-    /// where 65,535 rows stand there and the row is not among them, and has their number. Else
-    /// memory can run out. After an error the
-    /// store is as before.
+    /// inner one. A row that is equal to an earlier one has the place of that; any other is added
+    /// behind the others. It is found without a scan. The error is `Full` exactly where 65,535 rows
+    /// stand there and the row is not among them, and has their number. Else memory can run out.
+    /// After an error the store is as before.
     pub fn add(&mut self, alloc: Global, row: &[i16]) -> Result<(u16, u16), StoreError>
         requires { length row.now ≡ length self.old.regions }
         ensures place { AddsRow result self.old.rows row.now }
@@ -104,8 +102,7 @@ impl StoreBuilder {
     }
 
     /// The store's tree, with the rows in their order (OpenType 1.9, "Font variations common table
-    /// formats", "Item variation stores").
-    /// The rows are all different. Memory can run out.
+    /// formats", "Item variation stores"). The rows are all different. Memory can run out.
     pub fn finish(&self, alloc: Global) -> Result<Node, NoMemory>
         ensures tree { IfOk result (λ node. node ≡ store_tree self.now) }
         ensures built { IsBuilt self.now }

@@ -1,6 +1,5 @@
 //! The store of a font's variations: rows of deltas over regions of its design space (OpenType 1.9,
-//! "Font variations common table
-//! formats", "Item variation stores").
+//! "Font variations common table formats", "Item variation stores").
 #![tactic(auto)]
 
 mod builder;

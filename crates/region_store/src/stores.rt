@@ -18,12 +18,10 @@ use table_tree::{Field, Node};
 const FORMAT: u16 = 1;
 
 /// The store of these rows in their order, equal ones each by itself, over these regions of a font
-/// with so many axes (OpenType 1.9,
-/// "Font variations common table formats", "Item variation stores"). Each region has a side on each
-/// axis, and each row a delta, in the
-/// row's units, for each region. All deltas are stored as words. Where there are no rows, the store
-/// has no subtable of them. Memory
-/// can run out.
+/// with so many axes (OpenType 1.9, "Font variations common table formats", "Item variation
+/// stores"). Each region has a side on each axis, and each row a delta, in the row's units, for
+/// each region. All deltas are stored as words. Where there are no rows, the store has no subtable
+/// of them. Memory can run out.
 pub fn plain_store(
     alloc: Global,
     axes: u16,
