@@ -1,8 +1,11 @@
 -- Worked examples, computed: the font of a source of one triangle, sources that have the same font,
 -- and sources that are refused.
 use Rattle.std.proofs.Common.{◌≡◌, ℕ, List, [], ◌∷◌, ◌++◌, map, take, replicate, Ok, Err, refl}
-use Rattle.std.specs.Prelude.{codes, true, Result, is_ok}
+use Rattle.std.specs.Prelude.{◌+◌, ◌-◌, ◌*◌, codes, true, Result, is_ok, nat_lt, if◌then◌else◌}
 use Rattle.std.specs.List.{flat_map}
+use Rattle.refusal_codes.specs.First.{refusal_of}
+use Rattle.refusal_codes.specs.declared.job.Job.{Job}
+use Rattle.refusal_codes.specs.declared.job.TheConstants.{TREE, HEADER, INDEX, RAW}
 use Rattle.refusal_codes.specs.declared.refusal.Refusal.{Refusal}
 use Rattle.refusal_codes.specs.declared.rule.Rule.{Rule}
 use Rattle.refusal_codes.specs.declared.rule.Rule.TheVariants.{NotUtf8, UnexpectedByte, BadEscape}
@@ -73,32 +76,39 @@ thousand glyphs = source glyphs (codes "unitsPerEm = 1000;" ∷ [])
 abbrev triangle_source : List ℕ
 triangle_source = thousand letter
 
--- its font, of 280 bytes
+-- bytes by their hexadecimal digits
+abbrev digit : ℕ → ℕ
+digit c = if nat_lt c 58 then c - 48 else c - 87
+
+abbrev hex : List ℕ → List ℕ
+hex [] = []
+hex (c ∷ []) = []
+hex (high ∷ low ∷ others) = (16 * digit high + digit low) ∷ hex others
+
+-- its font, of 280 bytes: the directory, and the tables in its order
 abbrev pub triangle_font : List ℕ
 triangle_font =
-    0 ∷ 1 ∷ 0 ∷ 0 ∷ 0 ∷ 6 ∷ 0 ∷ 64 ∷ 0 ∷ 2 ∷ 0 ∷ 32 ∷ 103 ∷ 108 ∷ 121 ∷ 102 ∷ 92 ∷ 186 ∷ 203 ∷ 247
-    ∷ 0 ∷ 0 ∷ 0 ∷
-    108 ∷ 0 ∷ 0 ∷ 0 ∷ 28 ∷ 104 ∷ 101 ∷ 97 ∷ 100 ∷ 97 ∷ 10 ∷ 67 ∷ 160 ∷ 0 ∷ 0 ∷ 0 ∷ 136 ∷ 0 ∷ 0 ∷ 0
-    ∷ 54 ∷ 104 ∷ 104 ∷
-    101 ∷ 97 ∷ 5 ∷ 22 ∷ 1 ∷ 47 ∷ 0 ∷ 0 ∷ 0 ∷ 192 ∷ 0 ∷ 0 ∷ 0 ∷ 36 ∷ 104 ∷ 109 ∷ 116 ∷ 120 ∷ 3 ∷ 232
-    ∷ 0 ∷ 0 ∷ 0 ∷ 0 ∷
-    0 ∷ 228 ∷ 0 ∷ 0 ∷ 0 ∷ 8 ∷ 108 ∷ 111 ∷ 99 ∷ 97 ∷ 0 ∷ 0 ∷ 0 ∷ 28 ∷ 0 ∷ 0 ∷ 0 ∷ 236 ∷ 0 ∷ 0 ∷ 0
-    ∷ 12 ∷ 109 ∷ 97 ∷
-    120 ∷ 112 ∷ 0 ∷ 4 ∷ 0 ∷ 5 ∷ 0 ∷ 0 ∷ 0 ∷ 248 ∷ 0 ∷ 0 ∷ 0 ∷ 32 ∷ 0 ∷ 1 ∷ 0 ∷ 0 ∷ 0 ∷ 0 ∷ 1 ∷ 244
-    ∷ 2 ∷ 188 ∷ 0 ∷
-    2 ∷ 0 ∷ 0 ∷ 19 ∷ 3 ∷ 33 ∷ 250 ∷ 250 ∷ 1 ∷ 244 ∷ 2 ∷ 188 ∷ 253 ∷ 68 ∷ 0 ∷ 0 ∷ 0 ∷ 0 ∷ 1 ∷ 0 ∷ 0
-    ∷ 0 ∷ 1 ∷ 0 ∷ 0 ∷
-    169 ∷ 160 ∷ 247 ∷ 242 ∷ 95 ∷ 15 ∷ 60 ∷ 245 ∷ 0 ∷ 3 ∷ 3 ∷ 232 ∷ 0 ∷ 0 ∷ 0 ∷ 0 ∷ 0 ∷ 0 ∷ 0 ∷ 0 ∷ 0
-    ∷ 0 ∷ 0 ∷ 0 ∷
-    0 ∷ 0 ∷ 0 ∷ 0 ∷ 0 ∷ 0 ∷ 0 ∷ 0 ∷ 1 ∷ 244 ∷ 2 ∷ 188 ∷ 0 ∷ 0 ∷ 0 ∷ 6 ∷ 0 ∷ 2 ∷ 0 ∷ 1 ∷ 0 ∷ 0 ∷ 0
-    ∷ 0 ∷ 0 ∷ 1 ∷ 0 ∷
-    0 ∷ 3 ∷ 32 ∷ 255 ∷ 56 ∷ 0 ∷ 0 ∷ 1 ∷ 244 ∷ 0 ∷ 0 ∷ 0 ∷ 0 ∷ 1 ∷ 244 ∷ 0 ∷ 1 ∷ 0 ∷ 0 ∷ 0 ∷ 0 ∷ 0
-    ∷ 0 ∷ 0 ∷ 0 ∷ 0 ∷
-    0 ∷ 0 ∷ 0 ∷ 0 ∷ 0 ∷ 0 ∷ 2 ∷ 1 ∷ 244 ∷ 0 ∷ 0 ∷ 1 ∷ 244 ∷ 0 ∷ 0 ∷ 0 ∷ 0 ∷ 0 ∷ 0 ∷ 0 ∷ 0 ∷ 0 ∷ 0
-    ∷ 0 ∷ 0 ∷ 0 ∷ 28 ∷
-    0 ∷ 1 ∷ 0 ∷ 0 ∷ 0 ∷ 2 ∷ 0 ∷ 3 ∷ 0 ∷ 1 ∷ 0 ∷ 0 ∷ 0 ∷ 0 ∷ 0 ∷ 2 ∷ 0 ∷ 0 ∷ 0 ∷ 0 ∷ 0 ∷ 0 ∷ 0 ∷ 0
-    ∷ 0 ∷ 0 ∷ 0 ∷ 0 ∷
-    0 ∷ 0 ∷ 0 ∷ 0 ∷ []
+    hex (codes "000100000006004000020020")
+    ++ hex (codes "676c79665cbacbf70000006c0000001c")
+    ++ hex (codes "68656164610a43a00000008800000036")
+    ++ hex (codes "686865610516012f000000c000000024")
+    ++ hex (codes "686d747803e80000000000e400000008")
+    ++ hex (codes "6c6f63610000001c000000ec0000000c")
+    ++ hex (codes "6d61787000040005000000f800000020")
+    -- glyf
+    ++ hex (codes "00010000000001f402bc00020000130321fafa01f402bcfd44000000")
+    -- head
+    ++ hex (codes "0001000000010000a9a0f7f25f0f3cf5000303e8000000000000000000000000")
+    ++ hex (codes "000000000000000001f402bc000000060002000100000000")
+    -- hhea
+    ++ hex (codes "000100000320ff38000001f40000000001f40001000000000000000000000000")
+    ++ hex (codes "00000002")
+    -- hmtx
+    ++ hex (codes "01f4000001f40000")
+    -- loca
+    ++ hex (codes "00000000000000000000001c")
+    -- maxp
+    ++ hex (codes "0001000000020003000100000000000200000000000000000000000000000000")
 
 -- the source, the same without its last line feed, and with a coordinate that has a fraction of
 -- zero. With keys that mean nothing here, a fourth value in a node and a layer of no master. With a
@@ -121,66 +131,60 @@ pub accepted : map font_of (
 unfolding font_on_literals
 accepted = refl
 
-abbrev refusal : ℕ → ℕ → List ℕ → Rule → ℕ → Result (List ℕ) Refusal
-refusal stratum kind name rule place = Err
-    (record { stratum = stratum; kind = kind; name = name; rule = rule; place = place })
+-- rows of a source and of what becomes of it
+abbrev are_fonts : List (List ℕ × Result (List ℕ) Refusal) → Type 0
+are_fonts rows = map (λ row. font_of row.0) rows ≡ map (λ row. row.1) rows
+
+abbrev refused : Job → List ℕ → Rule → ℕ → Result (List ℕ) Refusal
+refused job name rule place = Err (refusal_of job name (record { rule = rule; place = place }))
 
 -- a rule that the text fails
 abbrev of_text : Rule → ℕ → Result (List ℕ) Refusal
-of_text rule place = refusal 0 0 [] rule place
+of_text rule place = refused TREE [] rule place
 
 -- a rule that the letter's layers fail
 abbrev of_letter : Rule → ℕ → Result (List ℕ) Refusal
-of_letter rule place = refusal 1 3 (codes "A") rule place
+of_letter rule place = refused RAW (codes "A") rule place
 
 -- no text at all, the source without its last two bytes, and text behind it
-pub fronts_refused : map font_of (
-    []
-    ∷ take 257 triangle_source
-    ∷ (triangle_source ++ codes "end")
-    ∷ []) ≡
-    of_text UnexpectedEnd 0
-    ∷ of_text UnexpectedEnd 257
-    ∷ of_text TrailingText 259
-    ∷ []
+pub fronts_refused : are_fonts (
+    ([], of_text UnexpectedEnd 0)
+    ∷ (take 257 triangle_source, of_text UnexpectedEnd 257)
+    ∷ ((triangle_source ++ codes "end"), of_text TrailingText 259)
+    ∷ [])
 unfolding font_on_literals
 fronts_refused = refl
 
 -- text behind a dictionary, a key that stands twice, an escape that is none, a list without an end,
 -- a key without a value, a byte that isn't UTF-8 and 65 lists in one another. Of a dictionary
 -- without keys, the header lacks one.
-pub texts_refused : map font_of (
-    codes "{a = 1;} x"
-    ∷ codes "{a=1;a=2;}"
-    ∷ (codes "{a=" ++ 34 ∷ 92 ∷ codes "q" ++ 34 ∷ codes ";}")
-    ∷ codes "{a=(1,2"
-    ∷ codes "{a=;}"
-    ∷ (255 ∷ [])
-    ∷ replicate 65 40
-    ∷ codes "{}"
-    ∷ []) ≡
-    of_text TrailingText 9
-    ∷ of_text DuplicateKey 5
-    ∷ of_text BadEscape 4
-    ∷ of_text UnexpectedEnd 7
-    ∷ of_text UnexpectedByte 3
-    ∷ of_text NotUtf8 0
-    ∷ of_text TooDeep 64
-    ∷ refusal 0 1 [] MissingKey 0
-    ∷ []
+pub texts_refused : are_fonts (
+    (codes "{a = 1;} x", of_text TrailingText 9)
+    ∷ (codes "{a=1;a=2;}", of_text DuplicateKey 5)
+    ∷ (codes "{a=\"\\q\";}", of_text BadEscape 4)
+    ∷ (codes "{a=(1,2", of_text UnexpectedEnd 7)
+    ∷ (codes "{a=;}", of_text UnexpectedByte 3)
+    ∷ ((255 ∷ []), of_text NotUtf8 0)
+    ∷ (replicate 65 40, of_text TooDeep 64)
+    ∷ (codes "{}", refused HEADER [] MissingKey 0)
+    ∷ [])
 unfolding font_on_literals
 texts_refused = refl
 
 -- an em of 15 units, a name that stands twice and a code that does
-pub parts_refused : map font_of (
-    source letter (codes "unitsPerEm = 15;" ∷ [])
-    ∷ thousand (behind_letter (triangle (codes "A") (codes "unicode = 66;")))
-    ∷ thousand (behind_letter (triangle (codes "B") (codes "unicode = 65;")))
-    ∷ []) ≡
-    refusal 0 1 [] OutOfRange 251
-    ∷ refusal 0 2 [] DuplicateGlyph 237
-    ∷ refusal 0 2 [] DuplicateUnicode 237
-    ∷ []
+pub parts_refused : are_fonts (
+    (source letter (codes "unitsPerEm = 15;" ∷ []), refused HEADER [] OutOfRange 251)
+    ∷ (
+      thousand (behind_letter (triangle (codes "A") (codes "unicode = 66;"))),
+      refused INDEX []
+          DuplicateGlyph 237,
+    )
+    ∷ (
+      thousand (behind_letter (triangle (codes "B") (codes "unicode = 65;"))),
+      refused INDEX []
+          DuplicateUnicode 237,
+    )
+    ∷ [])
 unfolding font_on_literals
 parts_refused = refl
 
@@ -190,39 +194,46 @@ letter_under version masters = source_of version masters letter (codes "unitsPer
 
 -- version 2, no master, a master with a coordinate although there is no axis, and a master of which
 -- the letter has no layer
-pub masters_refused : map font_of (
-    letter_under (codes "2") (master (codes "m1") [])
-    ∷ letter_under (codes "3") []
-    ∷ letter_under (codes "3") (master (codes "m1")
-    (codes "axesValues = (" ∷ codes "1" ∷ codes ");" ∷ []))
-    ∷ letter_under (codes "3") (master (codes "m2") [])
-    ∷ []) ≡
-    refusal 0 1 [] WrongVersion 19
-    ∷ refusal 0 1 [] NoMaster 53
-    ∷ refusal 0 1 [] AxisCount 55
-    ∷ of_letter MissingLayer 82
-    ∷ []
+pub masters_refused : are_fonts (
+    (letter_under (codes "2") (master (codes "m1") []), refused HEADER [] WrongVersion 19)
+    ∷ (letter_under (codes "3") [], refused HEADER [] NoMaster 53)
+    ∷ (
+      letter_under (codes "3") (master (codes "m1")
+          (codes "axesValues = (" ∷ codes "1" ∷ codes ");" ∷ [])),
+      refused HEADER [] AxisCount 55,
+    )
+    ∷ (letter_under (codes "3") (master (codes "m2") []), of_letter MissingLayer 82)
+    ∷ [])
 unfolding font_on_literals
 masters_refused = refl
 
 -- a cubic node, an open contour, no width, a fraction and a coordinate that is too large
-pub glyphs_refused : map font_of (
-    thousand (letter_with (codes "1") (codes "(500,0,l)") (codes "(250,700,c)")
-    (codes "width = 500;" ∷ []))
-    ∷ thousand (letter_with (codes "0") (codes "(500,0,l)") (codes "(250,700,l)")
-    (codes "width = 500;" ∷ []))
-    ∷ thousand (letter_with (codes "1") (codes "(500,0,l)") (codes "(250,700,l)") [])
-    ∷ thousand (letter_with (codes "1") (codes "(500.5,0,l)") (codes "(250,700,l)")
-    (codes "width = 500;" ∷ []))
-    ∷ thousand (letter_with (codes "1") (codes "(16384,0,l)") (codes "(250,700,l)")
-    (codes "width = 500;" ∷ []))
-    ∷ []) ≡
-    of_letter CubicNode 181
-    ∷ of_letter OpenContour 137
-    ∷ of_letter MissingKey 110
-    ∷ of_letter NotWhole 171
-    ∷ of_letter CoordinateTooLarge 171
-    ∷ []
+pub glyphs_refused : are_fonts ((
+  thousand (letter_with (codes "1") (codes "(500,0,l)") (codes "(250,700,c)")
+      (codes "width = 500;" ∷ [])),
+  of_letter CubicNode 181,
+)
+    ∷ (
+      thousand (letter_with (codes "0") (codes "(500,0,l)") (codes "(250,700,l)")
+          (codes "width = 500;" ∷ [])),
+      of_letter OpenContour 137,
+    )
+    ∷ (
+      thousand (letter_with (codes "1") (codes "(500,0,l)") (codes "(250,700,l)") []),
+      of_letter
+          MissingKey 110,
+    )
+    ∷ (
+      thousand (letter_with (codes "1") (codes "(500.5,0,l)") (codes "(250,700,l)")
+          (codes "width = 500;" ∷ [])),
+      of_letter NotWhole 171,
+    )
+    ∷ (
+      thousand (letter_with (codes "1") (codes "(16384,0,l)") (codes "(250,700,l)")
+          (codes "width = 500;" ∷ [])),
+      of_letter CoordinateTooLarge 171,
+    )
+    ∷ [])
 unfolding font_on_literals
 glyphs_refused = refl
 

@@ -80,8 +80,7 @@ fn push_axes(table: &mut Vec<u8>, header: &Header) -> Result<(), AllocError>
 }
 
 /// The table `fvar` (OpenType 1.9, "fvar"): the axes with the masters' user coordinates as their
-/// scales, and where the instances
-/// lie, in user coordinates.
+/// scales, and where the instances lie, in user coordinates.
 ///
 /// # Errors
 ///

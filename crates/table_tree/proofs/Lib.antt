@@ -1,3 +1,4 @@
+pub mod EqualLemmas
 pub mod Examples
 pub mod FarLaws
 pub mod LeadsLaws

@@ -3,5 +3,6 @@ pub mod TreeOf
 pub mod TreeFalls
 pub mod Layouts
 pub mod Leads
+pub mod Equal
 pub mod Views
 pub mod Standing

@@ -76,7 +76,7 @@ pub spelled_bytes-append : (content r s : List ℕ)
 spelled_bytes-append [] r s = refl
 spelled_bytes-append (b ∷ content) r s = ap (λ xs. (b + 1) ∷ xs) (spelled_bytes-append content r s)
 
-bytes_injective : (a b r s : List ℕ) → spelled_bytes a r ≡ spelled_bytes b s → (a ≡ b) × (r ≡ s)
+pub bytes_injective : (a b r s : List ℕ) → spelled_bytes a r ≡ spelled_bytes b s → (a ≡ b) × (r ≡ s)
 bytes_injective [] [] r s e = (refl, ap others_of e)
 bytes_injective [] (y ∷ b) r s e = absurd (omega (arith, ap first_of e))
 bytes_injective (x ∷ a) [] r s e = absurd (omega (arith, ap first_of e))

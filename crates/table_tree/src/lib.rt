@@ -2,6 +2,7 @@
 #![tactic(auto)]
 
 mod cells;
+mod equal;
 mod errors;
 mod layouts;
 mod near;

@@ -15,3 +15,7 @@ mod glyf;
 mod metrics;
 #[cfg(test)]
 mod offset_trees;
+#[cfg(test)]
+mod points_left_out;
+#[cfg(test)]
+mod variation_stores;

@@ -1,5 +1,6 @@
 ghost use Rattle.std.specs.Prelude.{◌≡◌, [], ◌∷◌, length, map, IfOk};
-ghost use Rattle.metrics_tables.specs.Tables.{AreMeasures, HasOriginAndVersion};
+ghost use Rattle.font_ir.specs.Headers.{IsHeader};
+ghost use Rattle.metrics_tables.specs.Tables.{AreMeasures};
 
 use fixtures::{glyph, header, triangle};
 use font_ir::{GlyphOrder, Header};
@@ -23,7 +24,7 @@ fn order(rt: &impl Abort, alloc: Global) -> Result<GlyphOrder, Fail>
 
 /// The measures of a `.notdef` without points and the triangle.
 fn measured(rt: &impl Abort, alloc: Global, header: &Header) -> Result<Measures, Fail>
-    requires origin { HasOriginAndVersion header.now }
+    requires header { IsHeader header.now }
     requires axes { header.now.axes ≡ [] }
     requires locations { map (λ master. master.location) header.now.masters ≡ [] ∷ [] }
     ensures { IfOk result AreMeasures }
@@ -36,7 +37,7 @@ fn measured(rt: &impl Abort, alloc: Global, header: &Header) -> Result<Measures,
 
 /// The tables head, hhea, maxp and hmtx, one after another.
 fn tables(alloc: Global, header: &Header, measures: &Measures) -> Result<Vec<u8>, Fail>
-    requires header { HasOriginAndVersion header.now }
+    requires header { IsHeader header.now }
     requires measures { AreMeasures measures.now }
 {
     let mut tables = head(alloc, header, measures)?;

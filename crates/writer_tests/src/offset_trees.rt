@@ -125,3 +125,23 @@ fn twenty_thousand_children_of_which_half_are_equal(rt: HostRuntime) -> Result<(
     assert_eq!(rt; length(alloc, &Node::new(fields))?, 120000);
     Ok(())
 }
+
+/// A node with one field.
+fn one_field(alloc: Global, field: Field) -> Result<Node, Fail> {
+    let mut fields = Vec::new(alloc);
+    fields.push(field)?;
+    Ok(Node::new(fields))
+}
+
+#[test]
+fn nodes_are_equal_where_their_fields_are(rt: HostRuntime) -> Result<(), Fail> {
+    let alloc = rt.alloc();
+    let tree = one_field(alloc, Field::Off16(byte(alloc, 2)?))?;
+    let same = one_field(alloc, Field::Off16(byte(alloc, 2)?))?;
+    let other_child = one_field(alloc, Field::Off16(byte(alloc, 3)?))?;
+    let wider = one_field(alloc, Field::Off32(byte(alloc, 2)?))?;
+    let equal = tree == same;
+    let unequal = tree == other_child || tree == wider || wider == tree;
+    assert!(rt; equal && !unequal);
+    Ok(())
+}

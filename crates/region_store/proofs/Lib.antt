@@ -1,0 +1,3 @@
+mod ListLemmas
+mod RowLemmas
+mod Examples
