@@ -2,6 +2,7 @@ ghost use Rattle.std.specs.Prelude.{◌≡◌, ◌+◌, ◌-◌, ◌*◌, ◌^�
 ghost use Rattle.std.specs.Prelude.{OnOk, IsTrue};
 ghost use Rattle.std.specs.Vec.{vec_len};
 ghost use Rattle.std.specs.Arc.{arc_value};
+ghost use Rattle.refusal_codes.specs.declared.limits.TheConstants.{TABLES};
 ghost use Rattle.table_bytes.specs.DataTypes.{padded};
 ghost use Rattle.table_bytes.specs.Tables.{Builds, over_limit};
 ghost use Rattle.font_assembly.specs.Checksum as sums;
@@ -38,7 +39,7 @@ fn room_of(table: &Table) -> u64
 
 /// How many bytes the file has, or `u64::MAX` where it has more.
 fn file_len(tables: &[Table]) -> u64
-    requires { length tables.now ≤ 4095 }
+    requires { length tables.now ≤ TABLES }
     ensures { result ≡ min (files.file_len (tables_of tables.now)) 18446744073709551615 }
 {
     let mut len = 12 + 16 * tables.len() as u64;
@@ -50,7 +51,7 @@ fn file_len(tables: &[Table]) -> u64
 
 /// Where 'head' begins in the file.
 fn head_offset(tables: &[Table]) -> usize
-    requires count { length tables.now ≤ 4095 }
+    requires count { length tables.now ≤ TABLES }
     requires fits { files.file_len (tables_of tables.now) < 2 ^ 32 }
     ensures { result ≡ files.head_offset (tables_of tables.now)
         (files.first_offset (tables_of tables.now)) }
@@ -68,7 +69,7 @@ fn head_offset(tables: &[Table]) -> usize
 /// Where checksumAdjustment stands in the file.
 #[tactic(auto, using(crate::proofs::FileLemmas::head_offset_fits))]
 fn adjustment_offset(tables: &[Table]) -> usize
-    requires count { length tables.now ≤ 4095 }
+    requires count { length tables.now ≤ TABLES }
     requires head { files.HasHead (tables_of tables.now) }
     requires fits { files.file_len (tables_of tables.now) < 2 ^ 32 }
     ensures value { result ≡ files.head_offset (tables_of tables.now)
@@ -80,7 +81,7 @@ fn adjustment_offset(tables: &[Table]) -> usize
 
 /// The binary logarithm of a count of tables, rounded down.
 fn entry_selector(count: u16) -> u16
-    requires few { count ≤ 4095 }
+    requires few { count ≤ TABLES }
     requires some { 0 < count }
     ensures value { result ≡ files.entry_selector count }
     ensures power { 2 ^ result ≤ count }
@@ -91,7 +92,7 @@ fn entry_selector(count: u16) -> u16
 /// Appends the directory's head for a count of tables.
 #[tactic(auto, unfolding(crate::specs::File::directory_head))]
 fn push_directory_head(font: &mut Vec<u8>, count: u16) -> Result<(), AllocError>
-    requires few { count ≤ 4095 }
+    requires few { count ≤ TABLES }
     requires some { 0 < count }
     ensures bytes { OnOk result (font.new.items ≡ font.old.items ++ files.directory_head count) }
     ensures len { OnOk result (vec_len font.new ≡ vec_len font.old + 12) }
@@ -138,7 +139,7 @@ fn push_entry(font: &mut Vec<u8>, table: &Table, offset: u32) -> Result<(), Allo
 
 /// Appends the records of all tables.
 fn push_entries(font: &mut Vec<u8>, tables: &[Table]) -> Result<(), AllocError>
-    requires count { length tables.now ≤ 4095 }
+    requires count { length tables.now ≤ TABLES }
     requires head { files.HasHead (tables_of tables.now) }
     requires fits { files.file_len (tables_of tables.now) < 2 ^ 32 }
     ensures bytes { OnOk result (font.new.items
@@ -202,7 +203,7 @@ fn push_bodies(font: &mut Vec<u8>, tables: &[Table]) -> Result<(), AllocError>
 /// Appends the whole file, with 0 as its checksumAdjustment.
 #[tactic(auto, unfolding(crate::specs::File::unadjusted_file))]
 fn push_file(font: &mut Vec<u8>, tables: &[Table]) -> Result<(), AllocError>
-    requires count { length tables.now ≤ 4095 }
+    requires count { length tables.now ≤ TABLES }
     requires head { files.HasHead (tables_of tables.now) }
     requires fits { files.file_len (tables_of tables.now) < 2 ^ 32 }
     ensures bytes { OnOk result (font.new.items
@@ -238,7 +239,7 @@ fn adjust(font: &mut Vec<u8>, offset: usize)
 /// than 4,294,967,295 bytes. `NoMemory` comes only where it hasn't.
 #[tactic(auto, unfolding(crate::specs::File::file))]
 pub fn assemble(alloc: Global, tables: &[(Tag, Arc<Vec<u8>>)]) -> Result<Vec<u8>, TableError>
-    requires count { length tables.now ≤ 4095 }
+    requires count { length tables.now ≤ TABLES }
     requires tags { files.TagsRise (tables_of tables.now) }
     requires head { files.HasHead (tables_of tables.now) }
     ensures { Builds {Y = List ℕ} (λ font. font.items) result

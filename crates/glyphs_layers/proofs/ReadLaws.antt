@@ -28,6 +28,7 @@ use Rattle.refusal_codes.specs.declared.rule.Rule.TheVariants.{MissingLayer}
 use Rattle.refusal_codes.specs.declared.first.Failure.{Failure}
 use Rattle.refusal_codes.specs.First.{first_of, foremost, refusal_of}
 use Rattle.refusal_codes.specs.declared.job.TheConstants.{RAW}
+use Rattle.refusal_codes.specs.declared.limits.TheConstants.{COORDINATE}
 use Rattle.refusal_codes.specs.Gives.{Gives}
 use Rattle.refusal_codes.specs.JudgedLaws.{judged_ok}
 use Rattle.source_values.specs.declared.decimals.Decimal.{Decimal}
@@ -75,7 +76,9 @@ coordinate_range (Some d) = chosen (is_whole d && in_range Coordinate d) refl
   where
     chosen : (b : Bool) → (is_whole d && in_range Coordinate d) ≡ b
         → IsSmallFixed (record { 0 = if b then (fixed_of d.negative d.whole).0 else pos 0 })
-    chosen true e = signed_range d.negative d.whole (grind (arith, nat_tests))
+    chosen true e =
+        let small : d.whole ≤ COORDINATE = grind (arith, nat_tests) in
+        signed_range d.negative d.whole small
     chosen false e = (omega (arith, ints), omega (arith, ints))
 
 parts_range : (t : Tree) (x y : ℕ) → IsSmallPoint (point_by t x y)

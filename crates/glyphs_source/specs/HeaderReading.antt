@@ -16,6 +16,7 @@ use Rattle.refusal_codes.specs.declared.rule.Rule.TheVariants.{NoMaster, AxisCou
 use Rattle.refusal_codes.specs.declared.first.Failure.{Failure}
 use Rattle.refusal_codes.specs.First.{first_of, foremost, refusal_of, judged}
 use Rattle.refusal_codes.specs.declared.job.TheConstants.{HEADER}
+use Rattle.refusal_codes.specs.declared.limits.TheConstants.{NAME_BYTES}
 use Rattle.source_values.specs.declared.decimals.Decimal.{Decimal}
 use Rattle.source_values.specs.declared.kinds.Range.TheVariants.{Natural}
 use Rattle.source_values.specs.Decimals.{is_whole}
@@ -196,7 +197,7 @@ pub record HasNumbersInRange (header : Header) : Type 0 where
   pub units_from : 16 ≤ header.upem
   pub units : header.upem ≤ 16384
   pub family_from : 1 ≤ length header.family
-  pub family : length header.family ≤ 255
+  pub family : length header.family ≤ NAME_BYTES
   pub major : header.major ≤ 32767
   pub minor : header.minor ≤ 999
   pub metrics : AllByRecursion HasMetricsInRange header.masters

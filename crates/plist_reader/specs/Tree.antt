@@ -3,6 +3,7 @@
 use Rattle.std.specs.Prelude.{ℕ, ◌<◌, ◌≤◌, Bool, false, List, [], ◌∷◌, length, Option, Some, None}
 use Rattle.std.specs.Prelude.{slice_get, All, nat_eq, option_and_then, if◌then◌else◌}
 use Rattle.std.specs.Cmp.Lexicographic.{pointwise}
+use Rattle.refusal_codes.specs.declared.limits.TheConstants.{SOURCE_BYTES}
 use Rattle.plist_reader.specs.declared.tree.Tree.{Tree}
 use Rattle.plist_reader.specs.declared.tree.TreeNode.{TreeNode}
 use Rattle.plist_reader.specs.declared.tree.TreeValue.{TreeValue}
@@ -10,7 +11,7 @@ use Rattle.plist_reader.specs.declared.tree.TreeValue.TheVariants as tree
 
 -- the longest source that is read, in bytes
 abbrev pub source_limit : ℕ
-source_limit = 67108864
+source_limit = SOURCE_BYTES
 
 -- the value with this number
 abbrev pub node_at : Tree → ℕ → Option TreeNode

@@ -58,6 +58,6 @@ or_next None next = next
 or_next (Some f) next = Some f
 
 -- a failure is among these, and none of them comes before it
-pub record IsLeast (fs : List Failure) (f : Failure) : Type 0 where
+pub record IsFirst (fs : List Failure) (f : Failure) : Type 0 where
   pub there : Contains fs f
   pub none_before : AllByRecursion (λ g. is_before g f ≡ false) fs

@@ -5,7 +5,7 @@ use Rattle.std.specs.List.{AllByRecursion, Contains}
 use Rattle.std.proofs.lemmas.Bool.Decides.{nat_tests}
 use Rattle.refusal_codes.specs.Rules.{rule_number}
 use Rattle.refusal_codes.specs.declared.first.Failure.{Failure}
-use Rattle.refusal_codes.specs.First.{is_before, earlier, noted, first_of, IsLeast}
+use Rattle.refusal_codes.specs.First.{is_before, earlier, noted, first_of, IsFirst}
 
 -- noting two lists is noting the one after the other
 pub noted-append : (least : Option Failure) (xs ys : List Failure)
@@ -75,7 +75,7 @@ noted_least least (x ∷ xs) f e =
     (kept (is_before x least) least x f xs rest.0, both.0, (both.1, rest.2))
 
 -- the first of some failures is the least of them
-pub first_is_least : (fs : List Failure) (f : Failure) → first_of fs ≡ Some f → IsLeast fs f
+pub first_is_least : (fs : List Failure) (f : Failure) → first_of fs ≡ Some f → IsFirst fs f
 first_is_least [] f e = absurd cc
 first_is_least (x ∷ xs) f e =
     let found = noted_least x xs f e in

@@ -1,5 +1,5 @@
 ghost use Rattle.std.specs.Prelude.{◌≡◌, List, [], Option, Some, None};
-ghost use Rattle.refusal_codes.specs.First.{first_of, IsLeast};
+ghost use Rattle.refusal_codes.specs.First.{first_of, IsFirst};
 ghost use Rattle.refusal_codes.specs.declared.errors.ReadError.TheVariants as read_errors;
 
 use crate::errors::ReadError;
@@ -102,6 +102,6 @@ impl FirstFailure {
 /// The first of a list of failures is the least of them, and there is one unless the list is empty.
 /// A law: the function does nothing.
 pub fn first_failure_is_the_least()
-    ensures least { (fs : List Failure) (f : Failure) → first_of fs ≡ Some f → IsLeast fs f }
+    ensures least { (fs : List Failure) (f : Failure) → first_of fs ≡ Some f → IsFirst fs f }
     ensures none { (fs : List Failure) → first_of fs ≡ None → fs ≡ [] }
 {}

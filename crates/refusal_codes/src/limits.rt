@@ -39,3 +39,6 @@ pub const TABLE_BYTES: u64 = 4_294_967_295;
 
 /// Regions of HVAR.
 pub const REGIONS: usize = 1_024;
+
+/// Tables of a font.
+pub const TABLES: usize = 4_095;

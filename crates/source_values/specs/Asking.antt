@@ -10,6 +10,7 @@ use Rattle.refusal_codes.specs.declared.rule.Rule.{Rule}
 use Rattle.refusal_codes.specs.declared.rule.Rule.TheVariants.{WrongShape, MissingKey, NotWhole}
 use Rattle.refusal_codes.specs.declared.rule.Rule.TheVariants.{OutOfRange, CoordinateTooLarge}
 use Rattle.refusal_codes.specs.declared.first.Failure.{Failure}
+use Rattle.refusal_codes.specs.declared.limits.TheConstants.{NAME_BYTES}
 use Rattle.source_values.specs.declared.decimals.Decimal.{Decimal}
 use Rattle.source_values.specs.declared.kinds.Range.{Range}
 use Rattle.source_values.specs.declared.kinds.Range.TheVariants.{Any, Natural, Code, Coordinate}
@@ -49,7 +50,7 @@ text_failures t n = if is_some (text_at t.nodes n) then [] else fails WrongShape
 abbrev pub name_failures_by : Tree → ℕ → Option (List ℕ) → List Failure
 name_failures_by t n None = fails WrongShape t n
 name_failures_by t n (Some text) =
-    if nat_le 1 (length text) && nat_le (length text) 255 then [] else fails OutOfRange t n
+    if nat_le 1 (length text) && nat_le (length text) NAME_BYTES then [] else fails OutOfRange t n
 
 unfoldable pub name_failures : Tree → ℕ → List Failure
 name_failures t n = name_failures_by t n (text_at t.nodes n)

@@ -7,6 +7,7 @@ use Rattle.plist_reader.specs.Tree.{text_at}
 use Rattle.refusal_codes.specs.declared.rule.Rule.{Rule}
 use Rattle.refusal_codes.specs.declared.rule.Rule.TheVariants.{WrongShape, MissingKey, NotWhole}
 use Rattle.refusal_codes.specs.declared.rule.Rule.TheVariants.{OutOfRange}
+use Rattle.refusal_codes.specs.declared.limits.TheConstants.{NAME_BYTES}
 use Rattle.source_values.specs.declared.decimals.Decimal.{Decimal}
 use Rattle.source_values.specs.declared.kinds.Range.{Range}
 use Rattle.source_values.specs.Decimals.{is_whole}
@@ -59,7 +60,7 @@ text_table = here WrongShape is_text_value
 
 -- a name has 1 to 255 bytes
 abbrev pub has_name_length : List ℕ → Bool
-has_name_length text = nat_le 1 (length text) && nat_le (length text) 255
+has_name_length text = nat_le 1 (length text) && nat_le (length text) NAME_BYTES
 
 -- a text that is shorter or longer
 abbrev pub has_other_length : Tree → ℕ → Bool

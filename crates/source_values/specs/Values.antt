@@ -6,6 +6,7 @@ use Rattle.std.specs.Prelude.{if◌then◌else◌}
 use Rattle.std.specs.Option.{option_map_or}
 use Rattle.plist_reader.specs.declared.tree.Tree.{Tree}
 use Rattle.plist_reader.specs.Tree.{node_at, items_of, pairs_of, text_at, find_in}
+use Rattle.refusal_codes.specs.declared.limits.TheConstants.{COORDINATE}
 use Rattle.source_values.specs.declared.decimals.Decimal.{Decimal}
 use Rattle.source_values.specs.declared.kinds.Range.{Range}
 use Rattle.source_values.specs.declared.kinds.Range.TheVariants.{Any, Natural, Code, Coordinate}
@@ -47,7 +48,7 @@ abbrev pub in_range : Range → Decimal → Bool
 in_range Any d = true
 in_range (Natural low high) d = is_natural_in low high d
 in_range Code d = is_natural_in 0 1114111 d && is_code d.whole
-in_range Coordinate d = nat_le d.whole 16383
+in_range Coordinate d = nat_le d.whole COORDINATE
 
 -- a whole number in a range, and its lower end where the value isn't one
 abbrev pub natural_by : ℕ → ℕ → Option Decimal → ℕ

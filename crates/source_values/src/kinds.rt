@@ -11,7 +11,7 @@ use crate::asking::Asked;
 use crate::decimals::Decimal;
 use crate::values::{decimal_at, is_dictionary, items_at, note_at, text_at};
 use plist_reader::{Tree, ValueRef};
-use refusal_codes::{FirstFailure, Rule};
+use refusal_codes::{FirstFailure, Rule, limits};
 
 /// A range of whole numbers.
 #[derive(Clone, Copy, Debug, PartialEq, Eq)]
@@ -35,7 +35,7 @@ impl Range {
             Range::Any => true,
             Range::Natural(low, high) => is_natural_in(decimal, u32::from(low), u32::from(high)),
             Range::Code => is_natural_in(decimal, 0, 0x10_FFFF) && is_code(decimal.whole),
-            Range::Coordinate => decimal.whole <= 16383,
+            Range::Coordinate => decimal.whole <= limits::COORDINATE,
         }
     }
 
@@ -119,7 +119,7 @@ impl Asked for NameText {
         match text_at(tree, number) {
             None => note_at(tree, number, Rule::WrongShape, first),
             Some(text) => {
-                if text.is_empty() || text.len() > 255 {
+                if text.is_empty() || text.len() > limits::NAME_BYTES {
                     note_at(tree, number, Rule::OutOfRange, first);
                 }
             }

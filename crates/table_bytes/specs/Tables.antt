@@ -1,13 +1,14 @@
 -- What a call that builds a table or a font answered.
 use Rattle.std.specs.Prelude.{◌≡◌, ℕ, min, nat_lt, if◌then◌else◌, Option, Some, None, Result, Ok}
 use Rattle.std.specs.Prelude.{Err}
+use Rattle.refusal_codes.specs.declared.limits.TheConstants.{TABLE_BYTES}
 use Rattle.table_bytes.specs.declared.errors.TableError.{TableError}
 use Rattle.table_bytes.specs.declared.errors.TableError.TheVariants as table_errors
 
 -- a length that is more than four bytes can say. A number that is above the greatest of 64 bits is
 -- told as that one.
 abbrev pub over_limit : ℕ → Option ℕ
-over_limit n = if nat_lt 4294967295 n then Some (min n 18446744073709551615) else None
+over_limit n = if nat_lt TABLE_BYTES n then Some (min n 18446744073709551615) else None
 
 -- `too_large` is the length that is over the limit, if one is. Exactly then it is the error, and
 -- else what was built, seen by view, is the value, unless memory ran out.
