@@ -8,6 +8,7 @@ use Rattle.std.proofs.Math.Nat.{pow-le-pow_right, pow-suc}
 use Rattle.std.proofs.lemmas.Bool.{cases_lt}
 use Rattle.std.proofs.lemmas.Bool.Decides.{nat_tests}
 use Rattle.std.specs.List.{flat_map}
+use Rattle.refusal_codes.specs.declared.limits.TheConstants.{CHARACTER_MAP_BYTES}
 use Rattle.table_bytes.specs.DataTypes.{uint16}
 use Rattle.cmap_writer.specs.declared.runs.Run.{Run}
 use Rattle.cmap_writer.specs.declared.segments.Segment.{Segment}
@@ -111,17 +112,17 @@ whole_table_is segments groups len e =
     (sym (append_none (format_12 groups)))
 
 pub is_too_large : (codes : Codes) (n : ℕ) → n ≡ format_4_length (length (segments codes))
-    → 65535 < n → too_large codes ≡ Some n
+    → CHARACTER_MAP_BYTES < n → too_large codes ≡ Some n
 is_too_large codes n is over =
     let same : length (format_4 (segments codes)) ≡ n = length-format_4 (segments codes) ∙ sym is in
-    let long : nat_lt 65535 n ≡ true = grind (arith, nat_tests) in
-    ap (λ m. if nat_lt 65535 m then Some m else None) same
+    let long : nat_lt CHARACTER_MAP_BYTES n ≡ true = grind (arith, nat_tests) in
+    ap (λ m. if nat_lt CHARACTER_MAP_BYTES m then Some m else None) same
     ∙ ap (λ (b : Bool). if b then Some n else None) long
 
 pub is_not_too_large : (codes : Codes) (n : ℕ) → n ≡ format_4_length (length (segments codes))
-    → n ≤ 65535 → too_large codes ≡ None
+    → n ≤ CHARACTER_MAP_BYTES → too_large codes ≡ None
 is_not_too_large codes n is within =
     let same : length (format_4 (segments codes)) ≡ n = length-format_4 (segments codes) ∙ sym is in
-    let short : nat_lt 65535 n ≡ false = grind (arith, nat_tests) in
-    ap (λ m. if nat_lt 65535 m then Some m else None) same
+    let short : nat_lt CHARACTER_MAP_BYTES n ≡ false = grind (arith, nat_tests) in
+    ap (λ m. if nat_lt CHARACTER_MAP_BYTES m then Some m else None) same
     ∙ ap (λ (b : Bool). if b then Some n else None) short

@@ -5,6 +5,7 @@ use Rattle.std.specs.Prelude.{◌≡◌, ℕ, ◌+◌, ◌*◌, ◌<◌, ◌≤�
 use Rattle.std.specs.Prelude.{◌∷◌, ◌++◌, length, Option, Some, None, Result, Ok, Err, Vec}
 use Rattle.std.specs.List.{flat_map, list_any, All, AllPairs}
 use Rattle.std.specs.declared.alloc.Global.{Global}
+use Rattle.refusal_codes.specs.declared.limits.TheConstants.{CHARACTER_MAP_BYTES}
 use Rattle.table_bytes.specs.DataTypes.{uint16, uint32}
 use Rattle.cmap_writer.specs.Runs.{Codes, longest_runs, short_codes}
 use Rattle.cmap_writer.specs.Subtables.{segments_of, format_4, format_12}
@@ -71,7 +72,7 @@ cmap_table codes = table_of (encodings codes)
 abbrev pub too_large : Codes → Option ℕ
 too_large codes =
     let len : ℕ = length (format_4 (segments codes)) in
-    if nat_lt 65535 len then Some len else None
+    if nat_lt CHARACTER_MAP_BYTES len then Some len else None
 
 -- the length is too large, unless memory ran out
 abbrev pub RefusesCmap : CmapError → Option ℕ → Type 0

@@ -1,5 +1,6 @@
 ghost use Rattle.std.specs.Prelude.{◌≡◌, ◌+◌, ◌<◌, ◌≤◌, [], ◌∷◌, ◌++◌, length, IfOk, OnOk};
 ghost use Rattle.std.specs.List.{All};
+ghost use Rattle.refusal_codes.specs.declared.limits.TheConstants.{CHARACTER_MAP_BYTES};
 ghost use Rattle.table_bytes.specs.DataTypes.{uint16, uint32};
 ghost use Rattle.cmap_writer.specs.Cmap as spec;
 
@@ -9,11 +10,12 @@ use crate::runs::{Run, longest_runs, short_codes};
 use crate::segments::{Segment, format_4_length, push_format_4, segments_of};
 use font_ir::GlyphOrder;
 use refusal_codes::NoMemory;
+use refusal_codes::limits::CHARACTER_MAP_BYTES;
 use std::alloc::Global;
 use table_bytes::{push_uint16, push_uint32};
 
 /// The most bytes that a subtable of format 4 can say that it has.
-const LONGEST_SUBTABLE: u64 = 65535;
+const LONGEST_SUBTABLE: u64 = CHARACTER_MAP_BYTES;
 
 /// The platform of the encodings: Windows.
 const PLATFORM: u16 = 3;
@@ -108,7 +110,7 @@ fn short_table(alloc: Global, segments: &[Segment]) -> Result<Vec<u8>, NoMemory>
 /// Appends the header and the encoding records of two subtables, of which the first has so many
 /// bytes.
 fn push_two_records(table: &mut Vec<u8>, length: u32) -> Result<(), NoMemory>
-    requires { length ≤ 65535 }
+    requires { length ≤ CHARACTER_MAP_BYTES }
     ensures { OnOk result (table.new.items ≡ table.old.items ++ spec.two_records length) }
 {
     push_uint16(table, 0)?;

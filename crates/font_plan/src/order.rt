@@ -5,7 +5,7 @@ ghost use Rattle.std.specs.Prelude.{OnOk, IfSome, Some, is_some, slice_get, fals
 ghost use Rattle.std.specs.List.{IsDistinct};
 ghost use Rattle.std.specs.Option.{option_map};
 ghost use Rattle.std.specs.Cmp.Lexicographic.{pointwise};
-ghost use Rattle.refusal_codes.specs.declared.limits.TheConstants.{NAME_BYTES};
+ghost use Rattle.refusal_codes.specs.declared.limits.TheConstants.{GLYPHS, NAME_BYTES};
 ghost use Rattle.font_ir.specs.Glyphs.{gid_of};
 ghost use Rattle.glyphs_source.specs.IndexReading.{AreNamed};
 ghost use Rattle.font_plan.specs.Font.{Entry, is_other, others_from, notdef_from, order_in};
@@ -22,7 +22,7 @@ const NOTDEF: &[u8] = b".notdef";
 /// of the file.
 pub fn order_in(alloc: Global, index: &GlyphIndex) -> Result<GlyphOrder, NoMemory>
     requires few { length index.now < 2 ^ 32 }
-    requires glyphs { length (order_in index.now).names ≤ 65535 }
+    requires glyphs { length (order_in index.now).names ≤ GLYPHS }
     requires named { AreNamed index.now }
     ensures { IfOk result (λ order. order ≡ order_in index.now) }
 {
@@ -53,7 +53,7 @@ pub fn notdef_number(index: &GlyphIndex) -> Option<u32>
 /// Adds the exported glyphs other than `.notdef`.
 fn push_others(alloc: Global, index: &GlyphIndex, order: &mut GlyphOrder) -> Result<(), NoMemory>
     requires few { length index.now < 2 ^ 32 }
-    requires glyphs { length order.old.names + length (others_from 0 index.now) ≤ 65535 }
+    requires glyphs { length order.old.names + length (others_from 0 index.now) ≤ GLYPHS }
     requires different { IsDistinct (pointwise nat_eq)
         (order.old.names ++ map (λ glyph. glyph.1.0) (others_from 0 index.now)) }
     requires named { AreNamed index.now }
@@ -78,7 +78,7 @@ fn push_glyph(
     name: &[u8],
     order: &mut GlyphOrder,
 ) -> Result<(), NoMemory>
-    requires room { length order.old.names < 65535 }
+    requires room { length order.old.names < GLYPHS }
     requires short { length name.now ≤ NAME_BYTES }
     requires new { is_some (gid_of order.old.names name.now) ≡ false }
     ensures numbers { OnOk result (order.new.numbers ≡ order.old.numbers ++ number ∷ []) }

@@ -2,6 +2,7 @@
 
 ghost use Rattle.std.specs.Prelude.{◌≡◌, ◌≤◌, ◌++◌, ◌∷◌, [], length, map, false, codes, IfOk, OnOk};
 ghost use Rattle.std.specs.List.{All};
+ghost use Rattle.refusal_codes.specs.declared.limits.TheConstants.{TABLES};
 ghost use Rattle.refusal_codes.specs.Gives.{Compiles};
 ghost use Rattle.glyphs_source.specs.HeaderReading.{IsReadHeader};
 ghost use Rattle.glyf_writer.specs.GlyphData.{simple_data};
@@ -158,7 +159,7 @@ fn table(alloc: Global, tag: [u8; 4], bytes: Vec<u8>) -> Result<(Tag, Arc<Vec<u8
 
 /// The file of these tables.
 fn file_of(alloc: Global, tables: &[(Tag, Arc<Vec<u8>>)]) -> Result<Vec<u8>, CompileError>
-    requires count { length tables.now ≤ 4095 }
+    requires count { length tables.now ≤ TABLES }
     requires tags { TagsRise (assembled.tables_of tables.now) }
     requires head { HasHead (assembled.tables_of tables.now) }
     ensures { Compiles (λ font. font.items) result (filed (assembled.tables_of tables.now)) }

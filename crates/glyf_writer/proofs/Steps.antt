@@ -8,6 +8,7 @@ use Rattle.std.proofs.lemmas.List.{at_drop_more, length-map}
 use Rattle.std.proofs.lemmas.Bool.Decides.{nat_tests}
 use Rattle.std.proofs.lemmas.Int.{ints}
 use Rattle.std.proofs.lemmas.List.Sums.{sum_by-cons}
+use Rattle.refusal_codes.specs.declared.limits.TheConstants.{TABLE_BYTES}
 use Rattle.font_ir.specs.FlatGlyphs.{IsSmall}
 use Rattle.font_ir.specs.declared.outline.StoredPoint.{StoredPoint}
 use Rattle.glyf_writer.specs.declared.outline.Step.{Step}
@@ -135,22 +136,22 @@ pub length_loca : (parts : List (List ℕ)) → length (loca_bytes parts) ≡ 4 
 length_loca parts = omega (arith, length_flat4 (offsets parts), length_offsets parts)
 
 pub loca_over : (parts : List (List ℕ)) (n m : ℕ)
-    → n ≡ min (length (concat parts)) 18446744073709551615 → n ≤ 4294967295
-    → m ≡ min (4 * (length parts + 1)) 18446744073709551615 → 4294967295 < m
+    → n ≡ min (length (concat parts)) 18446744073709551615 → n ≤ TABLE_BYTES
+    → m ≡ min (4 * (length parts + 1)) 18446744073709551615 → TABLE_BYTES < m
     → too_large parts ≡ Some m
 loca_over parts n m e few f many =
-    let short : nat_lt 4294967295 (length (concat parts)) ≡ false = grind (arith, nat_tests) in
+    let short : nat_lt TABLE_BYTES (length (concat parts)) ≡ false = grind (arith, nat_tests) in
     ap (λ b. cond b (over_limit (length (concat parts))) (over_limit (length (loca_bytes parts))))
     short
     ∙ is_over (length (loca_bytes parts)) m
     (f ∙ ap (λ k. min k 18446744073709551615) (sym (length_loca parts))) many
 
 pub none_over : (parts : List (List ℕ)) (n m : ℕ)
-    → n ≡ min (length (concat parts)) 18446744073709551615 → n ≤ 4294967295
-    → m ≡ min (4 * (length parts + 1)) 18446744073709551615 → m ≤ 4294967295
+    → n ≡ min (length (concat parts)) 18446744073709551615 → n ≤ TABLE_BYTES
+    → m ≡ min (4 * (length parts + 1)) 18446744073709551615 → m ≤ TABLE_BYTES
     → too_large parts ≡ None
 none_over parts n m e few f less =
-    let short : nat_lt 4294967295 (length (concat parts)) ≡ false = grind (arith, nat_tests) in
+    let short : nat_lt TABLE_BYTES (length (concat parts)) ≡ false = grind (arith, nat_tests) in
     ap (λ b. cond b (over_limit (length (concat parts))) (over_limit (length (loca_bytes parts))))
     short
     ∙ is_within (length (loca_bytes parts)) m

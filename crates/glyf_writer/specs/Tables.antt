@@ -2,6 +2,7 @@
 -- numbers. "loca" is in its long format.
 use Rattle.std.specs.Prelude.{ℕ, ◌+◌, List, [], ◌∷◌, map, length, Option, nat_lt, if◌then◌else◌}
 use Rattle.std.specs.List.{concat, flat_map}
+use Rattle.refusal_codes.specs.declared.limits.TheConstants.{TABLE_BYTES}
 use Rattle.table_bytes.specs.DataTypes.{uint32}
 use Rattle.table_bytes.specs.Tables.{over_limit}
 
@@ -21,5 +22,5 @@ loca_bytes parts = flat_map uint32 (offsets parts)
 -- the length of "glyf" where that is too large, or else of "loca" where that is
 abbrev pub too_large : List (List ℕ) → Option ℕ
 too_large parts =
-    if nat_lt 4294967295 (length (glyf_bytes parts)) then over_limit (length (glyf_bytes parts))
+    if nat_lt TABLE_BYTES (length (glyf_bytes parts)) then over_limit (length (glyf_bytes parts))
     else over_limit (length (loca_bytes parts))

@@ -1,5 +1,6 @@
 ghost use Rattle.std.specs.Prelude.{◌≡◌, ◌<◌, ◌≤◌, ◌++◌, pos, length, map, slice_index_or, OnOk};
 ghost use Rattle.std.specs.List.{All, flat_map};
+ghost use Rattle.refusal_codes.specs.declared.limits.TheConstants.{POINTS};
 ghost use Rattle.font_ir.specs.FlatGlyphs.{point_count};
 ghost use Rattle.table_bytes.specs.DataTypes.{uint16, int16, padded};
 ghost use Rattle.glyf_writer.specs.Outlines.{end_points};
@@ -26,7 +27,7 @@ pub fn push_bounds(bytes: &mut Vec<u8>, bounds: [i16; 4]) -> Result<(), NoMemory
 
 /// Writes the number of each contour's last point.
 pub fn push_end_points(bytes: &mut Vec<u8>, contours: &[Contour]) -> Result<(), NoMemory>
-    requires few { point_count contours.now ≤ 8000 }
+    requires few { point_count contours.now ≤ POINTS }
     requires none_empty { All (λ contour. 0 < length contour.points) contours.now }
     ensures { OnOk result (bytes.new.items
         ≡ bytes.old.items ++ flat_map uint16

@@ -1,5 +1,6 @@
 ghost use Rattle.std.specs.Prelude.{◌≡◌, ◌<◌, ◌≤◌, [], length, Some, IfOk, OnOk};
 ghost use Rattle.std.specs.List.{All};
+ghost use Rattle.refusal_codes.specs.declared.limits.TheConstants.{POINTS};
 ghost use Rattle.font_ir.specs.FlatGlyphs.{IsFlatGlyph, point_count};
 ghost use Rattle.font_ir.specs.Outlines.{outline_at, stored_contours, stored_points, bounds_of};
 ghost use Rattle.glyf_writer.specs.Outlines.{AreSmall};
@@ -64,7 +65,7 @@ fn push_glyph(
     requires points { points.now ≡ stored_points contours.now }
     requires bounds { bounds_of points.now ≡ Some bounds }
     requires small { AreSmall points.now }
-    requires few { point_count contours.now ≤ 8000 }
+    requires few { point_count contours.now ≤ POINTS }
     requires none_empty { All (λ contour. 0 < length contour.points) contours.now }
     requires empty { bytes.old.items ≡ [] }
     ensures { OnOk result (bytes.new.items
@@ -84,7 +85,7 @@ fn push_glyph(
 
 /// How many contours there are, of at most 8,000 points.
 fn count_of(contours: &[Contour]) -> u16
-    requires few { point_count contours.now ≤ 8000 }
+    requires few { point_count contours.now ≤ POINTS }
     requires none_empty { All (λ contour. 0 < length contour.points) contours.now }
     ensures { result ≡ length contours.now }
 {

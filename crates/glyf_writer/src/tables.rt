@@ -1,15 +1,14 @@
 ghost use Rattle.std.specs.Prelude.{◌≡◌, ◌≤◌, ◌*◌, ◌+◌, ℕ, List, length, map, min, IfOk};
 ghost use Rattle.std.specs.List.{concat};
+ghost use Rattle.refusal_codes.specs.declared.limits.TheConstants.{TABLE_BYTES};
 ghost use Rattle.table_bytes.specs.Tables.{Builds};
 ghost use Rattle.glyf_writer.specs.Tables.{glyf_bytes, loca_bytes, too_large};
 
 use refusal_codes::NoMemory;
+use refusal_codes::limits::TABLE_BYTES;
 use std::alloc::Global;
 use std::sync::Arc;
 use table_bytes::{TableError, push_uint32};
-
-/// The greatest length that four bytes can say.
-const LONGEST_TABLE: u64 = 4_294_967_295;
 
 /// The tables "glyf" and "loca" (OpenType 1.9) of each glyph's data, in the order of the glyph
 /// numbers.
@@ -30,11 +29,11 @@ pub fn glyf_loca(alloc: Global, parts: &[Arc<Vec<u8>>]) -> Result<(Vec<u8>, Vec<
         ) }
 {
     let glyf_length = total_length(parts);
-    if glyf_length > LONGEST_TABLE {
+    if glyf_length > TABLE_BYTES {
         return Err(TableError::TooLarge(glyf_length));
     }
     let loca_length = (parts.len() as u64).saturating_add(1).saturating_mul(4);
-    if loca_length > LONGEST_TABLE {
+    if loca_length > TABLE_BYTES {
         return Err(TableError::TooLarge(loca_length));
     }
     Ok(short_tables(alloc, parts)?)
@@ -54,8 +53,8 @@ fn total_length(parts: &[Arc<Vec<u8>>]) -> u64
 
 /// The two tables, where they aren't too large.
 fn short_tables(alloc: Global, parts: &[Arc<Vec<u8>>]) -> Result<(Vec<u8>, Vec<u8>), NoMemory>
-    requires glyf { length (concat (map (λ part. part.value.items) parts.now)) ≤ 4294967295 }
-    requires loca { 4 * (length parts.now + 1) ≤ 4294967295 }
+    requires glyf { length (concat (map (λ part. part.value.items) parts.now)) ≤ TABLE_BYTES }
+    requires loca { 4 * (length parts.now + 1) ≤ TABLE_BYTES }
     ensures glyf { IfOk result (λ tables. tables.0.items
         ≡ glyf_bytes (map (λ part. part.value.items) parts.now)) }
     ensures loca { IfOk result (λ tables. tables.1.items
@@ -66,7 +65,7 @@ fn short_tables(alloc: Global, parts: &[Arc<Vec<u8>>]) -> Result<(Vec<u8>, Vec<u
 
 /// The parts, one after another.
 fn joined(alloc: Global, parts: &[Arc<Vec<u8>>]) -> Result<Vec<u8>, NoMemory>
-    requires { length (concat (map (λ part. part.value.items) parts.now)) ≤ 4294967295 }
+    requires { length (concat (map (λ part. part.value.items) parts.now)) ≤ TABLE_BYTES }
     ensures { IfOk result (λ glyf. glyf.items
         ≡ glyf_bytes (map (λ part. part.value.items) parts.now)) }
 {
@@ -79,8 +78,8 @@ fn joined(alloc: Global, parts: &[Arc<Vec<u8>>]) -> Result<Vec<u8>, NoMemory>
 
 /// Where each part begins among the parts, and last where the last one ends.
 fn loca_of(alloc: Global, parts: &[Arc<Vec<u8>>]) -> Result<Vec<u8>, NoMemory>
-    requires glyf { length (concat (map (λ part. part.value.items) parts.now)) ≤ 4294967295 }
-    requires loca { 4 * (length parts.now + 1) ≤ 4294967295 }
+    requires glyf { length (concat (map (λ part. part.value.items) parts.now)) ≤ TABLE_BYTES }
+    requires loca { 4 * (length parts.now + 1) ≤ TABLE_BYTES }
     ensures { IfOk result (λ loca. loca.items
         ≡ loca_bytes (map (λ part. part.value.items) parts.now)) }
 {

@@ -4,6 +4,7 @@ use Rattle.std.specs.Prelude.{◌≡◌, ℕ, ◌+◌, ◌*◌, ◌/◌, ◌≤�
 use Rattle.std.specs.Prelude.{map, slice_index_or, slice_get, Option, None, Some}
 use Rattle.std.specs.Int.{w16, saturate_signed}
 use Rattle.std.specs.Option.{option_map_or}
+use Rattle.refusal_codes.specs.declared.limits.TheConstants.{GLYPHS}
 use Rattle.table_bytes.specs.DataTypes.{uint16, uint32, int16, long_date_time}
 use Rattle.font_ir.specs.declared.header.Header.{Header}
 use Rattle.font_ir.specs.declared.header.Master.{Master}
@@ -128,5 +129,5 @@ hmtx_table measures = metric_records measures.advances measures.bounds
 
 -- what measuring answers: at most 65,535 advances, and bounds for each
 pub record AreMeasures (measures : Measures) : Type 0 where
-  pub few : length measures.advances ≤ 65535
+  pub few : length measures.advances ≤ GLYPHS
   pub as_many_bounds : length measures.bounds ≡ length measures.advances

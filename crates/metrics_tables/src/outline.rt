@@ -1,4 +1,5 @@
 ghost use Rattle.std.specs.Prelude.{◌≡◌, ◌≤◌, length, unsigned_abs};
+ghost use Rattle.refusal_codes.specs.declared.limits.TheConstants.{POINTS};
 ghost use Rattle.font_ir.specs.FlatGlyphs.{point_count as point_count_of};
 ghost use Rattle.font_ir.specs.Outlines.{stored_points, contours_at, points_at, bounds_of};
 ghost use Rattle.metrics_tables.specs.Measuring.{width_at, IsMeasurable};
@@ -7,7 +8,7 @@ use font_ir::{Contour, FlatGlyph, bounds_of};
 
 /// How many points an outline has.
 fn point_count(contours: &[Contour]) -> u16
-    requires { point_count_of contours.now ≤ 8000 }
+    requires { point_count_of contours.now ≤ POINTS }
     ensures { result ≡ length (stored_points contours.now) }
 {
     let mut count = 0;

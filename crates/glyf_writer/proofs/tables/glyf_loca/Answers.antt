@@ -4,8 +4,8 @@ use Rattle.std.proofs.lemmas.Result.{err_from_is_err_and}
 use Rattle.glyf_writer.proofs.Steps.{loca_over, none_over}
 use Rattle.glyf_writer.proofs.tables.glyf_loca.Goals as goal
 
-pub returns-then-loca_length-gt-LONGEST_TABLE : goal.returns-then-loca_length-gt-LONGEST_TABLE
-returns-then-loca_length-gt-LONGEST_TABLE c =
+pub returns-then-loca_length-gt-TABLE_BYTES : goal.returns-then-loca_length-gt-TABLE_BYTES
+returns-then-loca_length-gt-TABLE_BYTES c =
     let parts = map (λ part. part.value.items) c.args.parts.now in
     loca_over parts _ _ c.total_length-glyf_length.ensures (omega arith)
     (omega (
@@ -14,7 +14,7 @@ returns-then-loca_length-gt-LONGEST_TABLE c =
       c.saturating_add.ensures,
       length-map
           c.args.parts.now (λ part. part.value.items),
-    )) c.if-loca_length-gt-LONGEST_TABLE.true
+    )) c.if-loca_length-gt-TABLE_BYTES.true
 
 pub returns-in_err-short_tables : goal.returns-in_err-short_tables
 returns-in_err-short_tables c =
