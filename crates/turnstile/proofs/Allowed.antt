@@ -210,6 +210,8 @@ module _ {B E T : Type 0} (entries : B → List (ℕ × E)) (root : B → T) whe
               (gives_back entries root passes origin s r id t stored m value (at ∙ ap some is) list
               same_root is_next),
           (
+            t,
+            ap (λ (v : V). v.stage) is,
             ap (λ (v : V). let w : V = record { stage = Away; members = v.members } in w) (sym is),
             refl,
           ),

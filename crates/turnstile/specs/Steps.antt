@@ -63,9 +63,12 @@ module _ {B E T : Type 0} where
       → me.0 ≡ seat_of (Served ticket) m
       → (me'.0 ≡ seat_of (Noted ticket) (after_adding list added m)) × (me'.1 ≡ me.1)
 
-  -- the slot is given back, and the ticket with it
+  -- the slot is given back, and the ticket with it, by a seat that has stored the list's length
   abbrev pub gave : Step (Option B) → Sat B E T → ℕ → Sat B E T → Type 0
-  gave st me stored me' = (me'.0 ≡ record { stage = Away; members = me.0.members })
+  gave st me stored me' =
+      (ticket : ℕ)
+      × (me.0.stage ≡ Noted ticket)
+      × (me'.0 ≡ record { stage = Away; members = me.0.members })
       × (me'.1 ≡ rest me.1)
 
   -- the pass has taken a turn: it has the value, the slot is empty, and the rest as where the slot

@@ -37,8 +37,8 @@ pub struct Knowledge<E, T> {
 
 pub(crate) type Known<B> = Knowledge<<B as Counted>::Entry, <B as Counted>::Root>;
 
-pub(crate) type Place<B> = Seat<Option<B>, Known<B>>;
+pub(crate) type PassSeat<B> = Seat<Option<B>, Known<B>>;
 
 pub(crate) type Common<B> = Shared<Option<B>, Known<B>, Beginning<B>, Turns<B>>;
 
-pub(crate) type Gate<B> = Table<Option<B>, Known<B>, Beginning<B>, Turns<B>, Global>;
+pub(crate) type TurnTable<B> = Table<Option<B>, Known<B>, Beginning<B>, Turns<B>, Global>;

@@ -5,7 +5,7 @@ ghost use Rattle.turnstile.specs.Steps.{seat_of};
 ghost use Rattle.turnstile.specs.Passes.{new_pass, member_of};
 
 use crate::counted::Counted;
-use crate::knowledge::Place;
+use crate::knowledge::PassSeat;
 use crate::rule::Beginning;
 use std::marker::Model;
 use std::snapshot::Snapshot;
@@ -17,7 +17,7 @@ use std::snapshot::Snapshot;
 pub struct Pass<B: Counted> {
     worker: u32,
     pub(crate) ticket: u64,
-    pub(crate) seat: Place<B>,
+    pub(crate) seat: PassSeat<B>,
     origin: Snapshot<Beginning<B>>,
 }
 
@@ -44,7 +44,7 @@ impl<B: Counted> Model for Pass<B> {
 
 impl<B: Counted> Pass<B> {
     /// The pass of a seat that was just cut off.
-    pub(crate) fn of(worker: u32, seat: Place<B>, about: &Beginning<B>) -> Pass<B>
+    pub(crate) fn of(worker: u32, seat: PassSeat<B>, about: &Beginning<B>) -> Pass<B>
         requires { seat.me ≡ (seat_of Away (newcomer (B.root about.now.value.value) worker), []) }
         ensures { result ≡ new_pass seat.table_id (B.root about.now.value.value) worker }
     {
@@ -57,7 +57,7 @@ impl<B: Counted> Pass<B> {
     }
 
     /// The seat of a pass that has no turn out.
-    pub(crate) fn into_seat(self) -> Place<B>
+    pub(crate) fn into_seat(self) -> PassSeat<B>
         requires { self.is_out ≡ false }
         ensures { (result.table_id ≡ self.table)
             × (result.me ≡ (seat_of Away (member_of self), [])) }

@@ -1,4 +1,4 @@
-//! The rule of the table, and what each kind of step tells.
+//! The rule of the table.
 use crate::counted::Counted;
 use crate::knowledge::Known;
 use atomic_table::TableRule;

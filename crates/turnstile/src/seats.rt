@@ -5,7 +5,7 @@ ghost use Rattle.turnstile.specs.Members.{everyone};
 ghost use Rattle.turnstile.specs.Passes.{new_passes, member_of};
 
 use crate::counted::Counted;
-use crate::knowledge::{Common, Place};
+use crate::knowledge::{Common, PassSeat};
 use crate::pass::Pass;
 use crate::plays::{Cut, Gather};
 use crate::rule::Beginning;
@@ -13,7 +13,7 @@ use crate::rule::Beginning;
 /// Makes the passes, in the order of their numbers, from the first seat. There is room for them.
 pub(crate) fn deal<B: Counted>(
     common: &Common<B>,
-    mut seat: Place<B>,
+    mut seat: PassSeat<B>,
     about: &Beginning<B>,
     all: &mut Vec<Pass<B>>,
 )
@@ -31,7 +31,7 @@ pub(crate) fn deal<B: Counted>(
 }
 
 /// Takes in the seats of all passes.
-pub(crate) fn gather<B: Counted>(common: &Common<B>, mut passes: Vec<Pass<B>>) -> Place<B>
+pub(crate) fn gather<B: Counted>(common: &Common<B>, mut passes: Vec<Pass<B>>) -> PassSeat<B>
     requires table { common.now.table_id.words ≡ 3 }
     requires some { 0 < vec_len passes }
     requires each { All (λ p. (p.table ≡ common.now.table_id) × (p.is_out ≡ false)) passes.items }

@@ -9,7 +9,7 @@ ghost use Rattle.turnstile.specs.Steps.{seat_of, after_adding, after_leaving, Ta
 ghost use Rattle.turnstile.specs.Steps.{MayLeave};
 
 use crate::counted::Counted;
-use crate::knowledge::{Common, Place};
+use crate::knowledge::{Common, PassSeat};
 use crate::plays::{Draw, Give, Leaving, Look, Note};
 use std::hint::spin_loop;
 use std::marker::Brand;
@@ -31,7 +31,7 @@ const VALUE: usize = 0;
 const LOOKS: u32 = 1000;
 
 /// Draws a ticket.
-fn draw<B: Counted>(common: &Common<B>, seat: &mut Place<B>) -> u64
+fn draw<B: Counted>(common: &Common<B>, seat: &mut PassSeat<B>) -> u64
     requires table { (seat.old.table_id ≡ common.now.table_id) × (common.now.table_id.words ≡ 3) }
     requires away { (m : Member B.Entry B.Root) × (seat.old.me ≡ (seat_of Away m, [])) }
     ensures table { seat.new.table_id ≡ seat.old.table_id }
@@ -42,7 +42,7 @@ fn draw<B: Counted>(common: &Common<B>, seat: &mut Place<B>) -> u64
 }
 
 /// Waits until the ticket is served, and takes the slot.
-fn wait_for<B: Counted, R: Wait>(rt: &R, common: &Common<B>, seat: &mut Place<B>, ticket: u64)
+fn wait_for<B: Counted, R: Wait>(rt: &R, common: &Common<B>, seat: &mut PassSeat<B>, ticket: u64)
     requires table { (seat.old.table_id ≡ common.now.table_id) × (common.now.table_id.words ≡ 3) }
     requires waiting { (at : ℕ) × (m : Member B.Entry B.Root) × (ticket ≡ at % 2 ^ 64)
         × (seat.old.me ≡ (seat_of (Waiting at) m, [])) }
@@ -70,7 +70,7 @@ fn wait_for<B: Counted, R: Wait>(rt: &R, common: &Common<B>, seat: &mut Place<B>
 pub(crate) fn take_turn<B: Counted, R: Wait>(
     rt: &R,
     common: &Common<B>,
-    seat: &mut Place<B>,
+    seat: &mut PassSeat<B>,
 ) -> (u64, B)
     requires table { (seat.old.table_id ≡ common.now.table_id) × (common.now.table_id.words ≡ 3) }
     requires away { (m : Member B.Entry B.Root) × (seat.old.me ≡ (seat_of Away m, [])) }
@@ -85,7 +85,7 @@ pub(crate) fn take_turn<B: Counted, R: Wait>(
 }
 
 /// Stores how many entries the value has.
-fn note<B: Counted, J: Leaving<B::Entry>>(common: &Common<B>, seat: &mut Place<B>, value: &B)
+fn note<B: Counted, J: Leaving<B::Entry>>(common: &Common<B>, seat: &mut PassSeat<B>, value: &B)
     requires table { (seat.old.table_id ≡ common.now.table_id) × (common.now.table_id.words ≡ 3) }
     requires list { J.list ≡ B.entries value.now }
     requires served { (at : ℕ) × (m : Member B.Entry B.Root)
@@ -96,11 +96,17 @@ fn note<B: Counted, J: Leaving<B::Entry>>(common: &Common<B>, seat: &mut Place<B
         → (seat.new.me.0 ≡ seat_of (Noted at) (after_adding J.list J.added m))
         × (seat.new.me.1 ≡ seat.old.me.1) }
 {
-    common.store::<Note<J>>(seat, LENGTH, value.count());
+    let count = value.count();
+    common.store::<Note<J>>(seat, LENGTH, count);
 }
 
 /// Stores how many entries the value has, puts it back, and gives the slot and the ticket back.
-pub(crate) fn give_back<B: Counted>(common: &Common<B>, seat: &mut Place<B>, ticket: u64, value: B)
+pub(crate) fn give_back<B: Counted>(
+    common: &Common<B>,
+    seat: &mut PassSeat<B>,
+    ticket: u64,
+    value: B,
+)
     requires table { (seat.old.table_id ≡ common.now.table_id) × (common.now.table_id.words ≡ 3) }
     requires served { (m : Member B.Entry B.Root)
         × MayLeave B.entries B.root m ticket value seat.old.me }

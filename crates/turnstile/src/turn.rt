@@ -1,4 +1,4 @@
-/// A turn: the value, while a pass has it. It can't be dropped: `leave` takes it back.
+/// A turn: the value, while a pass has it. It isn't dropped by itself: `leave` takes it back.
 pub struct Turn<B> {
     pub value: B,
 }

@@ -5,7 +5,7 @@ ghost use Rattle.turnstile.specs.Entries.{BeginsWith, AddsAtMostOne, entries_of}
 ghost use Rattle.turnstile.specs.Passes.{new_passes, entered, has_left, IsHistoryOf};
 
 use crate::counted::Counted;
-use crate::knowledge::{Gate, Place};
+use crate::knowledge::{PassSeat, TurnTable};
 use crate::pass::Pass;
 use crate::rule::Beginning;
 use crate::seats::{deal, gather};
@@ -22,7 +22,7 @@ use std::sync::Wait;
 /// many passes it has.
 #[derive(Drop)]
 pub struct Turnstile<B: Counted> {
-    table: Gate<B>,
+    table: TurnTable<B>,
     passes: u32,
 }
 
@@ -70,7 +70,7 @@ fn open_table<B: Counted + Drop>(
     alloc: Global,
     slots: Vec<Option<B>>,
     about: &Beginning<B>,
-) -> Result<(Gate<B>, Place<B>), NoMemory>
+) -> Result<(TurnTable<B>, PassSeat<B>), NoMemory>
     requires slots { slots.items ≡ Some about.now.value.value ∷ [] }
     requires empty { B.entries about.now.value.value ≡ [] }
     requires few { about.now.passes < 2 ^ 32 }
@@ -87,10 +87,14 @@ fn open_table<B: Counted + Drop>(
 
 impl<B: Counted> Turnstile<B> {
     /// Ends the turnstile: takes all its passes, none of which may have a turn out, and gives the
-    /// value back. It takes no memory. The other answer, which is free for want of memory, would
-    /// hand back what was handed in.
-    pub fn close(self, passes: Vec<Pass<B>>) -> Result<B, (Turnstile<B>, Vec<Pass<B>>)>
-        requires mine { All (λ p. (p.table ≡ self.table) × (p.is_out ≡ false)) passes.items }
+    /// value back. This body takes no memory. The other answer, which is free for want of memory,
+    /// would hand back what was handed in.
+    pub fn close(
+        self,
+        _alloc: Global,
+        passes: Vec<Pass<B>>,
+    ) -> Result<B, (Turnstile<B>, Vec<Pass<B>>)>
+        requires of_this { All (λ p. (p.table ≡ self.table) × (p.is_out ≡ false)) passes.items }
         requires all { length passes.items ≡ self.passes }
         ensures history { IfOk result (λ b. All (λ p. IsHistoryOf (B.entries b) (B.root b) p)
             passes.items) }

@@ -143,13 +143,14 @@ pub fn written_by<R: Threads + Wait + Sync>(
     let numbers = Numbers::with_room(alloc, TITLE, 0)?;
     let (turnstile, mut passes) = Turnstile::new(alloc, numbers, workers)?;
     all_take_turns(rt, &turnstile, passes.as_mut_slice(), turns);
-    let list = close_list(turnstile, passes)?;
+    let list = close_list(alloc, turnstile, passes)?;
     Ok(list)
 }
 
 /// Ends a turnstile whose workers are done: the list begins with what each pass saw, and has of its
 /// number just what it wrote down.
 pub fn close_list(
+    alloc: Global,
     turnstile: Turnstile<Numbers>,
     passes: Vec<Pass<Numbers>>,
 ) -> Result<Numbers, NoMemory>
@@ -159,7 +160,7 @@ pub fn close_list(
     ensures nobody_else { IfOk result (λ n. (k : ℕ) → turnstile.passes ≤ k
         → entries_of k n.entries.items ≡ []) }
 {
-    match turnstile.close(passes) {
+    match turnstile.close(alloc, passes) {
         Ok(closed) => Ok(closed),
         Err(_) => Err(NoMemory),
     }

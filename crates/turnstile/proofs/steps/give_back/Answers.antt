@@ -73,8 +73,8 @@ returns-then-peek-next-clause-left g c m h =
     let seen = ap (λ v. seen_of v.members) h.view in
     let kept = ap (λ me. me.0) put ∙ (noted.0
     ∙ ap (λ xs. seat_of (Noted h.at) (after_adding list (drop (length xs) list) m)) seen) in
-    let view = gave.0 ∙ ap (λ v. away_of v) kept in
-    let slots = gave.1 ∙ (ap (λ me. rest me.1) put ∙ ap (λ cs. rest cs) slot) in
+    let view = gave.2 ∙ ap (λ v. away_of v) kept in
+    let slots = gave.3 ∙ (ap (λ me. rest me.1) put ∙ ap (λ cs. rest cs) slot) in
     λ i. (view i, slots i)
 
 pub returns-else-peek-next-clause-left : goal.returns-else-peek-next-clause-left
@@ -87,6 +87,6 @@ returns-else-peek-next-clause-left g c m h =
     let seen = ap (λ v. seen_of v.members) h.view in
     let kept = ap (λ me. me.0) put ∙ (noted.0
     ∙ ap (λ xs. seat_of (Noted h.at) (after_adding list (drop (length xs) list) m)) seen) in
-    let view = gave.0 ∙ ap (λ v. away_of v) kept in
-    let slots = gave.1 ∙ (ap (λ me. rest me.1) put ∙ ap (λ cs. rest cs) slot) in
+    let view = gave.2 ∙ ap (λ v. away_of v) kept in
+    let slots = gave.3 ∙ (ap (λ me. rest me.1) put ∙ ap (λ cs. rest cs) slot) in
     λ i. (view i, slots i)
