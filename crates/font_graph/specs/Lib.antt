@@ -1,0 +1,5 @@
+pub mod Kinds
+pub mod Parts
+pub mod Graph
+-- lemmas that the proofs of other crates need
+pub mod Solved
