@@ -1,288 +1,35 @@
 -- The plan of a graph is solved: it is what its ids tell, so it keeps the laws of plans, and its
--- limit
--- is this solution. For plans of crates above. fontc's own.
+-- limit is this solution. For the plans of crates above. fontc's own.
 use Rattle.std.proofs.Common.{◌≡◌, ℕ, ◌<◌, ◌≤◌, Bool, true, false, cond, ◌⊎◌, inl, inr, List, []}
-use Rattle.std.proofs.Common.{◌∷◌, ◌++◌, map, Option, Some, None, Result, Ok, Err, refl, sym, ap}
+use Rattle.std.proofs.Common.{◌∷◌, ◌++◌, map, Some, None, refl, sym, ap}
 use Rattle.std.proofs.Common.{◌∙◌, subst, arith}
 use Rattle.std.specs.Prelude.{Contains, ◌↔◌, IsTrue, option_and_then}
 use Rattle.std.proofs.lemmas.Bool.{false≢true, cases_Bool}
-use Rattle.refusal_codes.specs.declared.refusal.Refusal.{Refusal}
 use Rattle.access_context.specs.declared.access.Spec.{Spec}
 use Rattle.access_context.specs.Plain.{Plain, Done, PlainOutcome, is_done, done_value}
-use Rattle.access_context.specs.Read.{read_of, value_read, all_done}
+use Rattle.access_context.specs.Read.{read_of, value_read}
 use Rattle.font_ir.specs.declared.tag.Tag.{Tag}
-use Rattle.job_graph.specs.Rounds.{blocked}
 use Rattle.job_graph.specs.Members.{In, In-append_left, In-append_right, In-append_cases}
 use Rattle.job_graph.specs.Members.{In-from_Contains, Contains-from_In, list_all-In}
-use Rattle.job_graph.specs.Solutions.{solved_outcome, Founded, opened, added, IsMade, IsSolution}
+use Rattle.job_graph.specs.Solutions.{Founded, opened, added, IsMade, IsSolution}
 use Rattle.font_graph.specs.Parts.{Parts}
-use Rattle.font_graph.specs.Graph.{Item, ATree, AHeader, AnIndex, ARaw, AFlat, AnOrder, AMeasure}
-use Rattle.font_graph.specs.Graph.{Bytes, as_index, spec_with, on, settle}
+use Rattle.font_graph.specs.Graph.{Item, AnIndex, ARaw, AFlat, AnOrder}
+use Rattle.font_graph.specs.Graph.{as_index, spec_with}
 use Rattle.font_graph.specs.Kinds.{stratum_of, awaited_by}
-use Rattle.font_graph.specs.Graph.{none, after_index, after_order, outcome, settled, index_value}
+use Rattle.font_graph.specs.Graph.{none, after_index, after_order, index_value}
 use Rattle.font_graph.specs.Graph.{numbers_in, numbers, raw_value, flat_value, order_value}
-use Rattle.font_graph.specs.Graph.{value_of, spec_of, There, plan, read_as, read_all, reads_with}
-use Rattle.font_graph.specs.Graph.{as_bytes, as_measures, header_value, simple_value}
-use Rattle.font_graph.specs.Graph.{advances_value, flat_items, tree_value}
+use Rattle.font_graph.specs.Graph.{value_of, spec_of, There, plan, read_as, reads_with}
+use Rattle.font_graph.specs.Graph.{header_value}
+use Rattle.font_graph.specs.Graph.{flat_items, tree_value}
 use Rattle.font_graph.specs.declared.ids.JobId.{JobId}
 use Rattle.font_graph.specs.declared.ids.JobId.TheVariants as job
-
--- what stands in a list that was made item by item
-map-In : {X Y : Type 0} (f : X → Y) (xs : List X) (x : X) → In x xs → In (f x) (map f xs)
-map-In f [] x i = absurd i
-map-In f (y ∷ xs) x i = elim i [ inl e ↦ inl (ap f e) | inr j ↦ inr (map-In f xs x j) ]
-
-In-map : {X Y : Type 0} (f : X → Y) (xs : List X) (y : Y) → In y (map f xs)
-    → (x : X) × In x xs × (f x ≡ y)
-In-map f [] y i = absurd i
-In-map f (x ∷ xs) y i = elim i [
-  | inl e ↦ (x, inl refl, e)
-  | inr j ↦ let m = In-map f xs y j in (m.0, inr m.1, m.2)
-]
-
-map_twice : {X Y Z : Type 0} (f : X → Y) (g : Y → Z) (xs : List X)
-    → map g (map f xs) ≡ map (λ x. g (f x)) xs
-map_twice f g [] = refl
-map_twice f g (x ∷ xs) = ap (λ zs. g (f x) ∷ zs) (map_twice f g xs)
-
-none_awaited : (k : ℕ) → ◌≡◌ {A = Option ℕ} None (Some k) → ⊥
-none_awaited k e = cc
-
-awaited_is : (n k : ℕ) → ◌≡◌ {A = Option ℕ} (Some n) (Some k) → n ≡ k
-awaited_is n k e = cc
+use Rattle.font_graph.specs.Outcomes.{map-In, In-map, none_awaited, awaited_is}
+use Rattle.font_graph.specs.Outcomes.{reads_done, quiet, with_value, S, items, value, leaf_tree}
+use Rattle.font_graph.specs.Outcomes.{leaf_header, leaf_simple, leaf_advances, leaf_table}
+use Rattle.font_graph.specs.Outcomes.{leaf_font, makes_index, makes_raw, makes_flat, makes_order}
+use Rattle.font_graph.specs.Outcomes.{order_next, Makes, IsLeaf}
 
 module _ (p : Parts) (same : JobId → JobId → Bool) where
-  Outcome : Type 0
-  Outcome = PlainOutcome (Item p) JobId
-
-  -- ---- what comes of a job, by its parts
-
-  abbrev IsQuiet : PlainOutcome (Item p) JobId → Type 0
-  IsQuiet o = is_done o.value ≡ false → o.added ≡ []
-
-  quiet_settle : {A : Type 0} (item : A → Item p) (adds : A → List (Spec JobId))
-      (r : Result A Refusal) → IsQuiet (settle p same item adds r)
-  unfolding settle
-  quiet_settle item adds (Ok a) = λ e. absurd (false≢true (sym e))
-  quiet_settle item adds (Err r) = λ e. refl
-
-  quiet_on : {A : Type 0} (x : Option A) (f : A → PlainOutcome (Item p) JobId)
-      → ((a : A) → IsQuiet (f a)) → IsQuiet (on p same x f)
-  unfolding on
-  quiet_on None f q = λ e. refl
-  quiet_on (Some a) f q = q a
-
-  -- a job made this item and added these jobs, or there is no value
-  abbrev Makes : {A : Type 0} → (A → Item p) → (A → List (Spec JobId))
-      → PlainOutcome (Item p) JobId → Type 0
-  Makes {A = A} item adds o = ((a : A) × (o ≡ record { value = Done (item a); added = adds a }))
-      ⊎ ((o.added ≡ []) × (is_done o.value ≡ false))
-
-  makes_settle : {A : Type 0} (item : A → Item p) (adds : A → List (Spec JobId))
-      (r : Result A Refusal) → Makes item adds (settle p same item adds r)
-  unfolding settle
-  makes_settle item adds (Ok a) = inl (a, refl)
-  makes_settle item adds (Err r) = inr (refl, refl)
-
-  makes_on : {A B : Type 0} (item : A → Item p) (adds : A → List (Spec JobId)) (x : Option B)
-      (f : B → PlainOutcome (Item p) JobId) → ((b : B) → x ≡ Some b → Makes item adds (f b))
-      → Makes item adds (on p same x f)
-  unfolding on
-  makes_on item adds None f m = inr (refl, refl)
-  makes_on item adds (Some b) f m = m b refl
-
-  makes_if : {A : Type 0} (item : A → Item p) (adds : A → List (Spec JobId)) (b : Bool)
-      (o : PlainOutcome (Item p) JobId) → Makes item adds o
-      → Makes item adds (cond b o blocked)
-  makes_if item adds true o m = m
-  makes_if item adds false o m = inr (refl, refl)
-
-  -- what a job with a value read has a value
-  reads_done : (id : JobId) (reads : List (JobId × Plain (Item p)))
-      → is_done (settled p same id reads).value ≡ true → all_done reads ≡ true
-  reads_done id reads e =
-      elim (all_done reads) as (λ b. is_done (cond b (outcome p same id reads) blocked).value ≡ true
-      → b ≡ true) [
-        | true ↦ λ f. refl
-        | false ↦ λ f. absurd (false≢true f)
-      ] e
-
-  pub quiet : (id : JobId) (reads : List (JobId × Plain (Item p)))
-      → IsQuiet (outcome p same id reads)
-  quiet job.Tree reads = quiet_settle ATree (none p same) p.tree
-  quiet job.Header reads = quiet_on _ _ (λ tree. quiet_settle AHeader (none p same) (p.header tree))
-  quiet job.Index reads = quiet_on _ _ (λ tree. quiet_settle AnIndex _ (p.index tree))
-  quiet (job.Raw glyph) reads = quiet_on _ _ (λ tree. quiet_on _ _ (λ header. quiet_on _ _
-      (λ index. quiet_settle ARaw _ (p.raw tree header index glyph))))
-  quiet (job.Flat glyph) reads = quiet_on _ _ (λ raw. quiet_on _ _
-      (λ index. quiet_settle AFlat _ (p.flat raw index)))
-  quiet (job.Simple glyph) reads = quiet_on _ _ (λ header. quiet_on _ _
-      (λ flat. quiet_settle Bytes _ (p.simple header flat)))
-  quiet job.Order reads = quiet_on _ _ (λ header. quiet_on _ _ (λ index. quiet_on _ _
-      (λ flats. quiet_settle AnOrder _ (p.order header index flats))))
-  quiet job.Advances reads = quiet_on _ _ (λ header. quiet_on _ _ (λ index. quiet_on _ _
-      (λ order. quiet_on _ _ (λ flats. quiet_settle AMeasure _ (p.measures header order flats)))))
-  quiet (job.Table tag) reads = quiet_on _ _ (λ header. quiet_on _ _ (λ index. quiet_on _ _
-      (λ order. by_kind (p.is_of_outlines tag) header index order)))
-    where
-      by_kind : (b : Bool) (header : p.Header) (index : p.Index) (order : p.Order) → IsQuiet
-          (cond b
-          (on p same (read_all p same (as_bytes p) reads (map job.Simple (p.numbers index)))
-          (λ parts. settle p same Bytes (none p same)
-          (p.outline_table tag header order parts)))
-          (on p same (read_as p same (as_measures p) reads job.Advances)
-          (λ measures. settle p same Bytes (none p same)
-          (p.metrics_table tag header order measures))))
-      by_kind true header index order = quiet_on _ _
-          (λ parts. quiet_settle Bytes (none p same) (p.outline_table tag header order parts))
-      by_kind false header index order = quiet_on _ _
-          (λ measures. quiet_settle Bytes (none p same) (p.metrics_table tag header order measures))
-  quiet job.Font reads = quiet_on _ _ (λ tables. quiet_settle Bytes (none p same) (p.font tables))
-  quiet _ reads = λ e. refl
-
-  -- ---- values
-
-  abbrev with_value : JobId → JobId × Plain (Item p)
-  with_value id = (id, value_of p same id)
-
-  abbrev S : JobId → PlainOutcome (Item p) JobId
-  S id = solved_outcome same (plan p same) (spec_of p same) (There p same) (value_of p same) id
-
-  -- what a job reads
-  abbrev items : JobId → List (JobId × Plain (Item p))
-  items id = map with_value (reads_with p same (numbers p same) id)
-
-  pub value : (id : JobId) → (S id).value ≡ value_of p same id
-  value job.Tree = refl
-  value job.Header = refl
-  value job.Index = refl
-  value (job.Raw glyph) = refl
-  value (job.Flat glyph) = refl
-  value (job.Simple glyph) = refl
-  value job.Order = ap (λ items. (settled p same job.Order ((job.Header, header_value p same)
-      ∷ (job.Index, index_value p same) ∷ items)).value)
-      (map_twice job.Flat with_value (numbers p same))
-  value job.Advances = ap (λ items. (settled p same job.Advances ((job.Header, header_value p same)
-      ∷ (job.Index, index_value p same) ∷ (job.Order, order_value p same) ∷ items)).value)
-      (map_twice job.Flat with_value (numbers p same))
-  value (job.Table tag) = by_kind (p.is_of_outlines tag)
-    where
-      of : List (JobId × Plain (Item p)) → Plain (Item p)
-      of items = (settled p same (job.Table tag) ((job.Header, header_value p same)
-          ∷ (job.Index, index_value p same) ∷ (job.Order, order_value p same) ∷ items)).value
-
-      by_kind : (b : Bool)
-          → of (map with_value (cond b (map job.Simple (numbers p same)) (job.Advances ∷ [])))
-          ≡ of (cond b (map (λ glyph. (job.Simple glyph, simple_value p same glyph))
-          (numbers p same)) ((job.Advances, advances_value p same) ∷ []))
-      by_kind true = ap of (map_twice job.Simple with_value (numbers p same))
-      by_kind false = refl
-  value job.Font = ap (λ items. (settled p same job.Font items).value)
-      (map_twice job.Table with_value p.tags)
-  value _ = refl
-
-  -- ---- which jobs are added
-
-  abbrev IsLeaf : PlainOutcome (Item p) JobId → Type 0
-  IsLeaf o = o.added ≡ []
-
-  leaf_settle : {A : Type 0} (item : A → Item p) (r : Result A Refusal)
-      → IsLeaf (settle p same item (none p same) r)
-  unfolding settle
-  leaf_settle item (Ok a) = refl
-  leaf_settle item (Err r) = refl
-
-  leaf_on : {A : Type 0} (x : Option A) (f : A → PlainOutcome (Item p) JobId)
-      → ((a : A) → IsLeaf (f a)) → IsLeaf (on p same x f)
-  unfolding on
-  leaf_on None f l = refl
-  leaf_on (Some a) f l = l a
-
-  leaf_if : (b : Bool) (o : PlainOutcome (Item p) JobId) → IsLeaf o → IsLeaf (cond b o blocked)
-  leaf_if true o l = l
-  leaf_if false o l = refl
-
-  leaf_tree : (reads : List (JobId × Plain (Item p))) → IsLeaf (settled p same job.Tree reads)
-  leaf_tree reads = leaf_if (all_done reads) _ (leaf_settle ATree p.tree)
-
-  leaf_header : (reads : List (JobId × Plain (Item p))) → IsLeaf (settled p same job.Header reads)
-  leaf_header reads = leaf_if (all_done reads) _
-      (leaf_on _ _ (λ tree. leaf_settle AHeader (p.header tree)))
-
-  leaf_simple : (glyph : ℕ) (reads : List (JobId × Plain (Item p)))
-      → IsLeaf (settled p same (job.Simple glyph) reads)
-  leaf_simple glyph reads = leaf_if (all_done reads) _ (leaf_on _ _ (λ header.
-      leaf_on _ _ (λ flat. leaf_settle Bytes (p.simple header flat))))
-
-  leaf_advances : (reads : List (JobId × Plain (Item p)))
-      → IsLeaf (settled p same job.Advances reads)
-  leaf_advances reads = leaf_if (all_done reads) _ (leaf_on _ _ (λ header.
-      leaf_on _ _ (λ index. leaf_on _ _ (λ order. leaf_on _ _ (λ flats.
-      leaf_settle AMeasure (p.measures header order flats))))))
-
-  leaf_table : (tag : Tag) (reads : List (JobId × Plain (Item p)))
-      → IsLeaf (settled p same (job.Table tag) reads)
-  leaf_table tag reads = leaf_if (all_done reads) _ (leaf_on _ _ (λ header.
-      leaf_on _ _ (λ index. leaf_on _ _ (λ order. by_kind (p.is_of_outlines tag) header index
-      order))))
-    where
-      by_kind : (b : Bool) (header : p.Header) (index : p.Index) (order : p.Order) → IsLeaf
-          (cond b
-          (on p same (read_all p same (as_bytes p) reads (map job.Simple (p.numbers index)))
-          (λ parts. settle p same Bytes (none p same)
-          (p.outline_table tag header order parts)))
-          (on p same (read_as p same (as_measures p) reads job.Advances)
-          (λ measures. settle p same Bytes (none p same)
-          (p.metrics_table tag header order measures))))
-      by_kind true header index order = leaf_on _ _
-          (λ parts. leaf_settle Bytes (p.outline_table tag header order parts))
-      by_kind false header index order = leaf_on _ _
-          (λ measures. leaf_settle Bytes (p.metrics_table tag header order measures))
-
-  leaf_font : (reads : List (JobId × Plain (Item p))) → IsLeaf (settled p same job.Font reads)
-  leaf_font reads = leaf_if (all_done reads) _
-      (leaf_on _ _ (λ tables. leaf_settle Bytes (p.font tables)))
-
-  makes_index : (reads : List (JobId × Plain (Item p)))
-      → Makes AnIndex (λ index. after_index p same (p.numbers index))
-      (settled p same job.Index reads)
-  makes_index reads = makes_if AnIndex (λ index. after_index p same (p.numbers index))
-      (all_done reads) _ (makes_on AnIndex (λ index. after_index p same (p.numbers index)) _ _
-      (λ tree e. makes_settle AnIndex (λ index. after_index p same (p.numbers index))
-      (p.index tree)))
-
-  abbrev flat_next : {A : Type 0} → ℕ → A → List (Spec JobId)
-  flat_next glyph a = spec_with p same [] (job.Flat glyph) ∷ []
-
-  makes_raw : (glyph : ℕ) (reads : List (JobId × Plain (Item p)))
-      → Makes ARaw (flat_next glyph) (settled p same (job.Raw glyph) reads)
-  makes_raw glyph reads = makes_if ARaw (flat_next glyph) (all_done reads) _
-      (makes_on ARaw (flat_next glyph) _ _ (λ tree e. makes_on ARaw (flat_next glyph) _ _
-      (λ header f. makes_on ARaw (flat_next glyph) _ _
-      (λ index g. makes_settle ARaw (flat_next glyph) (p.raw tree header index glyph)))))
-
-  abbrev simple_next : {A : Type 0} → ℕ → A → List (Spec JobId)
-  simple_next glyph a = spec_with p same [] (job.Simple glyph) ∷ []
-
-  makes_flat : (glyph : ℕ) (reads : List (JobId × Plain (Item p)))
-      → Makes AFlat (simple_next glyph) (settled p same (job.Flat glyph) reads)
-  makes_flat glyph reads = makes_if AFlat (simple_next glyph) (all_done reads) _
-      (makes_on AFlat (simple_next glyph) _ _ (λ raw e. makes_on AFlat (simple_next glyph) _ _
-      (λ index f. makes_settle AFlat (simple_next glyph) (p.flat raw index))))
-
-  abbrev order_next : {A : Type 0} → List ℕ → A → List (Spec JobId)
-  order_next ns a = after_order p same ns
-
-  makes_order : (ns : List ℕ) (reads : List (JobId × Plain (Item p)))
-      → ((index : p.Index) → read_as p same (as_index p) reads job.Index ≡ Some index
-      → p.numbers index ≡ ns) → Makes AnOrder (order_next ns) (settled p same job.Order reads)
-  makes_order ns reads known = makes_if AnOrder (order_next ns) (all_done reads) _
-      (makes_on AnOrder (order_next ns) _ _ (λ header e. makes_on AnOrder (order_next ns) _ _
-      (λ index f. makes_on AnOrder (order_next ns) _ _ (λ flats g.
-      subst (λ ms. Makes AnOrder (order_next ms) (settle p same AnOrder
-      (order_next (p.numbers index)) (p.order header index flats))) (known index f)
-      (makes_settle AnOrder (order_next (p.numbers index)) (p.order header index flats))))))
-
   -- ---- what is there
 
   numbers_are : (index : p.Index) → index_value p same ≡ Done (AnIndex index)
@@ -305,9 +52,9 @@ module _ (p : Parts) (same : JobId → JobId → Bool) where
   index_items = (job.Tree, tree_value p same) ∷ []
 
   -- an index that is made adds these jobs
-  index_adds : is_done (index_value p same) ≡ true → (S job.Index).added
+  index_adds : is_done (index_value p same) ≡ true → ((S p same) job.Index).added
       ≡ after_index p same (numbers p same)
-  index_adds done = elim (makes_index index_items) [
+  index_adds done = elim ((makes_index p same) index_items) [
     | inl m ↦ ap (λ o. o.added) m.1
         ∙ ap (after_index p same) (numbers_are m.0 (ap (λ o. o.value) m.1))
     | inr n ↦ absurd (false≢true (sym n.1 ∙ done))
@@ -315,20 +62,21 @@ module _ (p : Parts) (same : JobId → JobId → Bool) where
 
   -- and otherwise none
   adds_none : {A : Type 0} (item : A → Item p) (adds : A → List (Spec JobId))
-      (o : PlainOutcome (Item p) JobId) → Makes item adds o → is_done o.value ≡ false
+      (o : PlainOutcome (Item p) JobId) → (Makes p same) item adds o → is_done o.value ≡ false
       → o.added ≡ []
   adds_none item adds o (inl m) e = absurd (false≢true (sym e ∙ ap (λ o. is_done o.value) m.1))
   adds_none item adds o (inr n) e = n.0
 
   -- a job of which the added ones don't depend on its value
   adds_these : {A : Type 0} (item : A → Item p) (these : List (Spec JobId))
-      (o : PlainOutcome (Item p) JobId) → Makes item (λ a. these) o → is_done o.value ≡ true
+      (o : PlainOutcome (Item p) JobId) → (Makes p same) item (λ a. these) o
+      → is_done o.value ≡ true
       → o.added ≡ these
   adds_these item these o (inl m) e = ap (λ o. o.added) m.1
   adds_these item these o (inr n) e = absurd (false≢true (sym n.1 ∙ e))
 
   adds_some : {A : Type 0} (item : A → Item p) (these : List (Spec JobId))
-      (o : PlainOutcome (Item p) JobId) → Makes item (λ a. these) o → (s : Spec JobId)
+      (o : PlainOutcome (Item p) JobId) → (Makes p same) item (λ a. these) o → (s : Spec JobId)
       → In s o.added → (is_done o.value ≡ true) × In s these
   adds_some item these o (inl m) s i = (
     ap (λ o. is_done o.value) m.1,
@@ -336,17 +84,18 @@ module _ (p : Parts) (same : JobId → JobId → Bool) where
   )
   adds_some item these o (inr n) s i = absurd (subst (λ ss. In s ss) n.0 i)
 
-  leaf_adds : (o : PlainOutcome (Item p) JobId) → IsLeaf o → (s : Spec JobId) → In s o.added → ⊥
+  leaf_adds : (o : PlainOutcome (Item p) JobId) → (IsLeaf p same) o → (s : Spec JobId)
+      → In s o.added → ⊥
   leaf_adds o l s i = subst (λ ss. In s ss) l i
 
   module _ (identity : (x y : JobId) → IsTrue (same x y) ↔ (x ≡ y)) where
     -- an item that is read has its value
     found : (ids : List JobId) (id : JobId) → In id ids
-        → read_of same (map with_value ids) id ≡ Some (value_of p same id)
+        → read_of same (map (with_value p same) ids) id ≡ Some (value_of p same id)
     found [] id i = absurd i
     found (x ∷ ids) id i =
         elim (same x id) as (λ b. same x id ≡ b → cond b (Some (value_of p same x))
-        (read_of same (map with_value ids) id) ≡ Some (value_of p same id)) [
+        (read_of same (map (with_value p same) ids) id) ≡ Some (value_of p same id)) [
           | true ↦ λ e. ap (λ y. Some (value_of p same y)) ((identity x id).0 e)
           | false ↦ λ e. elim i [
             | inl here ↦ absurd (false≢true (sym e ∙ (identity x id).1 here))
@@ -356,19 +105,21 @@ module _ (p : Parts) (same : JobId → JobId → Bool) where
 
     -- so the order's index is that of the source
     order_numbers : (index : p.Index)
-        → read_as p same (as_index p) (map with_value
+        → read_as p same (as_index p) (map (with_value p same)
         (reads_with p same (numbers p same) job.Order))
         job.Index ≡ Some index → p.numbers index ≡ numbers p same
     order_numbers index e =
-        let read : value_read same (map with_value (reads_with p same (numbers p same) job.Order))
+        let read : value_read same (map (with_value p same)
+        (reads_with p same (numbers p same) job.Order))
         job.Index ≡ done_value (index_value p same)
         = ap (option_and_then done_value)
         (found (reads_with p same (numbers p same) job.Order) job.Index (inr (inl refl))) in
         sym (ap (numbers_in p same) (sym (ap (option_and_then (as_index p)) read) ∙ e))
 
-    order_made : Makes AnOrder (order_next (numbers p same)) (S job.Order)
-    order_made = makes_order (numbers p same)
-        (map with_value (reads_with p same (numbers p same) job.Order)) order_numbers
+    order_made : (Makes p same) AnOrder ((order_next p same) (numbers p same))
+        ((S p same) job.Order)
+    order_made = (makes_order p same) (numbers p same)
+        (map (with_value p same) (reads_with p same (numbers p same) job.Order)) order_numbers
 
     abbrev has_value : JobId × Plain (Item p) → Bool
     has_value item = is_done item.1
@@ -385,32 +136,35 @@ module _ (p : Parts) (same : JobId → JobId → Bool) where
     flats_done : is_done (order_value p same) ≡ true → (glyph : ℕ) → In glyph (numbers p same)
         → is_done (flat_value p same glyph) ≡ true
     flats_done done glyph i =
-        let all = reads_done job.Order order_items done in
+        let all = (reads_done p same) job.Order order_items done in
         list_all-In has_value order_items (job.Flat glyph, flat_value p same glyph) all
         (inr (inr (map-In (λ g. (job.Flat g, flat_value p same g)) (numbers p same) glyph i)))
 
     index_done : is_done (order_value p same) ≡ true → is_done (index_value p same) ≡ true
     index_done done = list_all-In has_value order_items (job.Index, index_value p same)
-        (reads_done job.Order order_items done) (inr (inl refl))
+        ((reads_done p same) job.Order order_items done) (inr (inl refl))
 
     raw_done : (glyph : ℕ) → is_done (flat_value p same glyph) ≡ true
         → is_done (raw_value p same glyph) ≡ true
     raw_done glyph done = list_all-In has_value (flat_reads glyph)
         (job.Raw glyph, raw_value p same glyph)
-        (reads_done (job.Flat glyph) (flat_reads glyph) done) (inl refl)
+        ((reads_done p same) (job.Flat glyph) (flat_reads glyph) done) (inl refl)
 
     abbrev IsJob : Spec JobId → Type 0
     IsJob s = There p same s.id × (s ≡ spec_of p same s.id)
 
     -- a job that is there adds jobs that are there
-    adds_there : (id : JobId) → There p same id → (s : Spec JobId) → In s (S id).added → IsJob s
-    adds_there job.Tree there s i = absurd (leaf_adds (S job.Tree) (leaf_tree (items job.Tree)) s i)
+    adds_there : (id : JobId) → There p same id → (s : Spec JobId) → In s ((S p same) id).added
+        → IsJob s
+    adds_there job.Tree there s i = absurd
+        (leaf_adds ((S p same) job.Tree) ((leaf_tree p same) ((items p same) job.Tree)) s i)
     adds_there job.Header there s i = absurd
-        (leaf_adds (S job.Header) (leaf_header (items job.Header)) s i)
+        (leaf_adds ((S p same) job.Header) ((leaf_header p same) ((items p same) job.Header)) s i)
     adds_there job.Index there s i = elim (cases_Bool (is_done (index_value p same))) [
       | inl done ↦ after_index_there done (subst (λ ss. In s ss) (index_adds done) i)
       | inr not ↦ absurd (subst (λ ss. In s ss) (adds_none AnIndex
-          (λ index. after_index p same (p.numbers index)) (S job.Index) (makes_index index_items)
+          (λ index. after_index p same (p.numbers index)) ((S p same) job.Index)
+          ((makes_index p same) index_items)
           not) i)
     ]
       where
@@ -427,20 +181,25 @@ module _ (p : Parts) (same : JobId → JobId → Bool) where
               ]
             ]
     adds_there (job.Raw glyph) there s i =
-        let a = adds_some ARaw (spec_with p same [] (job.Flat glyph) ∷ []) (S (job.Raw glyph))
-        (makes_raw glyph (items (job.Raw glyph))) s i in
+        let a = adds_some ARaw (spec_with p same [] (job.Flat glyph) ∷ [])
+        ((S p same) (job.Raw glyph))
+        ((makes_raw p same) glyph ((items p same) (job.Raw glyph))) s i in
         elim a.1 [ inl e ↦ subst IsJob e ((there, a.0), refl) | inr none ↦ absurd none ]
     adds_there (job.Flat glyph) there s i =
-        let a = adds_some AFlat (spec_with p same [] (job.Simple glyph) ∷ []) (S (job.Flat glyph))
-        (makes_flat glyph (items (job.Flat glyph))) s i in
+        let a = adds_some AFlat (spec_with p same [] (job.Simple glyph) ∷ [])
+        ((S p same) (job.Flat glyph))
+        ((makes_flat p same) glyph ((items p same) (job.Flat glyph))) s i in
         elim a.1 [ inl e ↦ subst IsJob e ((there.0, a.0), refl) | inr none ↦ absurd none ]
     adds_there (job.Simple glyph) there s i
-        = absurd (leaf_adds (S (job.Simple glyph)) (leaf_simple glyph (items (job.Simple glyph))) s
+        = absurd (leaf_adds ((S p same) (job.Simple glyph))
+        ((leaf_simple p same) glyph ((items p same) (job.Simple glyph))) s
         i)
     adds_there job.Order there s i =
-        let a = adds_some AnOrder (after_order p same (numbers p same)) (S job.Order) order_made s i
+        let a = adds_some AnOrder (after_order p same (numbers p same)) ((S p same) job.Order)
+        order_made s i
         in
-        let done : is_done (order_value p same) ≡ true = sym (ap is_done (value job.Order)) ∙ a.0 in
+        let done : is_done (order_value p same) ≡ true = sym (ap is_done ((value p same) job.Order))
+        ∙ a.0 in
         elim a.1 [
           | inl e ↦ subst IsJob e (done, refl)
           | inr more ↦ elim more [
@@ -450,10 +209,13 @@ module _ (p : Parts) (same : JobId → JobId → Bool) where
           ]
         ]
     adds_there job.Advances there s i = absurd
-        (leaf_adds (S job.Advances) (leaf_advances (items job.Advances)) s i)
+        (leaf_adds ((S p same) job.Advances) ((leaf_advances p same) ((items p same) job.Advances))
+        s i)
     adds_there (job.Table tag) there s i = absurd
-        (leaf_adds (S (job.Table tag)) (leaf_table tag (items (job.Table tag))) s i)
-    adds_there job.Font there s i = absurd (leaf_adds (S job.Font) (leaf_font (items job.Font)) s i)
+        (leaf_adds ((S p same) (job.Table tag))
+        ((leaf_table p same) tag ((items p same) (job.Table tag))) s i)
+    adds_there job.Font there s i = absurd
+        (leaf_adds ((S p same) job.Font) ((leaf_font p same) ((items p same) job.Font)) s i)
     adds_there _ there s i = absurd there
 
     -- ---- what is founded
@@ -488,12 +250,12 @@ module _ (p : Parts) (same : JobId → JobId → Bool) where
         (no_wait (job.Index) refl)
 
     index_has : is_done (index_value p same) ≡ true → (s : Spec JobId)
-        → In s (after_index p same (numbers p same)) → Contains (S job.Index).added s
-    index_has done s i = Contains-from_In (S job.Index).added s
+        → In s (after_index p same (numbers p same)) → Contains ((S p same) job.Index).added s
+    index_has done s i = Contains-from_In ((S p same) job.Index).added s
         (subst (λ ss. In s ss) (sym (index_adds done)) i)
 
     raw_added : (glyph : ℕ) → In glyph (numbers p same)
-        → Contains (S job.Index).added (spec_of p same (job.Raw glyph))
+        → Contains ((S p same) job.Index).added (spec_of p same (job.Raw glyph))
     raw_added glyph i = index_has (numbered glyph i) (spec_of p same (job.Raw glyph))
         (In-append_left (map (λ g. spec_with p same (numbers p same) (job.Raw g)) (numbers p same))
         (spec_of p same job.Order ∷ []) (spec_of p same (job.Raw glyph))
@@ -511,11 +273,12 @@ module _ (p : Parts) (same : JobId → JobId → Bool) where
         ]) (no_wait (job.Raw glyph) refl)
 
     flat_added : (glyph : ℕ) → is_done (raw_value p same glyph) ≡ true
-        → Contains (S (job.Raw glyph)).added (spec_of p same (job.Flat glyph))
-    flat_added glyph done = Contains-from_In (S (job.Raw glyph)).added
+        → Contains ((S p same) (job.Raw glyph)).added (spec_of p same (job.Flat glyph))
+    flat_added glyph done = Contains-from_In ((S p same) (job.Raw glyph)).added
         (spec_of p same (job.Flat glyph)) (subst (λ ss. In (spec_of p same (job.Flat glyph)) ss)
-        (sym (adds_these ARaw (spec_with p same [] (job.Flat glyph) ∷ []) (S (job.Raw glyph))
-        (makes_raw glyph (items (job.Raw glyph))) done)) (inl refl))
+        (sym (adds_these ARaw (spec_with p same [] (job.Flat glyph) ∷ [])
+        ((S p same) (job.Raw glyph))
+        ((makes_raw p same) glyph ((items p same) (job.Raw glyph))) done)) (inl refl))
 
     founded_flat : (glyph : ℕ) → In glyph (numbers p same)
         → is_done (raw_value p same glyph) ≡ true → Is (job.Flat glyph)
@@ -528,12 +291,13 @@ module _ (p : Parts) (same : JobId → JobId → Bool) where
         ]) (no_wait (job.Flat glyph) refl)
 
     simple_added : (glyph : ℕ) → is_done (flat_value p same glyph) ≡ true
-        → Contains (S (job.Flat glyph)).added (spec_of p same (job.Simple glyph))
-    simple_added glyph done = Contains-from_In (S (job.Flat glyph)).added
+        → Contains ((S p same) (job.Flat glyph)).added (spec_of p same (job.Simple glyph))
+    simple_added glyph done = Contains-from_In ((S p same) (job.Flat glyph)).added
         (spec_of p same (job.Simple glyph))
         (subst (λ ss. In (spec_of p same (job.Simple glyph)) ss)
-        (sym (adds_these AFlat (spec_with p same [] (job.Simple glyph) ∷ []) (S (job.Flat glyph))
-        (makes_flat glyph (items (job.Flat glyph))) done)) (inl refl))
+        (sym (adds_these AFlat (spec_with p same [] (job.Simple glyph) ∷ [])
+        ((S p same) (job.Flat glyph))
+        ((makes_flat p same) glyph ((items p same) (job.Flat glyph))) done)) (inl refl))
 
     founded_simple : (glyph : ℕ) → In glyph (numbers p same)
         → is_done (flat_value p same glyph) ≡ true → Is (job.Simple glyph)
@@ -567,7 +331,7 @@ module _ (p : Parts) (same : JobId → JobId → Bool) where
       flats_founded id i = let m = In-map job.Flat (numbers p same) id i in
           subst Is m.2 (founded_flat m.0 m.1 (raw_done m.0 (flats_done done m.0 m.1)))
 
-      order_added : Contains (S job.Index).added (spec_of p same job.Order)
+      order_added : Contains ((S p same) job.Index).added (spec_of p same job.Order)
       order_added = index_has (index_done done) (spec_of p same job.Order)
           (In-append_right (map (λ g. spec_with p same (numbers p same) (job.Raw g))
           (numbers p same)) (spec_of p same job.Order ∷ []) (spec_of p same job.Order) (inl refl))
@@ -587,10 +351,11 @@ module _ (p : Parts) (same : JobId → JobId → Bool) where
           (let one = awaited_is 1 stratum e in omega arith))
 
       order_has : (s : Spec JobId) → In s (after_order p same (numbers p same))
-          → Contains (S job.Order).added s
-      order_has s i = Contains-from_In (S job.Order).added s (subst (λ ss. In s ss)
-          (sym (adds_these AnOrder (after_order p same (numbers p same)) (S job.Order) order_made
-          (ap is_done (value job.Order) ∙ done))) i)
+          → Contains ((S p same) job.Order).added s
+      order_has s i = Contains-from_In ((S p same) job.Order).added s (subst (λ ss. In s ss)
+          (sym (adds_these AnOrder (after_order p same (numbers p same)) ((S p same) job.Order)
+          order_made
+          (ap is_done ((value p same) job.Order) ∙ done))) i)
 
       -- those, and the order
       founded_below : (id : JobId) → There p same id → stratum_of id ≤ 2 → Is id
@@ -606,7 +371,7 @@ module _ (p : Parts) (same : JobId → JobId → Bool) where
       founded_below job.Font there low = absurd (omega arith)
       founded_below _ there low = absurd there
 
-      advances_has : Contains (S job.Order).added (spec_of p same job.Advances)
+      advances_has : Contains ((S p same) job.Order).added (spec_of p same job.Advances)
       advances_has = order_has (spec_of p same job.Advances) (inl refl)
 
       founded_advances : Is job.Advances
@@ -627,11 +392,11 @@ module _ (p : Parts) (same : JobId → JobId → Bool) where
           (let two = awaited_is 2 stratum e in omega arith))
 
       table_has : (tag : Tag) → In tag p.tags
-          → Contains (S job.Order).added (spec_of p same (job.Table tag))
+          → Contains ((S p same) job.Order).added (spec_of p same (job.Table tag))
       table_has tag i = order_has (spec_of p same (job.Table tag)) (inr (inr
           (map-In (λ tag. spec_with p same (numbers p same) (job.Table tag)) p.tags tag i)))
 
-      font_has : Contains (S job.Order).added (spec_of p same job.Font)
+      font_has : Contains ((S p same) job.Order).added (spec_of p same job.Font)
       font_has = order_has (spec_of p same job.Font) (inr (inl refl))
 
     -- ---- each job that is there has a maker
@@ -739,22 +504,26 @@ module _ (p : Parts) (same : JobId → JobId → Bool) where
     abbrev IsAbove : JobId → Spec JobId → Type 0
     IsAbove id s = stratum_of id ≤ stratum_of s.id
 
-    above_maker : (id : JobId) (s : Spec JobId) → In s (S id).added → IsAbove id s
+    above_maker : (id : JobId) (s : Spec JobId) → In s ((S p same) id).added → IsAbove id s
     above_maker job.Tree s i = omega arith
     above_maker job.Header s i = omega arith
     above_maker job.Index s i = omega arith
     above_maker (job.Raw glyph) s i =
-        let a = adds_some ARaw (spec_with p same [] (job.Flat glyph) ∷ []) (S (job.Raw glyph))
-        (makes_raw glyph (items (job.Raw glyph))) s i in
+        let a = adds_some ARaw (spec_with p same [] (job.Flat glyph) ∷ [])
+        ((S p same) (job.Raw glyph))
+        ((makes_raw p same) glyph ((items p same) (job.Raw glyph))) s i in
         elim a.1 [ inl e ↦ subst (IsAbove (job.Raw glyph)) e (omega arith) | inr n ↦ absurd n ]
     above_maker (job.Flat glyph) s i =
-        let a = adds_some AFlat (spec_with p same [] (job.Simple glyph) ∷ []) (S (job.Flat glyph))
-        (makes_flat glyph (items (job.Flat glyph))) s i in
+        let a = adds_some AFlat (spec_with p same [] (job.Simple glyph) ∷ [])
+        ((S p same) (job.Flat glyph))
+        ((makes_flat p same) glyph ((items p same) (job.Flat glyph))) s i in
         elim a.1 [ inl e ↦ subst (IsAbove (job.Flat glyph)) e (omega arith) | inr n ↦ absurd n ]
     above_maker (job.Simple glyph) s i = absurd
-        (leaf_adds (S (job.Simple glyph)) (leaf_simple glyph (items (job.Simple glyph))) s i)
+        (leaf_adds ((S p same) (job.Simple glyph))
+        ((leaf_simple p same) glyph ((items p same) (job.Simple glyph))) s i)
     above_maker job.Order s i =
-        let a = adds_some AnOrder (after_order p same (numbers p same)) (S job.Order) order_made s i
+        let a = adds_some AnOrder (after_order p same (numbers p same)) ((S p same) job.Order)
+        order_made s i
         in
         elim a.1 [
           | inl e ↦ subst (IsAbove job.Order) e (omega arith)
@@ -765,10 +534,13 @@ module _ (p : Parts) (same : JobId → JobId → Bool) where
           ]
         ]
     above_maker job.Advances s i = absurd
-        (leaf_adds (S job.Advances) (leaf_advances (items job.Advances)) s i)
+        (leaf_adds ((S p same) job.Advances) ((leaf_advances p same) ((items p same) job.Advances))
+        s i)
     above_maker (job.Table tag) s i = absurd
-        (leaf_adds (S (job.Table tag)) (leaf_table tag (items (job.Table tag))) s i)
-    above_maker job.Font s i = absurd (leaf_adds (S job.Font) (leaf_font (items job.Font)) s i)
+        (leaf_adds ((S p same) (job.Table tag))
+        ((leaf_table p same) tag ((items p same) (job.Table tag))) s i)
+    above_maker job.Font s i = absurd (leaf_adds ((S p same) job.Font)
+        ((leaf_font p same) ((items p same) job.Font)) s i)
     above_maker _ s i = absurd i
 
     above_awaited : (id : JobId) (stratum : ℕ) → awaited_by id ≡ Some stratum
@@ -884,13 +656,13 @@ module _ (p : Parts) (same : JobId → JobId → Bool) where
         ]
     there_of id (added _ maker founded adds reads awaited) =
         (adds_there maker (there_of maker founded) (spec_of p same id)
-        (In-from_Contains (S maker).added (spec_of p same id) adds)).0
+        (In-from_Contains ((S p same) maker).added (spec_of p same id) adds)).0
 
     pub solution : IsSolution same (plan p same) (spec_of p same) (There p same) (value_of p same)
     unfolding Is
     solution = record {
       identity = identity;
-      quiet = quiet;
+      quiet = (quiet p same);
       named = λ id. refl;
       opening = λ s c. elim (In-from_Contains (plan p same).opening s c) [
         | inl e ↦ subst IsJob e (tt, refl)
@@ -899,11 +671,13 @@ module _ (p : Parts) (same : JobId → JobId → Bool) where
           | inr i ↦ elim i [ inl e ↦ subst IsJob e (tt, refl) | inr n ↦ absurd n ]
         ]
       ];
-      value = λ id f. value id;
-      adds = λ id s f c. adds_there id (there_of id f) s (In-from_Contains (S id).added s c);
+      value = λ id f. (value p same) id;
+      adds = λ id s f c. adds_there id (there_of id f) s
+          (In-from_Contains ((S p same) id).added s c);
       least = least;
       in_universe = λ id there. Contains-from_In (plan p same).universe id (In-universe id there);
-      above_maker = λ id s there reads c. above_maker id s (In-from_Contains (S id).added s c);
+      above_maker = λ id s there reads c. above_maker id s
+          (In-from_Contains ((S p same) id).added s c);
       above_awaited = λ id k there e. above_awaited id k e;
       above_reads = λ id read there c. above_reads id read
           (In-from_Contains (reads_with p same (numbers p same) id) read c);

@@ -1,0 +1,281 @@
+-- What comes of a job of a source's graph: with no value it adds nothing, and with one it adds the
+-- jobs of its kind. For the proof that the graph is solved. fontc's own.
+use Rattle.std.proofs.Common.{◌≡◌, ℕ, Bool, true, false, cond, ◌⊎◌, inl, inr, List, []}
+use Rattle.std.proofs.Common.{◌∷◌, map, Option, Some, None, Result, Ok, Err, refl, sym, ap}
+use Rattle.std.proofs.Common.{subst}
+use Rattle.std.proofs.lemmas.Bool.{false≢true}
+use Rattle.refusal_codes.specs.declared.refusal.Refusal.{Refusal}
+use Rattle.access_context.specs.declared.access.Spec.{Spec}
+use Rattle.access_context.specs.Plain.{Plain, Done, PlainOutcome, is_done}
+use Rattle.access_context.specs.Read.{all_done}
+use Rattle.font_ir.specs.declared.tag.Tag.{Tag}
+use Rattle.job_graph.specs.Rounds.{blocked}
+use Rattle.job_graph.specs.Members.{In}
+use Rattle.job_graph.specs.Solutions.{solved_outcome}
+use Rattle.font_graph.specs.Parts.{Parts}
+use Rattle.font_graph.specs.Graph.{Item, ATree, AHeader, AnIndex, ARaw, AFlat, AnOrder, AMeasure}
+use Rattle.font_graph.specs.Graph.{Bytes, as_index, spec_with, on, settle}
+use Rattle.font_graph.specs.Graph.{none, after_index, after_order, outcome, settled, index_value}
+use Rattle.font_graph.specs.Graph.{numbers, order_value}
+use Rattle.font_graph.specs.Graph.{value_of, spec_of, There, plan, read_as, read_all, reads_with}
+use Rattle.font_graph.specs.Graph.{as_bytes, as_measures, header_value, simple_value}
+use Rattle.font_graph.specs.Graph.{advances_value}
+use Rattle.font_graph.specs.declared.ids.JobId.{JobId}
+use Rattle.font_graph.specs.declared.ids.JobId.TheVariants as job
+
+-- what stands in a list that was made item by item
+pub map-In : {X Y : Type 0} (f : X → Y) (xs : List X) (x : X) → In x xs → In (f x) (map f xs)
+map-In f [] x i = absurd i
+map-In f (y ∷ xs) x i = elim i [ inl e ↦ inl (ap f e) | inr j ↦ inr (map-In f xs x j) ]
+
+pub In-map : {X Y : Type 0} (f : X → Y) (xs : List X) (y : Y) → In y (map f xs)
+    → (x : X) × In x xs × (f x ≡ y)
+In-map f [] y i = absurd i
+In-map f (x ∷ xs) y i = elim i [
+  | inl e ↦ (x, inl refl, e)
+  | inr j ↦ let m = In-map f xs y j in (m.0, inr m.1, m.2)
+]
+
+pub map_twice : {X Y Z : Type 0} (f : X → Y) (g : Y → Z) (xs : List X)
+    → map g (map f xs) ≡ map (λ x. g (f x)) xs
+map_twice f g [] = refl
+map_twice f g (x ∷ xs) = ap (λ zs. g (f x) ∷ zs) (map_twice f g xs)
+
+pub none_awaited : (k : ℕ) → ◌≡◌ {A = Option ℕ} None (Some k) → ⊥
+none_awaited k e = cc
+
+pub awaited_is : (n k : ℕ) → ◌≡◌ {A = Option ℕ} (Some n) (Some k) → n ≡ k
+awaited_is n k e = cc
+
+module _ (p : Parts) (same : JobId → JobId → Bool) where
+  Outcome : Type 0
+  Outcome = PlainOutcome (Item p) JobId
+
+  -- ---- what comes of a job, by its parts
+
+  abbrev IsQuiet : PlainOutcome (Item p) JobId → Type 0
+  IsQuiet o = is_done o.value ≡ false → o.added ≡ []
+
+  quiet_settle : {A : Type 0} (item : A → Item p) (adds : A → List (Spec JobId))
+      (r : Result A Refusal) → IsQuiet (settle p same item adds r)
+  unfolding settle
+  quiet_settle item adds (Ok a) = λ e. absurd (false≢true (sym e))
+  quiet_settle item adds (Err r) = λ e. refl
+
+  quiet_on : {A : Type 0} (x : Option A) (f : A → PlainOutcome (Item p) JobId)
+      → ((a : A) → IsQuiet (f a)) → IsQuiet (on p same x f)
+  unfolding on
+  quiet_on None f q = λ e. refl
+  quiet_on (Some a) f q = q a
+
+  -- a job made this item and added these jobs, or there is no value
+  abbrev pub Makes : {A : Type 0} → (A → Item p) → (A → List (Spec JobId))
+      → PlainOutcome (Item p) JobId → Type 0
+  Makes {A = A} item adds o = ((a : A) × (o ≡ record { value = Done (item a); added = adds a }))
+      ⊎ ((o.added ≡ []) × (is_done o.value ≡ false))
+
+  makes_settle : {A : Type 0} (item : A → Item p) (adds : A → List (Spec JobId))
+      (r : Result A Refusal) → Makes item adds (settle p same item adds r)
+  unfolding settle
+  makes_settle item adds (Ok a) = inl (a, refl)
+  makes_settle item adds (Err r) = inr (refl, refl)
+
+  makes_on : {A B : Type 0} (item : A → Item p) (adds : A → List (Spec JobId)) (x : Option B)
+      (f : B → PlainOutcome (Item p) JobId) → ((b : B) → x ≡ Some b → Makes item adds (f b))
+      → Makes item adds (on p same x f)
+  unfolding on
+  makes_on item adds None f m = inr (refl, refl)
+  makes_on item adds (Some b) f m = m b refl
+
+  makes_if : {A : Type 0} (item : A → Item p) (adds : A → List (Spec JobId)) (b : Bool)
+      (o : PlainOutcome (Item p) JobId) → Makes item adds o
+      → Makes item adds (cond b o blocked)
+  makes_if item adds true o m = m
+  makes_if item adds false o m = inr (refl, refl)
+
+  -- what a job with a value read has a value
+  pub reads_done : (id : JobId) (reads : List (JobId × Plain (Item p)))
+      → is_done (settled p same id reads).value ≡ true → all_done reads ≡ true
+  reads_done id reads e =
+      elim (all_done reads) as (λ b. is_done (cond b (outcome p same id reads) blocked).value ≡ true
+      → b ≡ true) [
+        | true ↦ λ f. refl
+        | false ↦ λ f. absurd (false≢true f)
+      ] e
+
+  pub quiet : (id : JobId) (reads : List (JobId × Plain (Item p)))
+      → IsQuiet (outcome p same id reads)
+  quiet job.Tree reads = quiet_settle ATree (none p same) p.tree
+  quiet job.Header reads = quiet_on _ _ (λ tree. quiet_settle AHeader (none p same) (p.header tree))
+  quiet job.Index reads = quiet_on _ _ (λ tree. quiet_settle AnIndex _ (p.index tree))
+  quiet (job.Raw glyph) reads = quiet_on _ _ (λ tree. quiet_on _ _ (λ header. quiet_on _ _
+      (λ index. quiet_settle ARaw _ (p.raw tree header index glyph))))
+  quiet (job.Flat glyph) reads = quiet_on _ _ (λ raw. quiet_on _ _
+      (λ index. quiet_settle AFlat _ (p.flat raw index)))
+  quiet (job.Simple glyph) reads = quiet_on _ _ (λ header. quiet_on _ _
+      (λ flat. quiet_settle Bytes _ (p.simple header flat)))
+  quiet job.Order reads = quiet_on _ _ (λ header. quiet_on _ _ (λ index. quiet_on _ _
+      (λ flats. quiet_settle AnOrder _ (p.order header index flats))))
+  quiet job.Advances reads = quiet_on _ _ (λ header. quiet_on _ _ (λ index. quiet_on _ _
+      (λ order. quiet_on _ _ (λ flats. quiet_settle AMeasure _ (p.measures header order flats)))))
+  quiet (job.Table tag) reads = quiet_on _ _ (λ header. quiet_on _ _ (λ index. quiet_on _ _
+      (λ order. by_kind (p.is_of_outlines tag) header index order)))
+    where
+      by_kind : (b : Bool) (header : p.Header) (index : p.Index) (order : p.Order) → IsQuiet
+          (cond b
+          (on p same (read_all p same (as_bytes p) reads (map job.Simple (p.numbers index)))
+          (λ parts. settle p same Bytes (none p same)
+          (p.outline_table tag header order parts)))
+          (on p same (read_as p same (as_measures p) reads job.Advances)
+          (λ measures. settle p same Bytes (none p same)
+          (p.metrics_table tag header order measures))))
+      by_kind true header index order = quiet_on _ _
+          (λ parts. quiet_settle Bytes (none p same) (p.outline_table tag header order parts))
+      by_kind false header index order = quiet_on _ _
+          (λ measures. quiet_settle Bytes (none p same) (p.metrics_table tag header order measures))
+  quiet job.Font reads = quiet_on _ _ (λ tables. quiet_settle Bytes (none p same) (p.font tables))
+  quiet _ reads = λ e. refl
+
+  -- ---- values
+
+  abbrev pub with_value : JobId → JobId × Plain (Item p)
+  with_value id = (id, value_of p same id)
+
+  abbrev pub S : JobId → PlainOutcome (Item p) JobId
+  S id = solved_outcome same (plan p same) (spec_of p same) (There p same) (value_of p same) id
+
+  -- what a job reads
+  abbrev pub items : JobId → List (JobId × Plain (Item p))
+  items id = map with_value (reads_with p same (numbers p same) id)
+
+  pub value : (id : JobId) → (S id).value ≡ value_of p same id
+  value job.Tree = refl
+  value job.Header = refl
+  value job.Index = refl
+  value (job.Raw glyph) = refl
+  value (job.Flat glyph) = refl
+  value (job.Simple glyph) = refl
+  value job.Order = ap (λ items. (settled p same job.Order ((job.Header, header_value p same)
+      ∷ (job.Index, index_value p same) ∷ items)).value)
+      (map_twice job.Flat with_value (numbers p same))
+  value job.Advances = ap (λ items. (settled p same job.Advances ((job.Header, header_value p same)
+      ∷ (job.Index, index_value p same) ∷ (job.Order, order_value p same) ∷ items)).value)
+      (map_twice job.Flat with_value (numbers p same))
+  value (job.Table tag) = by_kind (p.is_of_outlines tag)
+    where
+      of : List (JobId × Plain (Item p)) → Plain (Item p)
+      of items = (settled p same (job.Table tag) ((job.Header, header_value p same)
+          ∷ (job.Index, index_value p same) ∷ (job.Order, order_value p same) ∷ items)).value
+
+      by_kind : (b : Bool)
+          → of (map with_value (cond b (map job.Simple (numbers p same)) (job.Advances ∷ [])))
+          ≡ of (cond b (map (λ glyph. (job.Simple glyph, simple_value p same glyph))
+          (numbers p same)) ((job.Advances, advances_value p same) ∷ []))
+      by_kind true = ap of (map_twice job.Simple with_value (numbers p same))
+      by_kind false = refl
+  value job.Font = ap (λ items. (settled p same job.Font items).value)
+      (map_twice job.Table with_value p.tags)
+  value _ = refl
+
+  -- ---- which jobs are added
+
+  abbrev pub IsLeaf : PlainOutcome (Item p) JobId → Type 0
+  IsLeaf o = o.added ≡ []
+
+  leaf_settle : {A : Type 0} (item : A → Item p) (r : Result A Refusal)
+      → IsLeaf (settle p same item (none p same) r)
+  unfolding settle
+  leaf_settle item (Ok a) = refl
+  leaf_settle item (Err r) = refl
+
+  leaf_on : {A : Type 0} (x : Option A) (f : A → PlainOutcome (Item p) JobId)
+      → ((a : A) → IsLeaf (f a)) → IsLeaf (on p same x f)
+  unfolding on
+  leaf_on None f l = refl
+  leaf_on (Some a) f l = l a
+
+  leaf_if : (b : Bool) (o : PlainOutcome (Item p) JobId) → IsLeaf o → IsLeaf (cond b o blocked)
+  leaf_if true o l = l
+  leaf_if false o l = refl
+
+  pub leaf_tree : (reads : List (JobId × Plain (Item p))) → IsLeaf (settled p same job.Tree reads)
+  leaf_tree reads = leaf_if (all_done reads) _ (leaf_settle ATree p.tree)
+
+  pub leaf_header : (reads : List (JobId × Plain (Item p)))
+      → IsLeaf (settled p same job.Header reads)
+  leaf_header reads = leaf_if (all_done reads) _
+      (leaf_on _ _ (λ tree. leaf_settle AHeader (p.header tree)))
+
+  pub leaf_simple : (glyph : ℕ) (reads : List (JobId × Plain (Item p)))
+      → IsLeaf (settled p same (job.Simple glyph) reads)
+  leaf_simple glyph reads = leaf_if (all_done reads) _ (leaf_on _ _ (λ header.
+      leaf_on _ _ (λ flat. leaf_settle Bytes (p.simple header flat))))
+
+  pub leaf_advances : (reads : List (JobId × Plain (Item p)))
+      → IsLeaf (settled p same job.Advances reads)
+  leaf_advances reads = leaf_if (all_done reads) _ (leaf_on _ _ (λ header.
+      leaf_on _ _ (λ index. leaf_on _ _ (λ order. leaf_on _ _ (λ flats.
+      leaf_settle AMeasure (p.measures header order flats))))))
+
+  pub leaf_table : (tag : Tag) (reads : List (JobId × Plain (Item p)))
+      → IsLeaf (settled p same (job.Table tag) reads)
+  leaf_table tag reads = leaf_if (all_done reads) _ (leaf_on _ _ (λ header.
+      leaf_on _ _ (λ index. leaf_on _ _ (λ order. by_kind (p.is_of_outlines tag) header index
+      order))))
+    where
+      by_kind : (b : Bool) (header : p.Header) (index : p.Index) (order : p.Order) → IsLeaf
+          (cond b
+          (on p same (read_all p same (as_bytes p) reads (map job.Simple (p.numbers index)))
+          (λ parts. settle p same Bytes (none p same)
+          (p.outline_table tag header order parts)))
+          (on p same (read_as p same (as_measures p) reads job.Advances)
+          (λ measures. settle p same Bytes (none p same)
+          (p.metrics_table tag header order measures))))
+      by_kind true header index order = leaf_on _ _
+          (λ parts. leaf_settle Bytes (p.outline_table tag header order parts))
+      by_kind false header index order = leaf_on _ _
+          (λ measures. leaf_settle Bytes (p.metrics_table tag header order measures))
+
+  pub leaf_font : (reads : List (JobId × Plain (Item p))) → IsLeaf (settled p same job.Font reads)
+  leaf_font reads = leaf_if (all_done reads) _
+      (leaf_on _ _ (λ tables. leaf_settle Bytes (p.font tables)))
+
+  pub makes_index : (reads : List (JobId × Plain (Item p)))
+      → Makes AnIndex (λ index. after_index p same (p.numbers index))
+      (settled p same job.Index reads)
+  makes_index reads = makes_if AnIndex (λ index. after_index p same (p.numbers index))
+      (all_done reads) _ (makes_on AnIndex (λ index. after_index p same (p.numbers index)) _ _
+      (λ tree e. makes_settle AnIndex (λ index. after_index p same (p.numbers index))
+      (p.index tree)))
+
+  abbrev pub flat_next : {A : Type 0} → ℕ → A → List (Spec JobId)
+  flat_next glyph a = spec_with p same [] (job.Flat glyph) ∷ []
+
+  pub makes_raw : (glyph : ℕ) (reads : List (JobId × Plain (Item p)))
+      → Makes ARaw (flat_next glyph) (settled p same (job.Raw glyph) reads)
+  makes_raw glyph reads = makes_if ARaw (flat_next glyph) (all_done reads) _
+      (makes_on ARaw (flat_next glyph) _ _ (λ tree e. makes_on ARaw (flat_next glyph) _ _
+      (λ header f. makes_on ARaw (flat_next glyph) _ _
+      (λ index g. makes_settle ARaw (flat_next glyph) (p.raw tree header index glyph)))))
+
+  abbrev pub simple_next : {A : Type 0} → ℕ → A → List (Spec JobId)
+  simple_next glyph a = spec_with p same [] (job.Simple glyph) ∷ []
+
+  pub makes_flat : (glyph : ℕ) (reads : List (JobId × Plain (Item p)))
+      → Makes AFlat (simple_next glyph) (settled p same (job.Flat glyph) reads)
+  makes_flat glyph reads = makes_if AFlat (simple_next glyph) (all_done reads) _
+      (makes_on AFlat (simple_next glyph) _ _ (λ raw e. makes_on AFlat (simple_next glyph) _ _
+      (λ index f. makes_settle AFlat (simple_next glyph) (p.flat raw index))))
+
+  abbrev pub order_next : {A : Type 0} → List ℕ → A → List (Spec JobId)
+  order_next ns a = after_order p same ns
+
+  pub makes_order : (ns : List ℕ) (reads : List (JobId × Plain (Item p)))
+      → ((index : p.Index) → read_as p same (as_index p) reads job.Index ≡ Some index
+      → p.numbers index ≡ ns) → Makes AnOrder (order_next ns) (settled p same job.Order reads)
+  makes_order ns reads known = makes_if AnOrder (order_next ns) (all_done reads) _
+      (makes_on AnOrder (order_next ns) _ _ (λ header e. makes_on AnOrder (order_next ns) _ _
+      (λ index f. makes_on AnOrder (order_next ns) _ _ (λ flats g.
+      subst (λ ms. Makes AnOrder (order_next ms) (settle p same AnOrder
+      (order_next (p.numbers index)) (p.order header index flats))) (known index f)
+      (makes_settle AnOrder (order_next (p.numbers index)) (p.order header index flats))))))
