@@ -9,13 +9,11 @@ use Rattle.std.specs.declared.vec.Vec.{Vec}
 use Rattle.std.specs.declared.alloc.Global.{Global}
 use Rattle.std.proofs.lemmas.Bool.{and_parts, and_from, or_right, false≢true, cases_Bool,
     false_from_ne_true, lt-ltb, eqb-true, eq-eqb, not_from_false, not-true}
-use Rattle.std.proofs.lemmas.List.{length-set, length-replicate, map-append}
+use Rattle.std.proofs.lemmas.List.{length-replicate}
 use Rattle.std.proofs.lemmas.List.Sums.{fold-append, count_by-le-length, sum_by-set}
 use Rattle.std.proofs.lemmas.Option.{slice_get_within, get_or_from_slice_get, slice_get-get_or}
 use Rattle.access_context.specs.declared.access.Spec.{Spec}
-use Rattle.access_context.specs.declared.settled.Settled.{Settled}
-use Rattle.access_context.specs.Plain.{Plain, PlainOutcome, plain}
-use Rattle.access_context.specs.Read.{plain_item}
+use Rattle.access_context.specs.Plain.{Plain, PlainOutcome}
 use Rattle.job_graph.specs.declared.event.Event.{Event}
 use Rattle.job_graph.specs.declared.event.Event.TheVariants as event
 use Rattle.job_graph.specs.declared.event.End.TheVariants.{Running, Ended, Halted}
@@ -343,37 +341,35 @@ module _ {Id V : Type 0} (same : Id → Id → Bool) (plan : Meaning Id V) (work
 -- the board after a finish, by its lists
 pub board_finish_lists : {Id V : Type 0} (same : Id → Id → Bool) (plan : Meaning Id V) (workers : ℕ)
     (lawful : IsLawful same plan) (events : Vec (Event Id) Global) (jobs : List (Spec Id))
-    (values : List (Id × Settled V)) (outs : List (Option Id)) (halted : List Bool) (any : Bool)
+    (values : List (Id × Plain V)) (outs : List (Option Id)) (halted : List Bool) (any : Bool)
     → IsBoard same plan workers events (state_from jobs values) outs halted any → (w : ℕ) (id : Id)
     → slice_get (out_of workers events.items) w ≡ Some (Some id)
-    → (value : Settled V) (added : List (Spec Id))
-    → IsOutcomeOf same plan id (record { value = plain value; added = added }) → (k : Id) → k ≡ id
+    → (value : Plain V) (added : List (Spec Id))
+    → IsOutcomeOf same plan id (record { value = value; added = added }) → (k : Id) → k ≡ id
     → (after : Vec (Event Id) Global) → after.items ≡ events.items ++ event.Finish w k ∷ []
     → vec_len after + count_by not halted ≤ vec_capacity after
-    → (jobs' : List (Spec Id)) (values' : List (Id × Settled V)) → jobs' ≡ jobs ++ added
+    → (jobs' : List (Spec Id)) (values' : List (Id × Plain V)) → jobs' ≡ jobs ++ added
     → values' ≡ values ++ (k, value) ∷ [] → IsBoard same plan workers after
     (state_from jobs' values') (slice_set outs w None) halted any
 board_finish_lists {Id} {V} same plan workers lawful events jobs values outs halted any b w id out
     value added o k named after items room jobs' values' js vs =
-    let now : map plain_item values' ≡ map plain_item values ++ (id, plain value)
-        ∷ [] = ap (map plain_item) vs ∙ map-append plain_item values ((k, value) ∷ [])
-        ∙ ap (λ (j : Id). map plain_item values ++ (j, plain value) ∷ []) named in
-    let is : ◌≡◌ {A = State Id V} (record { jobs = jobs ++ added; values = map plain_item values
-        ++ (id, plain value) ∷ [] }) (state_from jobs' values')
-        = λ i. record { jobs = sym js i; values = sym now i } in
+    let now : values' ≡ values ++ (id, value) ∷ [] = vs
+        ∙ ap (λ (j : Id). values ++ (j, value) ∷ []) named in
+    let is : ◌≡◌ {A = State Id V} (record { jobs = jobs ++ added; values = values ++ (id, value)
+        ∷ [] }) (state_from jobs' values') = λ i. record { jobs = sym js i; values = sym now i } in
     subst (λ s. IsBoard same plan workers after s (slice_set outs w None) halted any) is
     (board_finish same plan workers lawful events (state_from jobs values) outs halted any b w id
-        out (plain value) added o after (items
-        ∙ ap (λ (j : Id). events.items ++ event.Finish w j ∷ []) named) room)
+        out value added o after (items ∙ ap (λ (j : Id). events.items ++ event.Finish w j ∷ [])
+        named) room)
 
 -- the same board, by its lists
 pub board_kept : {Id V : Type 0} (same : Id → Id → Bool) (plan : Meaning Id V) (workers : ℕ)
-    (events : Vec (Event Id) Global) (jobs : List (Spec Id)) (values : List (Id × Settled V))
+    (events : Vec (Event Id) Global) (jobs : List (Spec Id)) (values : List (Id × Plain V))
     (outs : List (Option Id)) (halted : List Bool) (any : Bool)
     → IsBoard same plan workers events (state_from jobs values) outs halted any
     → (after : Vec (Event Id) Global) → after.items ≡ events.items
     → vec_len after + count_by not halted ≤ vec_capacity after
-    → (jobs' : List (Spec Id)) (values' : List (Id × Settled V)) → jobs' ≡ jobs → values' ≡ values
+    → (jobs' : List (Spec Id)) (values' : List (Id × Plain V)) → jobs' ≡ jobs → values' ≡ values
     → IsBoard same plan workers after (state_from jobs' values') outs halted any
 board_kept {Id} {V} same plan workers events jobs values outs halted any b after items room jobs'
     values' js vs =
@@ -422,13 +418,13 @@ some_same x y o e f = same_flag x y (sym e ∙ f)
 
 -- what the next job is
 pub next_moved : {Id V : Type 0} (same : Id → Id → Bool) (plan : Meaning Id V)
-    (js jobs : List (Spec Id)) (vs values : List (Id × Settled V)) (es events : List (Event Id))
-    → js ≡ jobs → vs ≡ values → es ≡ events → (o : Option (Id × List (Id × Plain V)))
-    → IsNext same plan (state_from js vs) es o → IsNext same plan (state_from jobs values) events o
-next_moved same plan js jobs vs values es events a b c o n =
+    (js jobs : List (Spec Id)) (values : List (Id × Plain V)) (es events : List (Event Id))
+    → js ≡ jobs → es ≡ events → (o : Option (Id × List (Id × Plain V)))
+    → IsNext same plan (state_from js values) es o
+    → IsNext same plan (state_from jobs values) events o
+next_moved same plan js jobs values es events a c o n =
     subst (λ x. IsNext same plan (state_from x values) events o) a
-        (subst (λ y. IsNext same plan (state_from js y) events o) b
-        (subst (λ z. IsNext same plan (state_from js vs) z o) c n))
+        (subst (λ z. IsNext same plan (state_from js values) z o) c n)
 
 pub next_none : {Id V : Type 0} (same : Id → Id → Bool) (plan : Meaning Id V) (state : State Id V)
     (events : List (Event Id)) (o : Option (Id × List (Id × Plain V)))

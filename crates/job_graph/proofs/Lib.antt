@@ -5,5 +5,7 @@ pub mod Short
 pub mod Last
 pub mod Kept
 pub mod Due
+pub mod Places
+pub mod Ranges
 pub mod Boards
 pub mod Examples

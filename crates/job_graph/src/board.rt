@@ -1,16 +1,18 @@
 ghost use Rattle.std.specs.Prelude.{◌≡◌, ◌<◌, [], ◌∷◌, ◌++◌, option_map, IfSome, IfOk, OnOk, IfErr,
-    OnErr, Some, None, ℕ, if◌then◌else◌};
+    OnErr, Some, None, ℕ, is_some, if◌then◌else◌};
 ghost use Rattle.std.specs.List.{list_any};
 ghost use Rattle.access_context.specs.Plain.{plain, plain_outcome};
-ghost use Rattle.job_graph.specs.Rounds.{value_in, is_unsettled_job, limit, IsOutcomeOf};
+ghost use Rattle.job_graph.specs.Rounds.{value_in, is_settled, is_unsettled_job, access_in, limit,
+    IsOutcomeOf, IsAddedOf};
 ghost use Rattle.job_graph.specs.Histories.{is_halt_of, out_at, state_of, end_of};
 ghost use Rattle.job_graph.specs.Promises.{IsHistory, IsComplete};
 
 use crate::claim::{Claim, Ticket, Unfinished};
 use crate::event::{End, Event};
 use crate::plan::Plan;
+use crate::values::Values;
 use crate::{lists, scan};
-use access_context::{Outcome, Settled, Spec};
+use access_context::{Access, Outcome, Settled, Spec};
 use refusal_codes::NoMemory;
 use std::alloc::Global;
 use std::marker::Model;
@@ -34,7 +36,10 @@ pub struct Board<P: Plan> {
     workers: u32,
     events: Vec<Event<P::Id>>,
     jobs: Vec<Spec<P::Id>>,
-    values: Vec<(P::Id, Settled<P::Value>)>,
+    values: Values<P::Id, P::Value>,
+    // For each value the places of the jobs that it added: the first of them, and the next after
+    // the last.
+    ranges: Vec<(usize, usize)>,
     outs: Vec<Option<P::Id>>,
     halted: Vec<bool>,
     any_halted: bool,
@@ -42,15 +47,16 @@ pub struct Board<P: Plan> {
 
 impl<P: Plan> Model for Board<P> {
     ghost use Rattle.std.specs.Prelude.{map};
-    ghost use Rattle.job_graph.specs.BoardView.{BoardView, IsBoard};
+    ghost use Rattle.job_graph.specs.BoardView.{BoardView, IsKept};
     ghost use Rattle.job_graph.specs.Rounds.{state_from};
 
     ghost Value = { BoardView P P.Id };
 
     ghost view = { λ b. record { plan = b.plan; workers = b.workers; events = b.events.items } };
 
-    ghost invariant = { λ b. IsBoard P.Id.eq (P.meaning b.plan) b.workers b.events
-        (state_from b.jobs.items b.values.items) b.outs.items b.halted.items b.any_halted };
+    ghost invariant = { λ b. IsKept P.Id.eq (P.meaning b.plan) b.workers b.events
+        (state_from b.jobs.items b.values) b.outs.items b.halted.items b.any_halted b.ranges.items
+        };
 }
 
 impl<P: Plan> Board<P> {
@@ -77,7 +83,8 @@ impl<P: Plan> Board<P> {
             workers,
             events,
             jobs,
-            values: Vec::new(alloc),
+            values: Values::new(alloc),
+            ranges: Vec::new(alloc),
             outs,
             halted,
             any_halted: false,
@@ -100,7 +107,7 @@ impl<P: Plan> Board<P> {
             alloc,
             &self.plan,
             self.jobs.as_slice(),
-            self.values.as_slice(),
+            &self.values,
             self.events.as_slice(),
         );
         match next {
@@ -145,24 +152,33 @@ impl<P: Plan> Board<P> {
             self.new.events }
     {
         let id = *ticket.id();
-        let event = Event::Finish(worker, id);
         let count = outcome.added.len();
         let halted = self.halted.as_slice();
         if !lists::make_room(
-            &mut self.values,
+            &mut self.ranges,
             &mut self.jobs,
             count,
             &mut self.events,
             halted,
-            event,
         ) {
             return Err(Unfinished { ticket, outcome });
         }
         let Outcome { value, added } = outcome;
-        self.values.push_reserved((id, value));
-        lists::add_all(&mut self.jobs, added.into_vec());
-        self.outs[worker as usize] = None;
-        Ok(())
+        match self.values.push(id, value) {
+            Err(value) => {
+                let outcome = Outcome { value, added };
+                Err(Unfinished { ticket, outcome })
+            }
+            Ok(()) => {
+                self.events.push_reserved(Event::Finish(worker, id));
+                let from = self.jobs.len();
+                lists::add_all(&mut self.jobs, added.into_vec());
+                let to = self.jobs.len();
+                self.ranges.push_reserved((from, to));
+                self.outs[worker as usize] = None;
+                Ok(())
+            }
+        }
     }
 
     /// Stops the board for all. Only a worker's first halt counts. A job that it has out is given
@@ -210,7 +226,7 @@ impl<P: Plan> Board<P> {
         if self.any_halted {
             return End::Halted;
         }
-        if scan::some_ready(&self.plan, self.jobs.as_slice(), self.values.as_slice()) {
+        if scan::some_ready(&self.plan, self.jobs.as_slice(), &self.values) {
             return End::Running;
         }
         if scan::running(self.outs.as_slice(), self.workers) == 0 {
@@ -240,7 +256,7 @@ impl<P: Plan> Board<P> {
             → option_map (λ s. plain s.now) result
                 ≡ value_in P.Id.eq (limit P.Id.eq (P.meaning self.now.plan)) id.now }
     {
-        scan::value_of(self.values.as_slice(), id)
+        self.values.get(id)
     }
 
     /// Whether this is a job that isn't settled; on a board that has ended it never will be. It
@@ -252,6 +268,32 @@ impl<P: Plan> Board<P> {
             ≡ End.Ended
             → result ≡ is_unsettled_job P.Id.eq (limit P.Id.eq (P.meaning self.now.plan)) id.now }
     {
-        scan::has_job(self.jobs.as_slice(), id) && !scan::is_settled(self.values.as_slice(), id)
+        scan::has_job(self.jobs.as_slice(), id) && !scan::is_settled(&self.values, id)
+    }
+
+    /// The jobs that a settled job added, in their order: none where it isn't settled. It takes no
+    /// memory.
+    pub fn added_by(&self, id: &P::Id) -> Option<&[Spec<P::Id>]>
+        ensures settled { is_some result ≡ is_settled P.Id.eq
+            (state_of P.Id.eq (P.meaning self.now.plan) self.now.events) id.now }
+        ensures added { IfSome result (λ jobs. IsAddedOf P.Id.eq (P.meaning self.now.plan) id.now
+            jobs.now) }
+    {
+        match self.values.place(id) {
+            None => None,
+            Some(place) => {
+                let (from, to) = self.ranges[place];
+                Some(lists::part(self.jobs.as_slice(), from, to))
+            }
+        }
+    }
+
+    /// With what a job was added, where a job with this id was. It takes no memory.
+    pub fn access_of(&self, id: &P::Id) -> Option<&Access<P::Id>>
+        ensures { option_map (λ access. access.now) result
+            ≡ access_in P.Id.eq (state_of P.Id.eq (P.meaning self.now.plan) self.now.events) id.now
+            }
+    {
+        scan::access_of(self.jobs.as_slice(), id)
     }
 }

@@ -8,6 +8,7 @@ mod laws;
 mod lists;
 mod plan;
 mod scan;
+mod values;
 
 pub use board::Board;
 pub use claim::{Claim, Ticket, Unfinished, run_claimed};

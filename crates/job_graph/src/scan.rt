@@ -2,6 +2,7 @@
 ghost use Rattle.std.specs.Prelude.{◌≡◌, ℕ, option_map, map, is_some, not, ◌&&◌, ◌||◌, nat_le,
     length, count_by, IfOk, IsTrue, List, true, Some};
 ghost use Rattle.std.specs.List.{list_all, list_any, find};
+ghost use Rattle.access_context.specs.declared.access.Spec.{Spec};
 ghost use Rattle.access_context.specs.Plain.{plain};
 ghost use Rattle.access_context.specs.Read.{plain_item, read_of};
 ghost use Rattle.job_graph.specs.Rounds.{state_from, is_settled, is_done_up_to, awaits_nothing,
@@ -11,37 +12,21 @@ ghost use Rattle.job_graph.specs.Scan.{next_of, IsNext};
 
 use crate::event::Event;
 use crate::plan::Plan;
-use access_context::{Reads, Settled, Spec};
+use crate::values::Values;
+use access_context::{Access, Reads, Settled, Spec};
 use refusal_codes::NoMemory;
 use std::alloc::Global;
 
-/// What came of the job with this id.
-pub fn value_of<'a, Id: Copy + Ord, V>(
-    values: &'a [(Id, Settled<V>)],
-    id: &Id,
-) -> Option<&'a Settled<V>>
-    ensures { option_map (λ s. plain s.now) result
-        ≡ read_of Id.eq (map plain_item values.now) id.now }
-{
-    for item in values {
-        if item.0 == *id {
-            return Some(&item.1);
-        }
-    }
-    None
-}
-
 /// Whether something came of the job with this id.
-pub fn is_settled<Id: Copy + Ord, V>(values: &[(Id, Settled<V>)], id: &Id) -> bool
-    ensures { result ≡ is_some (read_of Id.eq (map plain_item values.now) id.now) }
+pub fn is_settled<Id: Copy + Ord, V: Drop>(values: &Values<Id, V>, id: &Id) -> bool
+    ensures { result ≡ is_some (read_of Id.eq values.now id.now) }
 {
-    value_of(values, id).is_some()
+    values.get(id).is_some()
 }
 
 /// Whether each of these ids is settled.
-pub fn all_settled<Id: Copy + Ord, V>(values: &[(Id, Settled<V>)], ids: &[Id]) -> bool
-    ensures { result ≡ list_all (λ id. is_some (read_of Id.eq (map plain_item values.now) id))
-        ids.now }
+pub fn all_settled<Id: Copy + Ord, V: Drop>(values: &Values<Id, V>, ids: &[Id]) -> bool
+    ensures { result ≡ list_all (λ id. is_some (read_of Id.eq values.now id)) ids.now }
 {
     for id in ids {
         if !is_settled(values, id) {
@@ -54,12 +39,12 @@ pub fn all_settled<Id: Copy + Ord, V>(values: &[(Id, Settled<V>)], ids: &[Id]) -
 /// Whether a job is of a higher stratum, or is settled.
 fn lets_pass<P: Plan>(
     plan: &P,
-    values: &[(P::Id, Settled<P::Value>)],
+    values: &Values<P::Id, P::Value>,
     job: &Spec<P::Id>,
     stratum: u8,
 ) -> bool
     ensures { result ≡ (not (nat_le ((P.meaning plan.now).stratum job.now.id) stratum)
-        || is_some (read_of P.Id.eq (map plain_item values.now) job.now.id)) }
+        || is_some (read_of P.Id.eq values.now job.now.id)) }
 {
     plan.stratum(&job.id) > stratum || is_settled(values, &job.id)
 }
@@ -68,7 +53,7 @@ fn lets_pass<P: Plan>(
 pub fn is_done_up_to<P: Plan>(
     plan: &P,
     jobs: &[Spec<P::Id>],
-    values: &[(P::Id, Settled<P::Value>)],
+    values: &Values<P::Id, P::Value>,
     stratum: u8,
 ) -> bool
     ensures { result ≡ is_done_up_to P.Id.eq (P.meaning plan.now) (state_from jobs.now values.now)
@@ -86,7 +71,7 @@ pub fn is_done_up_to<P: Plan>(
 fn awaits_nothing<P: Plan>(
     plan: &P,
     jobs: &[Spec<P::Id>],
-    values: &[(P::Id, Settled<P::Value>)],
+    values: &Values<P::Id, P::Value>,
     awaits: Option<u8>,
 ) -> bool
     ensures { result ≡ awaits_nothing P.Id.eq (P.meaning plan.now) (state_from jobs.now values.now)
@@ -102,7 +87,7 @@ fn awaits_nothing<P: Plan>(
 pub fn is_ready<P: Plan>(
     plan: &P,
     jobs: &[Spec<P::Id>],
-    values: &[(P::Id, Settled<P::Value>)],
+    values: &Values<P::Id, P::Value>,
     job: &Spec<P::Id>,
 ) -> bool
     ensures { result ≡ is_ready P.Id.eq (P.meaning plan.now) (state_from jobs.now values.now)
@@ -117,7 +102,7 @@ pub fn is_ready<P: Plan>(
 pub fn some_ready<P: Plan>(
     plan: &P,
     jobs: &[Spec<P::Id>],
-    values: &[(P::Id, Settled<P::Value>)],
+    values: &Values<P::Id, P::Value>,
 ) -> bool
     ensures { result ≡ some_ready P.Id.eq (P.meaning plan.now) (state_from jobs.now values.now) }
 {
@@ -155,7 +140,7 @@ pub fn was_claimed<Id: Copy + Ord>(events: &[Event<Id>], id: &Id) -> bool
 fn is_claimable<P: Plan>(
     plan: &P,
     jobs: &[Spec<P::Id>],
-    values: &[(P::Id, Settled<P::Value>)],
+    values: &Values<P::Id, P::Value>,
     events: &[Event<P::Id>],
     job: &Spec<P::Id>,
 ) -> bool
@@ -169,7 +154,7 @@ fn is_claimable<P: Plan>(
 pub fn next_job<'a, P: Plan>(
     plan: &P,
     jobs: &'a [Spec<P::Id>],
-    values: &[(P::Id, Settled<P::Value>)],
+    values: &Values<P::Id, P::Value>,
     events: &[Event<P::Id>],
 ) -> Option<&'a Spec<P::Id>>
     ensures { option_map (λ job. job.now) result
@@ -196,6 +181,19 @@ pub fn has_job<Id: Copy + Ord>(jobs: &[Spec<Id>], id: &Id) -> bool
     false
 }
 
+/// With what the job with this id was added.
+pub fn access_of<'a, Id: Copy + Ord>(jobs: &'a [Spec<Id>], id: &Id) -> Option<&'a Access<Id>>
+    ensures { option_map (λ access. access.now) result
+        ≡ option_map (λ (job : Spec Id). job.access) (find (has_id Id.eq id.now) jobs.now) }
+{
+    for job in jobs {
+        if job.id == *id {
+            return Some(&job.access);
+        }
+    }
+    None
+}
+
 /// How many workers have a job out.
 pub fn running<Id: Copy>(outs: &[Option<Id>], workers: u32) -> u32
     requires { length outs.now ≡ workers }
@@ -213,12 +211,12 @@ pub fn running<Id: Copy>(outs: &[Option<Id>], workers: u32) -> u32
 /// What came of a job that is settled.
 fn copy_of<Id: Copy + Ord, V: Drop>(
     alloc: Global,
-    values: &[(Id, Settled<V>)],
+    values: &Values<Id, V>,
     id: &Id,
 ) -> Result<Settled<V>, NoMemory>
-    ensures { IfOk result (λ s. plain s ≡ (item_of Id.eq (map plain_item values.now) id.now).1) }
+    ensures { IfOk result (λ s. plain s ≡ (item_of Id.eq values.now id.now).1) }
 {
-    match value_of(values, id) {
+    match values.get(id) {
         Some(settled) => settled.copy(alloc),
         None => Ok(Settled::Blocked),
     }
@@ -227,11 +225,11 @@ fn copy_of<Id: Copy + Ord, V: Drop>(
 /// What a job reads; an item that isn't settled counts as blocked.
 pub fn reads_of<Id: Copy + Ord, V: Drop>(
     alloc: Global,
-    values: &[(Id, Settled<V>)],
+    values: &Values<Id, V>,
     ids: &[Id],
 ) -> Result<Vec<(Id, Settled<V>)>, NoMemory>
     ensures { IfOk result (λ reads. map plain_item reads.items
-        ≡ map (item_of Id.eq (map plain_item values.now)) ids.now) }
+        ≡ map (item_of Id.eq values.now) ids.now) }
 {
     let mut reads = Vec::with_capacity(alloc, ids.len())?;
     for id in ids {
@@ -245,7 +243,7 @@ pub fn next_run<P: Plan>(
     alloc: Global,
     plan: &P,
     jobs: &[Spec<P::Id>],
-    values: &[(P::Id, Settled<P::Value>)],
+    values: &Values<P::Id, P::Value>,
     events: &[Event<P::Id>],
 ) -> Result<Option<(P::Id, Reads<P::Id, P::Value>)>, NoMemory>
     ensures { IfOk result (λ next. IsNext P.Id.eq (P.meaning plan.now)

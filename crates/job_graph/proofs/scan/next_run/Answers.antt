@@ -1,5 +1,4 @@
 use Rattle.std.proofs.Common.{map, refl, sym, ap, ◌∙◌}
-use Rattle.access_context.specs.Read.{plain_item}
 use Rattle.job_graph.specs.Rounds.{item_of}
 use Rattle.job_graph.proofs.scan.next_run.Goals as goal
 
@@ -9,6 +8,5 @@ returns-in_ok-indexed-in-Some g c = (
   sym c.in-Some.ensures,
   refl,
   c.in_ok-indexed-in-Some.ensures ∙ (c.in_ok-reads-in-Some.ensures
-      ∙ ap (λ ids. map (item_of g.P.Id.PartialEq.eq (map plain_item c.args.values.now)) ids)
-      c.as_slice.ensures),
+      ∙ ap (λ ids. map (item_of g.P.Id.PartialEq.eq c.args.values.now) ids) c.as_slice.ensures),
 )

@@ -10,32 +10,31 @@ use Rattle.job_graph.proofs.board.Board.claim.Goals as goal
 
 pub returns-then-self-clause-answer : goal.returns-then-self-clause-answer
 returns-then-self-clause-answer g c = (rw (← c.self.view_is)
-    (sym c.self.invariant.any_is ∙ c.if-self.true), refl)
+    (sym c.self.invariant.board.any_is ∙ c.if-self.true), refl)
 
 pub returns-then-self-clause-history : goal.returns-then-self-clause-history
 returns-then-self-clause-history g c = rw (← c.self.view_is)
-    (board_history _ _ _ (g.met.P.Plan.lawful c.self.inside.plan) _ _ _ _ _ c.self.invariant)
+    (board_history _ _ _ (g.met.P.Plan.lawful c.self.inside.plan) _ _ _ _ _ c.self.invariant.board)
 
 pub returns-in-Err-clause-history : goal.returns-in-Err-clause-history
 returns-in-Err-clause-history g c = rw (← c.self.view_is)
-    (board_history _ _ _ (g.met.P.Plan.lawful c.self.inside.plan) _ _ _ _ _ c.self.invariant)
+    (board_history _ _ _ (g.met.P.Plan.lawful c.self.inside.plan) _ _ _ _ _ c.self.invariant.board)
 
 pub running-count-requires : goal.running-count-requires
 running-count-requires g c = ap length c.as_slice-in-Ok-None.ensures.value
-    ∙ length_outs _ _ _ (g.met.P.Plan.lawful c.self.inside.plan) _ _ _ _ _ c.self.invariant
+    ∙ length_outs _ _ _ (g.met.P.Plan.lawful c.self.inside.plan) _ _ _ _ _ c.self.invariant.board
 
 pub returns-then-count-gt0-clause-answer : goal.returns-then-count-gt0-clause-answer
 returns-then-count-gt0-clause-answer g c = (
-  rw (← c.self.view_is) (sym c.self.invariant.any_is ∙ c.if-self.false),
+  rw (← c.self.view_is) (sym c.self.invariant.board.any_is ∙ c.if-self.false),
   rw (← c.self.view_is) (none_claimable _ _ _ (g.met.P.Plan.lawful c.self.inside.plan) _ _ _ _ _
-      c.self.invariant (next_none g.P.Id.PartialEq.eq (g.P.Plan.meaning c.self.inside.plan)
-      (state_from c.self.inside.jobs.items c.self.inside.values.items) c.self.inside.events.items
+      c.self.invariant.board (next_none g.P.Id.PartialEq.eq (g.P.Plan.meaning c.self.inside.plan)
+      (state_from c.self.inside.jobs.items c.self.inside.values) c.self.inside.events.items
       c.in-Ok-None.field-0 (next_moved g.P.Id.PartialEq.eq (g.P.Plan.meaning c.self.inside.plan)
-      c.as_slice.result.now c.self.inside.jobs.items c.as_slice-2.result.now
-      c.self.inside.values.items c.as_slice-3.result.now c.self.inside.events.items
-      c.as_slice.ensures.value c.as_slice-2.ensures.value c.as_slice-3.ensures.value
+      c.as_slice.result.now c.self.inside.jobs.items c.self.inside.values c.as_slice-2.result.now
+      c.self.inside.events.items c.as_slice.ensures.value c.as_slice-2.ensures.value
       c.in-Ok-None.field-0 c.in-Ok-None.ensures) c.in-Ok-None.field-0-is)),
-  rw (← c.self.view_is) (sym (ap (count_by is_some) c.self.invariant.outs_are)
+  rw (← c.self.view_is) (sym (ap (count_by is_some) c.self.invariant.board.outs_are)
       ∙ sym (c.running-count.ensures ∙ ap (count_by is_some) c.as_slice-in-Ok-None.ensures.value)),
   c.if-count-gt0.true,
   refl,
@@ -44,19 +43,18 @@ returns-then-count-gt0-clause-answer g c = (
 pub returns-then-count-gt0-clause-history : goal.returns-then-count-gt0-clause-history
 returns-then-count-gt0-clause-history g c
     = rw (← c.self.view_is) (board_history _ _ _ (g.met.P.Plan.lawful c.self.inside.plan) _ _ _ _ _
-    c.self.invariant)
+    c.self.invariant.board)
 
 pub returns-else-count-gt0-clause-answer : goal.returns-else-count-gt0-clause-answer
 returns-else-count-gt0-clause-answer g c =
     let zero_runs : c.running-count.result ≡ 0 = omega (arith, c.if-count-gt0.false) in
     (rw (← c.self.view_is) (has_ended _ _ _ (g.met.P.Plan.lawful c.self.inside.plan) _ _ _ _ _
-        c.self.invariant c.if-self.false (next_none g.P.Id.PartialEq.eq
-        (g.P.Plan.meaning c.self.inside.plan)
-        (state_from c.self.inside.jobs.items c.self.inside.values.items) c.self.inside.events.items
+        c.self.invariant.board c.if-self.false
+        (next_none g.P.Id.PartialEq.eq (g.P.Plan.meaning c.self.inside.plan)
+        (state_from c.self.inside.jobs.items c.self.inside.values) c.self.inside.events.items
         c.in-Ok-None.field-0 (next_moved g.P.Id.PartialEq.eq (g.P.Plan.meaning c.self.inside.plan)
-        c.as_slice.result.now c.self.inside.jobs.items c.as_slice-2.result.now
-        c.self.inside.values.items c.as_slice-3.result.now c.self.inside.events.items
-        c.as_slice.ensures.value c.as_slice-2.ensures.value c.as_slice-3.ensures.value
+        c.as_slice.result.now c.self.inside.jobs.items c.self.inside.values c.as_slice-2.result.now
+        c.self.inside.events.items c.as_slice.ensures.value c.as_slice-2.ensures.value
         c.in-Ok-None.field-0 c.in-Ok-None.ensures) c.in-Ok-None.field-0-is)
         (sym (c.running-count.ensures ∙ ap (count_by is_some) c.as_slice-in-Ok-None.ensures.value)
         ∙ zero_runs)), refl)
@@ -64,14 +62,14 @@ returns-else-count-gt0-clause-answer g c =
 pub returns-else-count-gt0-clause-history : goal.returns-else-count-gt0-clause-history
 returns-else-count-gt0-clause-history g c
     = rw (← c.self.view_is) (board_history _ _ _ (g.met.P.Plan.lawful c.self.inside.plan) _ _ _ _ _
-    c.self.invariant)
+    c.self.invariant.board)
 
 pub note-requires : goal.note-requires
-note-requires g c = rw c.as_slice-in-Ok-Some.ensures.value c.self.invariant.room
+note-requires g c = rw c.as_slice-in-Ok-Some.ensures.value c.self.invariant.board.room
 
 pub index_mut-requires : goal.index_mut-requires
 index_mut-requires g c = omega (arith, c.self.inside.outs.ok.0, out_within _ _ _
-    (g.met.P.Plan.lawful c.self.inside.plan) _ _ _ _ _ c.self.invariant c.args.worker _
+    (g.met.P.Plan.lawful c.self.inside.plan) _ _ _ _ _ c.self.invariant.board c.args.worker _
     (rw (← c.self.view_is) at c.requires.free))
 
 pub invariant_of-self : goal.invariant_of-self
@@ -79,36 +77,41 @@ invariant_of-self g c =
     let lt : c.args.worker < c.self.inside.workers
         = (let e = same_workers _ _ c.self.view_is in omega (arith, c.requires.known)) in
     let next = next_some g.P.Id.PartialEq.eq (g.P.Plan.meaning c.self.inside.plan)
-        (state_from c.self.inside.jobs.items c.self.inside.values.items) c.self.inside.events.items
+        (state_from c.self.inside.jobs.items c.self.inside.values) c.self.inside.events.items
         c.in-Ok-Some.field-0 c.in-Ok-Some.id c.in-Ok-Some.reads
         (next_moved g.P.Id.PartialEq.eq (g.P.Plan.meaning c.self.inside.plan) c.as_slice.result.now
-        c.self.inside.jobs.items c.as_slice-2.result.now c.self.inside.values.items
-        c.as_slice-3.result.now c.self.inside.events.items c.as_slice.ensures.value
-        c.as_slice-2.ensures.value c.as_slice-3.ensures.value c.in-Ok-Some.field-0
-        c.in-Ok-Some.ensures) c.in-Ok-Some.field-0-is in
-    board_claim _ _ _ (g.met.P.Plan.lawful c.self.inside.plan) _ _ _ _ _ c.self.invariant
-        c.args.worker c.in-Ok-Some.id lt (rw (← c.self.view_is) at c.requires.free) c.if-self.false
-        next.0 next.1 next.2 c.note.new.events c.if-note.ensures.items
-        (rw c.as_slice-in-Ok-Some.ensures.value at c.note.ensures.room)
+        c.self.inside.jobs.items c.self.inside.values c.as_slice-2.result.now
+        c.self.inside.events.items c.as_slice.ensures.value c.as_slice-2.ensures.value
+        c.in-Ok-Some.field-0 c.in-Ok-Some.ensures) c.in-Ok-Some.field-0-is in
+    record {
+      board = board_claim _ _ _ (g.met.P.Plan.lawful c.self.inside.plan) _ _ _ _ _
+          c.self.invariant.board c.args.worker c.in-Ok-Some.id lt
+          (rw (← c.self.view_is) at c.requires.free) c.if-self.false next.0 next.1 next.2
+          c.note.new.events c.if-note.ensures.items
+          (rw c.as_slice-in-Ok-Some.ensures.value at c.note.ensures.room);
+      rows = c.self.invariant.rows;
+    }
 
 pub invariant_of-self-else-note : goal.invariant_of-self-else-note
-invariant_of-self-else-note g c = board_same _ _ _ _ c.note.new.events _ _ _ _ c.self.invariant
-    c.if-note.ensures.items (rw c.as_slice-in-Ok-Some.ensures.value at c.note.ensures.room)
+invariant_of-self-else-note g c = record {
+  board = board_same _ _ _ _ c.note.new.events _ _ _ _ c.self.invariant.board
+      c.if-note.ensures.items (rw c.as_slice-in-Ok-Some.ensures.value at c.note.ensures.room);
+  rows = c.self.invariant.rows;
+}
 
 pub returns-then-note-clause-answer : goal.returns-then-note-clause-answer
 returns-then-note-clause-answer g c =
     let next = next_some g.P.Id.PartialEq.eq (g.P.Plan.meaning c.self.inside.plan)
-        (state_from c.self.inside.jobs.items c.self.inside.values.items) c.self.inside.events.items
+        (state_from c.self.inside.jobs.items c.self.inside.values) c.self.inside.events.items
         c.in-Ok-Some.field-0 c.in-Ok-Some.id c.in-Ok-Some.reads
         (next_moved g.P.Id.PartialEq.eq (g.P.Plan.meaning c.self.inside.plan) c.as_slice.result.now
-        c.self.inside.jobs.items c.as_slice-2.result.now c.self.inside.values.items
-        c.as_slice-3.result.now c.self.inside.events.items c.as_slice.ensures.value
-        c.as_slice-2.ensures.value c.as_slice-3.ensures.value c.in-Ok-Some.field-0
-        c.in-Ok-Some.ensures) c.in-Ok-Some.field-0-is in (
-      rw (← c.self.view_is) (sym c.self.invariant.any_is ∙ c.if-self.false),
+        c.self.inside.jobs.items c.self.inside.values c.as_slice-2.result.now
+        c.self.inside.events.items c.as_slice.ensures.value c.as_slice-2.ensures.value
+        c.in-Ok-Some.field-0 c.in-Ok-Some.ensures) c.in-Ok-Some.field-0-is in (
+      rw (← c.self.view_is) (sym c.self.invariant.board.any_is ∙ c.if-self.false),
       rw (← c.self.view_is) (hands_out _ _ _ (g.met.P.Plan.lawful c.self.inside.plan) _ _ _ _ _
-          c.self.invariant c.of.result next.0 next.1 (next.2 ∙ sym c.of.ensures) c.in-Ok-Some.reads
-          next.3),
+          c.self.invariant.board c.of.result next.0 next.1 (next.2 ∙ sym c.of.ensures)
+          c.in-Ok-Some.reads next.3),
       view_push _ _ (event.Claim c.args.worker c.of.result) _ c.self.view_is
           (c.if-note.ensures.items ∙ ap (λ k. c.self.inside.events.items
           ++ event.Claim c.args.worker k ∷ []) (sym c.of.ensures)),
@@ -124,15 +127,14 @@ returns-then-note-clause-history g c =
     let lt : c.args.worker < c.self.inside.workers
         = (let e = same_workers _ _ c.self.view_is in omega (arith, c.requires.known)) in
     let next = next_some g.P.Id.PartialEq.eq (g.P.Plan.meaning c.self.inside.plan)
-        (state_from c.self.inside.jobs.items c.self.inside.values.items) c.self.inside.events.items
+        (state_from c.self.inside.jobs.items c.self.inside.values) c.self.inside.events.items
         c.in-Ok-Some.field-0 c.in-Ok-Some.id c.in-Ok-Some.reads
         (next_moved g.P.Id.PartialEq.eq (g.P.Plan.meaning c.self.inside.plan) c.as_slice.result.now
-        c.self.inside.jobs.items c.as_slice-2.result.now c.self.inside.values.items
-        c.as_slice-3.result.now c.self.inside.events.items c.as_slice.ensures.value
-        c.as_slice-2.ensures.value c.as_slice-3.ensures.value c.in-Ok-Some.field-0
-        c.in-Ok-Some.ensures) c.in-Ok-Some.field-0-is in
+        c.self.inside.jobs.items c.self.inside.values c.as_slice-2.result.now
+        c.self.inside.events.items c.as_slice.ensures.value c.as_slice-2.ensures.value
+        c.in-Ok-Some.field-0 c.in-Ok-Some.ensures) c.in-Ok-Some.field-0-is in
     board_history _ _ _ (g.met.P.Plan.lawful c.self.inside.plan) _ _ _ _ _
-        (board_claim _ _ _ (g.met.P.Plan.lawful c.self.inside.plan) _ _ _ _ _ c.self.invariant
+        (board_claim _ _ _ (g.met.P.Plan.lawful c.self.inside.plan) _ _ _ _ _ c.self.invariant.board
         c.args.worker c.in-Ok-Some.id lt (rw (← c.self.view_is) at c.requires.free) c.if-self.false
         next.0 next.1 next.2 c.note.new.events c.if-note.ensures.items
         (rw c.as_slice-in-Ok-Some.ensures.value at c.note.ensures.room))
@@ -142,5 +144,5 @@ returns-else-note-clause-answer g c = view_same _ _ _ c.self.view_is c.if-note.e
 
 pub returns-else-note-clause-history : goal.returns-else-note-clause-history
 returns-else-note-clause-history g c = board_history _ _ _ (g.met.P.Plan.lawful c.self.inside.plan)
-    _ _ _ _ _ (board_same _ _ _ _ c.note.new.events _ _ _ _ c.self.invariant c.if-note.ensures.items
-    (rw c.as_slice-in-Ok-Some.ensures.value at c.note.ensures.room))
+    _ _ _ _ _ (board_same _ _ _ _ c.note.new.events _ _ _ _ c.self.invariant.board
+    c.if-note.ensures.items (rw c.as_slice-in-Ok-Some.ensures.value at c.note.ensures.room))
