@@ -1,18 +1,16 @@
 -- The jobs that each value added stand in a row.
 use Rattle.std.proofs.Common.{◌≡◌, ℕ, zero, suc, ◌+◌, ◌-◌, ◌≤◌, Bool, true, false, ◌⊎◌, inl, inr,
-    List, [], ◌∷◌, ◌++◌, length, take, drop, get_or, Option, Some, None, is_some, refl, sym, ap,
-    ◌∙◌, subst, arith}
+    List, [], ◌∷◌, ◌++◌, length, take, drop, get_or, Some, None, is_some, refl, sym, ap, ◌∙◌, subst,
+    arith}
 use Rattle.std.specs.Prelude.{slice_get, slice_range, ◌<◌}
 use Rattle.std.proofs.Math.Seq.{drop-append_seam, take-length}
 use Rattle.std.proofs.lemmas.List.{length-append, length-drop, take-append-le, drop-append-le}
 use Rattle.std.proofs.lemmas.Option.{slice_get_within, slice_get-get_or}
 use Rattle.access_context.specs.declared.access.Spec.{Spec}
 use Rattle.access_context.specs.Plain.{Plain}
-use Rattle.access_context.specs.Read.{read_of}
 use Rattle.access_context.specs.Places.{place_from}
 use Rattle.job_graph.specs.Meaning.{Meaning}
-use Rattle.job_graph.specs.Rounds.{State, state_from, is_settled, IsOutcomeOf, IsAddedOf}
-use Rattle.job_graph.specs.Laws.{IsLawful}
+use Rattle.job_graph.specs.Rounds.{state_from, is_settled, IsOutcomeOf, IsAddedOf}
 use Rattle.job_graph.specs.BoardView.{IsRange, AreRanges}
 use Rattle.job_graph.proofs.Places.{stands, unread}
 

@@ -8,8 +8,11 @@ use Rattle.job_graph.specs.declared.event.Event.{Event}
 use Rattle.job_graph.specs.declared.event.Event.TheVariants as event
 use Rattle.access_context.specs.declared.access.Spec.{Spec}
 use Rattle.access_context.specs.Plain.{Plain}
+use Rattle.std.specs.declared.cmp.Ordering.{Ordering}
 use Rattle.job_graph.specs.Meaning.{Meaning}
 use Rattle.job_graph.specs.Rounds.{State, IsAddedOf}
+use Rattle.job_graph.specs.declared.agenda.Agenda.{Agenda}
+use Rattle.job_graph.specs.Agenda.{IsAgenda, ArePassed}
 use Rattle.job_graph.specs.Histories.{has_halted, out_of, out_at, state_of, is_run}
 
 -- the plan, how many workers there are, and what happened
@@ -64,8 +67,13 @@ pub record AreRanges {Id V : Type 0} (same : Id → Id → Bool) (plan : Meaning
       → IsRange same plan state.jobs value.0 range
 
 -- all that a board keeps
-pub record IsKept {Id V : Type 0} (same : Id → Id → Bool) (plan : Meaning Id V) (workers : ℕ)
-    (events : Vec (Event Id) Global) (state : State Id V) (outs : List (Option Id))
-    (halted : List Bool) (any_halted : Bool) (ranges : List (ℕ × ℕ)) : Type 0 where
+pub record IsKept {Id V : Type 0} (same : Id → Id → Bool) (order : Id → Id → Ordering)
+    (plan : Meaning Id V) (workers : ℕ) (events : Vec (Event Id) Global) (state : State Id V)
+    (outs : List (Option Id)) (halted : List Bool) (any_halted : Bool) (ranges : List (ℕ × ℕ))
+    (agenda : Agenda Id) (passed : List ℕ) : Type 0 where
   pub board : IsBoard same plan workers events state outs halted any_halted
   pub rows : AreRanges same plan state ranges
+  -- while nobody halted, the agenda says what is to be done
+  pub tasks : any_halted ≡ false → IsAgenda same order state outs agenda
+  pub strata : ArePassed same plan state passed
+  pub count : length passed ≡ 257

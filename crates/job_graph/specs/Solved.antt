@@ -1,8 +1,7 @@
 -- A solved plan keeps the laws of plans, and its limit is what the solution says. Lemmas for the
 -- plans of crates above.
-use Rattle.std.proofs.Common.{◌≡◌, ℕ, suc, ◌<◌, ◌≤◌, Bool, true, false, not, ◌||◌, nat_le, ◌⊎◌, inl,
-    inr, List, [], ◌∷◌, ◌++◌, map, Option, Some, None, is_some, unwrap_or, refl, sym, ap, ◌∙◌,
-    subst, cond, arith}
+use Rattle.std.proofs.Common.{◌≡◌, ℕ, ◌≤◌, Bool, true, false, not, ◌||◌, nat_le, inl, inr, List, [],
+    ◌∷◌, map, Option, Some, None, is_some, unwrap_or, refl, sym, ap, ◌∙◌, subst, cond, arith}
 use Rattle.std.specs.Prelude.{Contains}
 use Rattle.std.specs.List.{list_all}
 use Rattle.std.proofs.lemmas.Bool.{and_parts, and_from, or_left, or_right, false≢true, cases_Bool,
@@ -14,13 +13,11 @@ use Rattle.job_graph.specs.Meaning.{Meaning}
 use Rattle.job_graph.specs.Rounds.{State, value_in, is_settled, item_in, reads_in, is_done_up_to,
     awaits_nothing, is_ready, blocked, outcome_of, outcome_in, rounds, limit}
 use Rattle.job_graph.specs.Laws.{IsLawful}
-use Rattle.job_graph.specs.Solutions.{solved_outcome, Founded, opened, added, IsMade, IsSolution,
-    IsSolved}
+use Rattle.job_graph.specs.Solutions.{solved_outcome, Founded, opened, added, IsSolution, IsSolved}
 use Rattle.job_graph.specs.Members.{In, In-append_cases, In-from_Contains, Contains-from_In,
     list_all-In, list_all-from, map_agree}
-use Rattle.job_graph.specs.Growth.{none≢some, some_of, read_of-push_cases, Within, within_itself,
-    within_through, all_settled_within, outcome_within, ready_reads, ready_awaits, settle,
-    within_settle, Grown, begun, grown, opening_in}
+use Rattle.job_graph.specs.Growth.{none≢some, some_of, read_of-push_cases, ready_reads,
+    ready_awaits, Grown, begun, grown, opening_in}
 use Rattle.job_graph.specs.Confluence.{nil_append, Comes, comes, settled_up_to}
 use Rattle.job_graph.specs.Limit.{rounds_grown, limit_grown, limit_over, none_ready}
 

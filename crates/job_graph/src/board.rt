@@ -7,11 +7,13 @@ ghost use Rattle.job_graph.specs.Rounds.{value_in, is_settled, is_unsettled_job,
 ghost use Rattle.job_graph.specs.Histories.{is_halt_of, out_at, state_of, end_of};
 ghost use Rattle.job_graph.specs.Promises.{IsHistory, IsComplete};
 
+use crate::agenda::Agenda;
 use crate::claim::{Claim, Ticket, Unfinished};
 use crate::event::{End, Event};
 use crate::plan::Plan;
+use crate::queues::QUEUES;
 use crate::values::Values;
-use crate::{lists, scan};
+use crate::{lists, scan, strata, turns};
 use access_context::{Access, Outcome, Settled, Spec};
 use refusal_codes::NoMemory;
 use std::alloc::Global;
@@ -43,6 +45,9 @@ pub struct Board<P: Plan> {
     outs: Vec<Option<P::Id>>,
     halted: Vec<bool>,
     any_halted: bool,
+    agenda: Agenda<P::Id>,
+    // For each queue of the agenda, how many of the first jobs are known not to hold it up.
+    passed: Vec<usize>,
 }
 
 impl<P: Plan> Model for Board<P> {
@@ -54,9 +59,9 @@ impl<P: Plan> Model for Board<P> {
 
     ghost view = { λ b. record { plan = b.plan; workers = b.workers; events = b.events.items } };
 
-    ghost invariant = { λ b. IsKept P.Id.eq (P.meaning b.plan) b.workers b.events
+    ghost invariant = { λ b. IsKept P.Id.eq P.Id.cmp (P.meaning b.plan) b.workers b.events
         (state_from b.jobs.items b.values) b.outs.items b.halted.items b.any_halted b.ranges.items
-        };
+        b.agenda b.passed.items };
 }
 
 impl<P: Plan> Board<P> {
@@ -78,6 +83,8 @@ impl<P: Plan> Board<P> {
         let events = Vec::with_capacity(alloc, count)?;
         let outs = lists::none_out(alloc, count)?;
         let halted = lists::none_halted(alloc, count)?;
+        let agenda = Agenda::new(alloc)?;
+        let passed = strata::none_passed(alloc, QUEUES)?;
         Ok(Board {
             plan,
             workers,
@@ -88,6 +95,8 @@ impl<P: Plan> Board<P> {
             outs,
             halted,
             any_halted: false,
+            agenda,
+            passed,
         })
     }
 
@@ -103,12 +112,14 @@ impl<P: Plan> Board<P> {
         if self.any_halted {
             return Claim::Halted;
         }
-        let next = scan::next_run(
+        let next = turns::next_run(
+            &mut self.agenda,
+            &mut self.passed,
             alloc,
             &self.plan,
             self.jobs.as_slice(),
             &self.values,
-            self.events.as_slice(),
+            self.outs.as_slice(),
         );
         match next {
             Err(_) => Claim::NoMemory,
@@ -119,9 +130,11 @@ impl<P: Plan> Board<P> {
                 }
                 Claim::Ended
             }
-            Ok(Some((id, reads))) => {
+            Ok(Some((turn, reads))) => {
+                let id = turn.id;
                 let event = Event::Claim(worker, id);
                 if lists::note(&mut self.events, self.halted.as_slice(), event) {
+                    self.agenda.hand_out(turn);
                     self.outs[worker as usize] = Some(id);
                     Claim::Run(Ticket::of(id), reads)
                 } else {
@@ -226,13 +239,20 @@ impl<P: Plan> Board<P> {
         if self.any_halted {
             return End::Halted;
         }
-        if scan::some_ready(&self.plan, self.jobs.as_slice(), &self.values) {
+        if scan::running(self.outs.as_slice(), self.workers) > 0 {
             return End::Running;
         }
-        if scan::running(self.outs.as_slice(), self.workers) == 0 {
-            End::Ended
-        } else {
+        if turns::some_left(
+            &self.agenda,
+            self.passed.as_slice(),
+            &self.plan,
+            self.jobs.as_slice(),
+            &self.values,
+            self.outs.as_slice(),
+        ) {
             End::Running
+        } else {
+            End::Ended
         }
     }
 

@@ -1,6 +1,6 @@
 // What came of jobs, found by their ids.
 ghost use Rattle.std.specs.Prelude.{◌≡◌, ℕ, Option, option_map, map, Some, None, true, false, [],
-    ◌∷◌, ◌++◌, OnOk, OnErr, IfErr, if◌then◌else◌};
+    ◌∷◌, ◌++◌, OnOk, OnErr, IfErr, length, slice_get, ◌<◌, if◌then◌else◌};
 ghost use Rattle.std.specs.BTreeMap as tree;
 ghost use Rattle.access_context.specs.Plain.{plain};
 ghost use Rattle.access_context.specs.Read.{plain_item, read_of};
@@ -65,6 +65,21 @@ impl<Id: Copy + Ord, V: Drop> Values<Id, V> {
         }
     }
 
+    /// How many jobs are settled.
+    pub fn len(&self) -> usize
+        ensures { result ≡ length self.now }
+    {
+        self.items.len()
+    }
+
+    /// The job whose value stands at a place.
+    pub fn id_at(&self, place: usize) -> Id
+        requires { place < length self.now }
+        ensures { option_map (λ item. item.0) (slice_get self.now place) ≡ Some result }
+    {
+        self.items[place].0
+    }
+
     /// Adds what came of a job. Where memory runs out, nothing is added and it comes back.
     pub fn push(&mut self, id: Id, value: Settled<V>) -> Result<(), Settled<V>>
         ensures ok { OnOk result (self.new ≡ self.old ++ (id, plain value) ∷ []) }
@@ -84,7 +99,7 @@ impl<Id: Copy + Ord, V: Drop> Values<Id, V> {
 }
 
 /// Tells an index of one more item, unless an item with its id stands before it.
-fn note_place<Id: Copy + Ord>(places: &mut BTreeMap<Id, usize>, id: Id, place: usize) -> bool
+pub fn note_place<Id: Copy + Ord>(places: &mut BTreeMap<Id, usize>, id: Id, place: usize) -> bool
     ensures noted { result ≡ true → (q : Id)
         → tree.get Id.cmp places.new q ≡ first_of (tree.get Id.cmp places.old q)
         (if Id.eq id q then Some place else None) }

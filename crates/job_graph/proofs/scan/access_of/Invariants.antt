@@ -1,8 +1,6 @@
 -- what is found among the jobs that are left is what is found among all
 use Rattle.std.proofs.Common.{◌≡◌, drop}
-use Rattle.std.specs.Prelude.{option_map}
 use Rattle.std.specs.List.{find}
-use Rattle.access_context.specs.declared.access.Spec.{Spec}
 use Rattle.job_graph.specs.Rounds.{has_id}
 use Rattle.job_graph.proofs.scan.access_of.Given as goal
 

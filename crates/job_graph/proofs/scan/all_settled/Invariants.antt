@@ -1,4 +1,4 @@
-use Rattle.std.proofs.Common.{◌≡◌, drop, map, is_some}
+use Rattle.std.proofs.Common.{◌≡◌, drop, is_some}
 use Rattle.std.specs.List.{list_all}
 use Rattle.access_context.specs.Read.{read_of}
 use Rattle.job_graph.proofs.scan.all_settled.Given as goal

@@ -1,4 +1,4 @@
-use Rattle.std.proofs.Common.{◌≡◌, drop, map, is_some, not, ◌||◌, nat_le}
+use Rattle.std.proofs.Common.{◌≡◌, drop, is_some, not, ◌||◌, nat_le}
 use Rattle.std.specs.List.{list_all}
 use Rattle.access_context.specs.Read.{read_of}
 use Rattle.job_graph.proofs.scan.is_done_up_to.Given as goal

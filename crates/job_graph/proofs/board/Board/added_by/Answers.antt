@@ -1,4 +1,4 @@
-use Rattle.std.proofs.Common.{is_some, sym, ap, ◌∙◌, arith}
+use Rattle.std.proofs.Common.{sym, ap, ◌∙◌, arith}
 use Rattle.job_graph.specs.Rounds.{is_settled}
 use Rattle.job_graph.proofs.Ranges.{row_within, row, row_settled, row_none}
 use Rattle.job_graph.proofs.board.Board.added_by.Goals as goal

@@ -1,4 +1,8 @@
-use Rattle.std.proofs.Common.{◌∷◌, [], ◌++◌, length, Some, None, refl, ap, ◌∙◌, arith}
+use Rattle.std.proofs.Common.{◌∷◌, [], ◌++◌, length, Some, None, refl, sym, ap, ◌∙◌, arith}
+use Rattle.std.specs.Prelude.{slice_set}
+use Rattle.job_graph.specs.Rounds.{state_from}
+use Rattle.job_graph.proofs.Agendas.{agenda_grown, agenda_moved, passed_moved, passed_grown,
+    finish_up, finish_down}
 use Rattle.access_context.specs.Plain.{plain}
 use Rattle.job_graph.specs.declared.event.Event.TheVariants as event
 use Rattle.job_graph.proofs.Boards.{out_within, board_finish_lists, board_kept, board_history,
@@ -15,6 +19,15 @@ invariant_of-self g c = record {
       c.make_room.new.jobs.items c.self.inside.values c.make_room.ensures.jobs refl;
   rows = ranges_same _ _ _ _ _ c.self.invariant.rows c.make_room.new.jobs.items c.self.inside.values
       c.make_room.new.ranges.items c.make_room.ensures.jobs refl c.make_room.ensures.ranges;
+  tasks = λ e. agenda_moved g.P.Id.PartialEq.eq g.P.Id.Ord.cmp (g.P.Plan.meaning c.self.inside.plan)
+      c.self.inside.jobs.items c.make_room.new.jobs.items
+      c.self.inside.values c.self.inside.values c.self.inside.outs.items c.self.inside.outs.items
+      (sym c.make_room.ensures.jobs) refl refl c.self.inside.agenda (c.self.invariant.tasks e);
+  strata = passed_moved g.P.Id.PartialEq.eq g.P.Id.Ord.cmp (g.P.Plan.meaning c.self.inside.plan)
+      c.self.inside.jobs.items c.make_room.new.jobs.items
+      c.self.inside.values c.self.inside.values c.self.inside.outs.items c.self.inside.outs.items
+      (sym c.make_room.ensures.jobs) refl refl c.self.inside.passed.items c.self.invariant.strata;
+  count = c.self.invariant.count;
 }
 
 pub invariant_of-self-in-Err : goal.invariant_of-self-in-Err
@@ -25,6 +38,17 @@ invariant_of-self-in-Err g c = record {
   rows = ranges_same _ _ _ _ _ c.self.invariant.rows c.make_room.new.jobs.items c.push.new.self
       c.make_room.new.ranges.items c.make_room.ensures.jobs c.in-Err.ensures.err
       c.make_room.ensures.ranges;
+  tasks = λ e. agenda_moved g.P.Id.PartialEq.eq g.P.Id.Ord.cmp (g.P.Plan.meaning c.self.inside.plan)
+      c.self.inside.jobs.items c.make_room.new.jobs.items
+      c.self.inside.values c.push.new.self c.self.inside.outs.items c.self.inside.outs.items
+      (sym c.make_room.ensures.jobs) (sym c.in-Err.ensures.err) refl c.self.inside.agenda
+      (c.self.invariant.tasks e);
+  strata = passed_moved g.P.Id.PartialEq.eq g.P.Id.Ord.cmp (g.P.Plan.meaning c.self.inside.plan)
+      c.self.inside.jobs.items c.make_room.new.jobs.items
+      c.self.inside.values c.push.new.self c.self.inside.outs.items c.self.inside.outs.items
+      (sym c.make_room.ensures.jobs) (sym c.in-Err.ensures.err) refl c.self.inside.passed.items
+      c.self.invariant.strata;
+  count = c.self.invariant.count;
 }
 
 pub invariant_of-self-in-Ok : goal.invariant_of-self-in-Ok
@@ -50,8 +74,35 @@ invariant_of-self-in-Ok g c = record {
       (omega (arith, c.len-to.ensures, c.add_all.new.items.ok.0))
       (c.add_all.ensures ∙ (ap (λ xs. xs ++ c.into_vec.result.items) c.make_room.ensures.jobs
       ∙ ap (λ ys. c.self.inside.jobs.items ++ ys) c.into_vec.ensures)) c.in-Ok.ensures.ok
-      (c.push_reserved-in-Ok.ensures.items ∙ ap (λ rs. rs ++ (c.len-from.result, c.len-to.result) ∷ [])
+      (c.push_reserved-in-Ok.ensures.items ∙
+          ap (λ rs. rs ++ (c.len-from.result, c.len-to.result) ∷ [])
       c.make_room.ensures.ranges);
+  tasks = λ e. agenda_grown g.P.Id.PartialEq.eq g.P.Id.Ord.cmp
+      (state_from c.self.inside.jobs.items c.self.inside.values) c.self.inside.outs.items
+      (slice_set c.self.inside.outs.items c.args.worker None) c.args.outcome.added
+      ((c.id-id.result.now, plain c.args.outcome.value) ∷ []) c.self.inside.agenda
+      (c.self.invariant.tasks e) (state_from c.add_all.new.items.items c.push.new.self)
+      (c.add_all.ensures ∙ (ap (λ xs. xs ++ c.into_vec.result.items) c.make_room.ensures.jobs
+      ∙ ap (λ ys. c.self.inside.jobs.items ++ ys) c.into_vec.ensures))
+      c.in-Ok.ensures.ok
+      (finish_up g.P.Id.PartialEq.eq (state_from c.self.inside.jobs.items c.self.inside.values)
+      (state_from c.add_all.new.items.items c.push.new.self) c.self.inside.outs.items c.args.worker
+      c.args.ticket c.id-id.result.now (plain c.args.outcome.value)
+      (rw c.self.invariant.board.outs_are (rw (← c.self.view_is) at c.requires.out))
+      c.id-id.ensures c.in-Ok.ensures.ok)
+      (finish_down g.P.Id.PartialEq.eq (state_from c.self.inside.jobs.items c.self.inside.values)
+      (state_from c.add_all.new.items.items c.push.new.self) c.self.inside.outs.items c.args.worker
+      c.args.ticket c.id-id.result.now (plain c.args.outcome.value)
+      (rw c.self.invariant.board.outs_are (rw (← c.self.view_is) at c.requires.out))
+      c.id-id.ensures c.in-Ok.ensures.ok);
+  strata = passed_grown g.P.Id.PartialEq.eq (g.P.Plan.meaning c.self.inside.plan)
+      (state_from c.self.inside.jobs.items c.self.inside.values)
+      (state_from c.add_all.new.items.items c.push.new.self) c.args.outcome.added
+      ((c.id-id.result.now, plain c.args.outcome.value) ∷ [])
+      (c.add_all.ensures ∙ (ap (λ xs. xs ++ c.into_vec.result.items) c.make_room.ensures.jobs
+      ∙ ap (λ ys. c.self.inside.jobs.items ++ ys) c.into_vec.ensures))
+      c.in-Ok.ensures.ok c.self.inside.passed.items c.self.invariant.strata;
+  count = c.self.invariant.count;
 }
 
 pub returns-then-not-make_room-clause-history : goal.returns-then-not-make_room-clause-history

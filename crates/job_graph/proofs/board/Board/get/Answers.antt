@@ -1,6 +1,5 @@
-use Rattle.std.proofs.Common.{◌≡◌, map, Some, ap, ◌∙◌}
+use Rattle.std.proofs.Common.{◌≡◌, Some, ◌∙◌}
 use Rattle.access_context.specs.Plain.{plain}
-use Rattle.access_context.specs.Read.{plain_item, read_of}
 use Rattle.job_graph.specs.Rounds.{value_in, limit}
 use Rattle.job_graph.proofs.Boards.{settled_is, ended_values, if_some}
 use Rattle.job_graph.proofs.board.Board.get.Goals as goal

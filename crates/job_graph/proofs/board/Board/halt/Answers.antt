@@ -2,6 +2,7 @@ use Rattle.std.proofs.Common.{◌≡◌, ◌<◌, None, true, false, refl, sym, 
 use Rattle.std.specs.List.{list_any}
 use Rattle.job_graph.specs.declared.event.Event.TheVariants as event
 use Rattle.job_graph.specs.Histories.{is_halt_of}
+use Rattle.std.proofs.lemmas.Bool.{false≢true}
 use Rattle.job_graph.proofs.Boards.{flag_index, out_index, flag_says, halted_before, room_for_halt,
     board_halt, board_history, same_workers, same_events, view_push, chosen_first, chosen_second}
 use Rattle.job_graph.proofs.Halts.{some_out, now_has, still_has, out_halted}
@@ -49,6 +50,9 @@ invariant_of-self g c =
           c.push_reserved.new.self c.push_reserved.ensures.items c.push_reserved.ensures.len
           c.push_reserved.ensures.capacity;
       rows = c.self.invariant.rows;
+      tasks = λ e. absurd (false≢true (sym e));
+      strata = c.self.invariant.strata;
+      count = c.self.invariant.count;
     }
 
 pub returns-then-not-index-clause-halts : goal.returns-then-not-index-clause-halts

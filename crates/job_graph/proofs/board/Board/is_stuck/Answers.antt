@@ -1,6 +1,5 @@
-use Rattle.std.proofs.Common.{map, is_some, sym, ap, ◌∙◌}
+use Rattle.std.proofs.Common.{sym, ap, ◌∙◌}
 use Rattle.std.specs.List.{list_any}
-use Rattle.access_context.specs.Read.{plain_item, read_of}
 use Rattle.job_graph.specs.Rounds.{has_id}
 use Rattle.job_graph.proofs.Boards.{ended_stuck, stuck_there, stuck_absent}
 use Rattle.job_graph.proofs.board.Board.is_stuck.Goals as goal
