@@ -23,15 +23,15 @@ use std::marker::Model;
 /// workers and its
 /// events; all else follows from these.
 ///
-/// This body keeps plain lists and finds a ready job by scanning them. To test a job it looks up
-/// the job and each of its
-/// reads in the list of values and, where the job awaits a stratum, every job. So a claim and
-/// `result` take up to as many
-/// comparisons as the square of the jobs and reads together, and as many again for each job that
-/// awaits a stratum. A run
-/// takes two calls for each job. `get` and `is_stuck` take one pass. No contract speaks of the
-/// lists, nor of which ready
-/// job comes first, so a body that keeps counts can stand in this one's place.
+/// This body keeps an agenda beside its lists: a job stands in a queue once all that it reads is
+/// settled, and till then in the line of the first item that isn't. A claim tells the agenda of the
+/// jobs and values that are new. So it takes the logarithm of the jobs for each of these, for each
+/// job that they wake and for each item that the job reads which is handed out. For each stratum
+/// that is awaited a whole run goes once through the jobs. `finish` takes the logarithm of the jobs
+/// and the length of what is added, and `get` and `added_by` take the logarithm. `is_stuck` and
+/// `access_of` take one pass, and so does `result` between a finish and the next claim.
+///
+/// The ready job with the least id is handed out; no contract speaks of that, nor of the agenda.
 #[derive(Drop)]
 pub struct Board<P: Plan> {
     plan: P,
