@@ -39,8 +39,8 @@ impl<Id: Copy + Ord, V> Model for Reads<Id, V> {
 
 impl<Id: Copy + Ord, V> Reads<Id, V> {
     /// These items and no others. An id is meant to stand once; where it stands again, its first
-    /// item counts. It takes no memory, and so it makes no index: `indexed` serves where there are
-    /// many.
+    /// item counts. It takes
+    /// no memory, and so it makes no index: `indexed` serves where there are many.
     pub fn of(items: Vec<(Id, Settled<V>)>) -> Self
         ensures { result ≡ map plain_item items.items }
     {

@@ -1,6 +1,8 @@
 pub mod Kinds
 pub mod Parts
 pub mod Graph
+pub mod Fonts
 -- lemmas that the proofs of other crates need
 pub mod Outcomes
 pub mod Solved
+pub mod Made

@@ -32,7 +32,7 @@ use Rattle.font_graph.specs.Outcomes.{order_next, Makes, IsLeaf}
 module _ (p : Parts) (same : JobId → JobId → Bool) where
   -- ---- what is there
 
-  numbers_are : (index : p.Index) → index_value p same ≡ Done (AnIndex index)
+  pub numbers_are : (index : p.Index) → index_value p same ≡ Done (AnIndex index)
       → p.numbers index ≡ numbers p same
   numbers_are index e = sym (ap (λ v. numbers_in p same
       (option_and_then (as_index p) (done_value v))) e)
@@ -90,7 +90,7 @@ module _ (p : Parts) (same : JobId → JobId → Bool) where
 
   module _ (identity : (x y : JobId) → IsTrue (same x y) ↔ (x ≡ y)) where
     -- an item that is read has its value
-    found : (ids : List JobId) (id : JobId) → In id ids
+    pub found : (ids : List JobId) (id : JobId) → In id ids
         → read_of same (map (with_value p same) ids) id ≡ Some (value_of p same id)
     found [] id i = absurd i
     found (x ∷ ids) id i =
@@ -133,7 +133,7 @@ module _ (p : Parts) (same : JobId → JobId → Bool) where
         ∷ []
 
     -- of what is read in the order each flat glyph has a value
-    flats_done : is_done (order_value p same) ≡ true → (glyph : ℕ) → In glyph (numbers p same)
+    pub flats_done : is_done (order_value p same) ≡ true → (glyph : ℕ) → In glyph (numbers p same)
         → is_done (flat_value p same glyph) ≡ true
     flats_done done glyph i =
         let all = (reads_done p same) job.Order order_items done in
@@ -144,7 +144,7 @@ module _ (p : Parts) (same : JobId → JobId → Bool) where
     index_done done = list_all-In has_value order_items (job.Index, index_value p same)
         ((reads_done p same) job.Order order_items done) (inr (inl refl))
 
-    raw_done : (glyph : ℕ) → is_done (flat_value p same glyph) ≡ true
+    pub raw_done : (glyph : ℕ) → is_done (flat_value p same glyph) ≡ true
         → is_done (raw_value p same glyph) ≡ true
     raw_done glyph done = list_all-In has_value (flat_reads glyph)
         (job.Raw glyph, raw_value p same glyph)

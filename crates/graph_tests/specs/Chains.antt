@@ -1,5 +1,6 @@
 -- The plan of a chain of jobs: each reads the one before it and adds the one after it. Its solution
--- shows how a plan is shown to be lawful. Plans of chains are fontc's own, for the tests.
+-- shows how a plan is shown to be
+-- lawful. Plans of chains are fontc's own, for the tests.
 use Rattle.std.proofs.Common.{◌≡◌, ℕ, zero, suc, ◌+◌, ◌<◌, ◌≤◌, nat_eq, nat_lt, Bool, true, false}
 use Rattle.std.proofs.Common.{cond, ◌⊎◌, inl, inr, List, [], ◌∷◌, map, Option, Some, None, refl}
 use Rattle.std.proofs.Common.{sym, ap, ◌∙◌, subst, arith}

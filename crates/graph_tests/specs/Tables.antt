@@ -1,6 +1,8 @@
 -- Plans that a finite table gives, as the tests use them: the row of a job has its stratum, what it
--- waits for, the ids of the jobs that it adds, and whether it is refused. Else what comes of a job
--- is the sum of its id and of the values that it reads. fontc's own.
+-- waits for, the ids of
+-- the jobs that it adds, and whether it is refused. Else what comes of a job is the sum of its id
+-- and of the values that
+-- it reads. fontc's own.
 use Rattle.std.specs.Prelude.{ℕ, ◌+◌, ◌%◌, ◌^◌, nat_eq, nat_le, nat_lt, fold, unwrap_or, Bool, true}
 use Rattle.std.specs.Prelude.{false, ◌&&◌, List, [], ◌++◌, map, Option, Some, None, slice_get}
 use Rattle.std.specs.Prelude.{if◌then◌else◌}

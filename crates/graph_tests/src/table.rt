@@ -37,7 +37,8 @@ pub fn refused(row: Row) -> Row {
 }
 
 /// A plan by its table. A refused job adds nothing. What comes of any other is the sum of its id
-/// and of the values that it reads, in 32 bits.
+/// and of the values that
+/// it reads, in 32 bits.
 #[derive(Drop)]
 pub struct Table {
     opening: Vec<u32>,

@@ -1,52 +1,46 @@
 -- The parts of a board follow its events.
-use Rattle.std.proofs.Common.{◌≡◌, ℕ, zero, suc, ◌+◌, ◌<◌, ◌≤◌, Bool, true, false, not, ◌&&◌, ◌||◌}
-use Rattle.std.proofs.Common.{nat_eq, inl, inr, List, [], ◌∷◌, ◌++◌, map, length, replicate, get_or}
-use Rattle.std.proofs.Common.{Option, Some, None, is_some, refl, sym, ap, ◌∙◌, subst, cond, arith}
-use Rattle.std.specs.Prelude.{IfSome, slice_get, slice_set, count_by, fold, option_map}
-use Rattle.std.specs.List.{list_any, find}
+use Rattle.std.proofs.Common.{◌≡◌, ℕ, ◌+◌, ◌<◌, ◌≤◌, Bool, true, false, not, ◌&&◌, inl, inr, List}
+use Rattle.std.proofs.Common.{[], ◌∷◌, ◌++◌, length, replicate, get_or, Option, Some, None, is_some}
+use Rattle.std.proofs.Common.{refl, sym, ap, ◌∙◌, subst, cond, arith}
+use Rattle.std.specs.Prelude.{IfSome, slice_get, slice_set, count_by, option_map}
+use Rattle.std.specs.List.{list_any}
 use Rattle.std.specs.Vec.{vec_len, vec_capacity}
 use Rattle.std.specs.declared.vec.Vec.{Vec}
 use Rattle.std.specs.declared.alloc.Global.{Global}
-use Rattle.std.proofs.lemmas.Bool.{and_parts, and_from, or_right, false≢true, cases_Bool}
-use Rattle.std.proofs.lemmas.Bool.{false_from_ne_true, lt-ltb, eqb-true, eq-eqb, not_from_false}
-use Rattle.std.proofs.lemmas.Bool.{not-true}
-use Rattle.std.proofs.lemmas.List.{length-set, length-replicate, map-append}
-use Rattle.std.proofs.lemmas.List.Sums.{fold-append, count_by-le-length, sum_by-set}
-use Rattle.std.proofs.lemmas.Option.{slice_get_within, get_or_from_slice_get, slice_get-get_or}
+use Rattle.std.proofs.lemmas.Bool.{and_parts, and_from, or_left, or_right, or_cases, false≢true}
+use Rattle.std.proofs.lemmas.Bool.{cases_Bool, false_from_ne_true, lt-ltb, eqb-true, eq-eqb}
+use Rattle.std.proofs.lemmas.Bool.{not_from_false, not-true}
+use Rattle.std.proofs.lemmas.List.{length-replicate}
+use Rattle.std.proofs.lemmas.List.Sums.{count_by-le-length}
+use Rattle.std.proofs.lemmas.Option.{slice_get_within, slice_get-get_or}
 use Rattle.access_context.specs.declared.access.Spec.{Spec}
-use Rattle.access_context.specs.declared.settled.Settled.{Settled}
-use Rattle.access_context.specs.Plain.{Plain, PlainOutcome, plain}
-use Rattle.access_context.specs.Read.{plain_item}
+use Rattle.access_context.specs.Plain.{Plain, PlainOutcome}
 use Rattle.job_graph.specs.declared.event.Event.{Event}
 use Rattle.job_graph.specs.declared.event.Event.TheVariants as event
 use Rattle.job_graph.specs.declared.event.End.TheVariants.{Running, Ended, Halted}
 use Rattle.job_graph.specs.Meaning.{Meaning}
-use Rattle.job_graph.specs.Rounds.{State, state_from, value_in, is_unsettled_job, is_ready}
-use Rattle.job_graph.specs.Rounds.{reads_in, outcome_in, limit, IsOutcomeOf}
+use Rattle.job_graph.specs.Rounds.{State, state_from, value_in, is_settled, is_unsettled_job}
+use Rattle.job_graph.specs.Rounds.{is_ready, reads_in, outcome_in, limit, IsOutcomeOf}
 use Rattle.job_graph.specs.Laws.{IsLawful}
-use Rattle.job_graph.specs.Histories.{is_halt, is_halt_of, has_halted, out_after, out_of, running}
-use Rattle.job_graph.specs.Histories.{was_claimed, has_out, state_of, is_ready_id, is_allowed}
-use Rattle.job_graph.specs.Histories.{is_run, some_ready, is_claimable, end_of}
-use Rattle.job_graph.specs.Scan.{next_of, IsNext}
+use Rattle.job_graph.specs.Histories.{is_halt, is_halt_of, has_halted, out_of, running, was_claimed}
+use Rattle.job_graph.specs.Histories.{has_out, state_of, is_ready_id, is_allowed, is_run}
+use Rattle.job_graph.specs.Histories.{some_ready, is_claimable, end_of}
 use Rattle.job_graph.specs.Promises.{IsHistory}
-use Rattle.job_graph.specs.BoardView.{BoardView, IsBoard, halted_after, halted_of}
+use Rattle.job_graph.specs.BoardView.{BoardView, IsBoard, halted_of}
 use Rattle.job_graph.specs.Answers.{HandsOut, some_claimable}
-use Rattle.job_graph.specs.Members.{In, In-from_Contains, Contains-from_In, find-some, find-In}
+use Rattle.job_graph.specs.Members.{In, In-from_Contains, Contains-from_In, slice_get-In}
 use Rattle.job_graph.specs.Members.{list_any-In, list_any-found}
-use Rattle.job_graph.specs.Growth.{none≢some, Within, reads_agree, all_settled_within}
-use Rattle.job_graph.specs.Growth.{outcome_within, ready_reads, ready_unsettled, settle}
+use Rattle.job_graph.specs.Agenda.{is_out_of, is_taken, IsNoneLeft}
+use Rattle.job_graph.specs.Growth.{Within, reads_agree, all_settled_within, outcome_within}
+use Rattle.job_graph.specs.Growth.{ready_reads, ready_unsettled, settle}
 use Rattle.job_graph.specs.Confluence.{nil_append}
 use Rattle.job_graph.specs.Limit.{limit_orderly, below_limit}
-use Rattle.job_graph.proofs.Run.{get_set_same, get_set_other, is_run-push, run_induction}
-use Rattle.job_graph.proofs.Run.{state_of-push, out_of-push, claim_allowed, IsOut, Grows, grows}
-use Rattle.job_graph.proofs.Run.{finish_is}
-use Rattle.job_graph.proofs.Owned.{or_false, list_any-push}
+use Rattle.job_graph.proofs.Run.{is_run-push, state_of-push, out_of-push, claim_allowed, IsOut}
+use Rattle.job_graph.proofs.Run.{Grows, grows, finish_is}
+use Rattle.job_graph.proofs.Owned.{or_false, list_any-push, owned}
+use Rattle.job_graph.proofs.Agendas.{any_at, get_of_In}
 use Rattle.job_graph.proofs.Halts.{length-out_of, halts-set, halted_of-push, halted_flag}
 use Rattle.job_graph.proofs.Kept.{claimed_runs, within_limit, history_of, complete_of_end}
-
-find-none : {X : Type 0} (p : X → Bool) (xs : List X) → find p xs ≡ None → list_any p xs ≡ false
-find-none p xs e = false_from_ne_true _ (λ t. let f = list_any-found p xs t
-    in let g = find-In p xs f.0 f.1 f.2 in none≢some g.0 (find p xs) e g.1)
 
 same_flag : (x y : Bool) → Some x ≡ Some y → x ≡ y
 same_flag x y e = cc
@@ -56,6 +50,12 @@ end_is : (halted ready none : Bool) → halted ≡ false → ready ≡ false →
 end_is halted ready none h r n = ap (λ b. cond b Halted
     (cond ready Running (cond none Ended Running))) h
     ∙ ap (λ b. cond b Running (cond none Ended Running)) r ∙ ap (λ b. cond b Ended Running) n
+
+out_is : (halted ready none : Bool) → halted ≡ false → none ≡ false
+    → cond halted Halted (cond ready Running (cond none Ended Running)) ≡ Running
+out_is halted true none h n = ap (λ b. cond b Halted Running) h
+out_is halted false none h n = ap (λ b. cond b Halted (cond none Ended Running)) h
+    ∙ ap (λ b. cond b Ended Running) n
 
 runs_is : (halted ready none : Bool) → halted ≡ false → ready ≡ true
     → cond halted Halted (cond ready Running (cond none Ended Running)) ≡ Running
@@ -97,25 +97,25 @@ module _ {Id V : Type 0} (same : Id → Id → Bool) (plan : Meaning Id V) (work
   module _ (lawful : IsLawful same plan) (events : Vec (Event Id) Global) (state : State Id V)
       (outs : List (Option Id)) (halted : List Bool) (any : Bool)
       (b : IsBoard same plan workers events state outs halted any) where
-    next_is : (job : Spec Id) → next_of same plan state events.items state.jobs ≡ Some job
+    next_is : (job : Spec Id) → In job state.jobs
+        → is_claimable same plan state events.items job ≡ true
         → In job (state_of same plan events.items).jobs
         × (is_ready same plan (state_of same plan events.items) job ≡ true)
         × (was_claimed same events.items job.id ≡ false)
-    next_is job e =
-        let f = find-some _ (state_of same plan events.items).jobs job
-        (subst (λ s. next_of same plan s events.items s.jobs ≡ Some job) b.state_is e) in
+    next_is job here ok =
         let p = and_parts (is_ready same plan (state_of same plan events.items) job)
-        (not (was_claimed same events.items job.id)) f.1 in
-        (f.0, p.0, not-true _ p.1)
+        (not (was_claimed same events.items job.id))
+        (subst (λ s. is_claimable same plan s events.items job ≡ true) b.state_is ok) in
+        (subst (λ s. In job s.jobs) b.state_is here, p.0, not-true _ p.1)
 
     pub board_claim : (w : ℕ) (id : Id) → w < workers
         → slice_get (out_of workers events.items) w ≡ Some None → any ≡ false → (job : Spec Id)
-        → next_of same plan state events.items state.jobs ≡ Some job → job.id ≡ id
+        → In job state.jobs → is_claimable same plan state events.items job ≡ true → job.id ≡ id
         → (after : Vec (Event Id) Global) → after.items ≡ events.items ++ event.Claim w id ∷ []
         → vec_len after + count_by not halted ≤ vec_capacity after
         → IsBoard same plan workers after state (slice_set outs w (Some id)) halted any
-    board_claim w id lt free no_halt job e named after items room =
-        let n = next_is job e in
+    board_claim w id lt free no_halt job here ok named after items room =
+        let n = next_is job here ok in
         let now = state_of same plan events.items in
         let ready : is_ready_id same plan now id
         ≡ true = list_any-In _ now.jobs job n.0
@@ -228,6 +228,12 @@ module _ {Id V : Type 0} (same : Id → Id → Bool) (plan : Meaning Id V) (work
     ends_ready no_halt more = runs_is _ _ _ (sym b.any_is ∙ no_halt)
         (sym (ap (some_ready same plan) b.state_is) ∙ more)
 
+    pub ends_out : any ≡ false → 0 < count_by is_some outs
+        → end_of same plan workers events.items ≡ Running
+    ends_out no_halt some = out_is _ _ _ (sym b.any_is ∙ no_halt) (false_from_ne_true _ (λ t.
+        let n : running workers events.items ≡ 0 = eqb-true _ _ t in
+        let m = ap (count_by is_some) b.outs_are in absurd (omega arith)))
+
     pub ends_over : any ≡ false → some_ready same plan state ≡ false → count_by is_some outs ≡ 0
         → end_of same plan workers events.items ≡ Ended
     ends_over no_halt over none = end_is _ _ _ (sym b.any_is ∙ no_halt)
@@ -264,12 +270,12 @@ module _ {Id V : Type 0} (same : Id → Id → Bool) (plan : Meaning Id V) (work
         }
 
     -- what a claim hands out
-    pub hands_out : (id : Id) (job : Spec Id)
-        → next_of same plan state events.items state.jobs ≡ Some job → job.id ≡ id
+    pub hands_out : (id : Id) (job : Spec Id) → In job state.jobs
+        → is_claimable same plan state events.items job ≡ true → job.id ≡ id
         → (reads : List (Id × Plain V)) → reads ≡ reads_in same state job.access.reads
         → HandsOut same plan events.items id reads
-    hands_out id job e named reads is =
-        let n = next_is job e in
+    hands_out id job there ok named reads is =
+        let n = next_is job there ok in
         let now = state_of same plan events.items in
         let last = limit same plan in
         let w : Within same plan now last = within_limit same plan workers lawful events.items
@@ -294,13 +300,71 @@ module _ {Id V : Type 0} (same : Id → Id → Bool) (plan : Meaning Id V) (work
           };
         }
 
-    pub none_claimable : next_of same plan state events.items state.jobs ≡ None
+    pub none_claimable : list_any (is_claimable same plan state events.items) state.jobs ≡ false
         → some_claimable same plan events.items ≡ false
-    none_claimable e = find-none _ (state_of same plan events.items).jobs
-        (subst (λ s. next_of same plan s events.items s.jobs ≡ None) b.state_is e)
+    none_claimable e = subst (λ s. list_any (is_claimable same plan s events.items) s.jobs ≡ false)
+        b.state_is e
+
+    -- while nobody halted, a job was claimed exactly where it is settled or out
+    claimed_taken : any ≡ false → (id : Id) → was_claimed same events.items id ≡ true
+        → is_taken same state outs id ≡ true
+    claimed_taken no_halt id c =
+        elim ((owned same plan workers lawful events.items b.legal).live
+        (sym b.any_is ∙ no_halt) id c) [
+          | inl s ↦ or_left _ _ (ap (λ t. is_settled same t id) b.state_is ∙ s)
+          | inr w ↦ or_right (is_settled same state id) _
+              (any_at (is_out_of same id) outs w.0 (Some id)
+              (ap (λ os. slice_get os w.0) b.outs_are ∙ w.1) ((lawful.identity id id).1 refl))
+        ]
+
+    out_claimed : (out : Option Id) (id : Id) → In out outs → is_out_of same id out ≡ true
+        → was_claimed same events.items id ≡ true
+    out_claimed None id here is = absurd (false≢true is)
+    out_claimed (Some job) id here is =
+        let at = get_of_In outs (Some job) here in
+        subst (λ k. was_claimed same events.items k ≡ true) ((lawful.identity job id).0 is)
+        ((owned same plan workers lawful events.items b.legal).claimed at.0 job
+        (sym (ap (λ os. slice_get os at.0) b.outs_are) ∙ at.2))
+
+    taken_claimed : (id : Id) → is_taken same state outs id ≡ true
+        → was_claimed same events.items id ≡ true
+    taken_claimed id t =
+        elim (or_cases _ _ t) [
+          | inl s ↦ (owned same plan workers lawful events.items b.legal).settled_claimed id
+              (sym (ap (λ t. is_settled same t id) b.state_is) ∙ s)
+          | inr o ↦ (let f = list_any-found (is_out_of same id) outs o
+              in out_claimed f.0 id f.1 f.2)
+        ]
+
+    -- an id has one job
+    pub one_job : (i j : ℕ) (job other : Spec Id) → slice_get state.jobs i ≡ Some job
+        → slice_get state.jobs j ≡ Some other → job.id ≡ other.id → job ≡ other
+    one_job i j job other at there e =
+        let w = within_limit same plan workers lawful events.items b.legal in
+        (limit_orderly same plan lawful).one job other
+        (w.jobs job (subst (λ s. In job s.jobs) b.state_is (slice_get-In state.jobs i job at)))
+        (w.jobs other (subst (λ s. In other s.jobs) b.state_is
+        (slice_get-In state.jobs j other there))) e
+
+    -- a job that is ready and not taken can be claimed
+    pub claimable : any ≡ false → (job : Spec Id) → is_ready same plan state job ≡ true
+        → is_taken same state outs job.id ≡ false
+        → is_claimable same plan state events.items job ≡ true
+    claimable no_halt job ready free = and_from _ _ ready (not_from_false _ (false_from_ne_true _
+        (λ c. false≢true (sym free ∙ claimed_taken no_halt job.id c))))
+
+    -- where no such job is left, none can be claimed
+    pub left_none : IsNoneLeft same plan state outs
+        → list_any (is_claimable same plan state events.items) state.jobs ≡ false
+    left_none none = false_from_ne_true _ (λ t.
+        let f = list_any-found (is_claimable same plan state events.items) state.jobs t in
+        let p = and_parts (is_ready same plan state f.0) _ f.2 in
+        none f.0 f.1 p.0 (false_from_ne_true _
+        (λ u. false≢true (sym (not-true _ p.1) ∙ taken_claimed (f.0).id u))))
 
     -- where nothing is left to claim and nothing runs, all is over
-    pub has_ended : any ≡ false → next_of same plan state events.items state.jobs ≡ None
+    pub has_ended : any ≡ false
+        → list_any (is_claimable same plan state events.items) state.jobs ≡ false
         → count_by is_some outs ≡ 0 → end_of same plan workers events.items ≡ Ended
     has_ended no_halt e none =
         let now = state_of same plan events.items in
@@ -351,40 +415,38 @@ module _ {Id V : Type 0} (same : Id → Id → Bool) (plan : Meaning Id V) (work
 -- the board after a finish, by its lists
 pub board_finish_lists : {Id V : Type 0} (same : Id → Id → Bool) (plan : Meaning Id V) (workers : ℕ)
     (lawful : IsLawful same plan) (events : Vec (Event Id) Global) (jobs : List (Spec Id))
-    (values : List (Id × Settled V)) (outs : List (Option Id)) (halted : List Bool) (any : Bool)
+    (values : List (Id × Plain V)) (outs : List (Option Id)) (halted : List Bool) (any : Bool)
     → IsBoard same plan workers events (state_from jobs values) outs halted any → (w : ℕ) (id : Id)
     → slice_get (out_of workers events.items) w ≡ Some (Some id)
-    → (value : Settled V) (added : List (Spec Id))
-    → IsOutcomeOf same plan id (record { value = plain value; added = added }) → (k : Id) → k ≡ id
+    → (value : Plain V) (added : List (Spec Id))
+    → IsOutcomeOf same plan id (record { value = value; added = added }) → (k : Id) → k ≡ id
     → (after : Vec (Event Id) Global) → after.items ≡ events.items ++ event.Finish w k ∷ []
     → vec_len after + count_by not halted ≤ vec_capacity after
-    → (jobs' : List (Spec Id)) (values' : List (Id × Settled V)) → jobs' ≡ jobs ++ added
+    → (jobs' : List (Spec Id)) (values' : List (Id × Plain V)) → jobs' ≡ jobs ++ added
     → values' ≡ values ++ (k, value) ∷ [] → IsBoard same plan workers after
     (state_from jobs' values') (slice_set outs w None) halted any
 board_finish_lists {Id} {V} same plan workers lawful events jobs values outs halted any b w id out
     value added o k named after items room jobs' values' js vs =
-    let now : map plain_item values' ≡ map plain_item values ++ (id, plain value)
-    ∷ [] = ap (map plain_item) vs ∙ map-append plain_item values ((k, value) ∷ [])
-    ∙ ap (λ (j : Id). map plain_item values ++ (j, plain value) ∷ []) named in
+    let now : values' ≡ values ++ (id, value) ∷ [] = vs
+    ∙ ap (λ (j : Id). values ++ (j, value) ∷ []) named in
     let is : ◌≡◌ {A = State Id V} (record {
       jobs = jobs ++ added;
-      values = map plain_item values
-          ++ (id, plain value) ∷ [];
-    }) (state_from jobs' values')
-    = λ i. record { jobs = sym js i; values = sym now i } in
+      values = values ++ (id, value)
+          ∷ [];
+    }) (state_from jobs' values') = λ i. record { jobs = sym js i; values = sym now i } in
     subst (λ s. IsBoard same plan workers after s (slice_set outs w None) halted any) is
     (board_finish same plan workers lawful events (state_from jobs values) outs halted any b w id
-    out (plain value) added o after (items
-    ∙ ap (λ (j : Id). events.items ++ event.Finish w j ∷ []) named) room)
+    out value added o after (items ∙ ap (λ (j : Id). events.items ++ event.Finish w j ∷ [])
+    named) room)
 
 -- the same board, by its lists
 pub board_kept : {Id V : Type 0} (same : Id → Id → Bool) (plan : Meaning Id V) (workers : ℕ)
-    (events : Vec (Event Id) Global) (jobs : List (Spec Id)) (values : List (Id × Settled V))
+    (events : Vec (Event Id) Global) (jobs : List (Spec Id)) (values : List (Id × Plain V))
     (outs : List (Option Id)) (halted : List Bool) (any : Bool)
     → IsBoard same plan workers events (state_from jobs values) outs halted any
     → (after : Vec (Event Id) Global) → after.items ≡ events.items
     → vec_len after + count_by not halted ≤ vec_capacity after
-    → (jobs' : List (Spec Id)) (values' : List (Id × Settled V)) → jobs' ≡ jobs → values' ≡ values
+    → (jobs' : List (Spec Id)) (values' : List (Id × Plain V)) → jobs' ≡ jobs → values' ≡ values
     → IsBoard same plan workers after (state_from jobs' values') outs halted any
 board_kept {Id} {V} same plan workers events jobs values outs halted any b after items room jobs'
     values' js vs =
@@ -430,28 +492,6 @@ flag_read flags w x y lt e is = slice_get-get_or flags w x lt ∙ ap Some (sym e
 
 pub some_same : (x y : Bool) (o : Option Bool) → o ≡ Some x → o ≡ Some y → x ≡ y
 some_same x y o e f = same_flag x y (sym e ∙ f)
-
--- what the next job is
-pub next_moved : {Id V : Type 0} (same : Id → Id → Bool) (plan : Meaning Id V)
-    (js jobs : List (Spec Id)) (vs values : List (Id × Settled V)) (es events : List (Event Id))
-    → js ≡ jobs → vs ≡ values → es ≡ events → (o : Option (Id × List (Id × Plain V)))
-    → IsNext same plan (state_from js vs) es o → IsNext same plan (state_from jobs values) events o
-next_moved same plan js jobs vs values es events a b c o n =
-    subst (λ x. IsNext same plan (state_from x values) events o) a
-    (subst (λ y. IsNext same plan (state_from js y) events o) b
-    (subst (λ z. IsNext same plan (state_from js vs) z o) c n))
-
-pub next_none : {Id V : Type 0} (same : Id → Id → Bool) (plan : Meaning Id V) (state : State Id V)
-    (events : List (Event Id)) (o : Option (Id × List (Id × Plain V)))
-    → IsNext same plan state events o → o ≡ None → next_of same plan state events state.jobs ≡ None
-next_none same plan state events o n e = subst (IsNext same plan state events) e n
-
-pub next_some : {Id V : Type 0} (same : Id → Id → Bool) (plan : Meaning Id V) (state : State Id V)
-    (events : List (Event Id)) (o : Option (Id × List (Id × Plain V))) (id : Id)
-    (reads : List (Id × Plain V)) → IsNext same plan state events o → o ≡ Some (id, reads)
-    → (job : Spec Id) × (next_of same plan state events state.jobs ≡ Some job) × (job.id ≡ id)
-    × (reads ≡ reads_in same state job.access.reads)
-next_some same plan state events o id reads n e = subst (IsNext same plan state events) e n
 
 -- what is said of the value that a search may find
 pub if_some : {X Y : Type 0} (o : Option X) (f : X → Y) (P : Y → Type 0) (v : Option Y)

@@ -1,6 +1,6 @@
 -- What the limit is, by what each of its values and jobs comes of.
-use Rattle.std.proofs.Common.{◌≡◌, Bool, true, false, ◌⊎◌, inl, inr, List, [], ◌∷◌, ◌++◌, Some}
-use Rattle.std.proofs.Common.{refl, sym, ap, ◌∙◌, subst, cond}
+use Rattle.std.proofs.Common.{◌≡◌, Bool, true, false, ◌⊎◌, inl, inr, Some, refl, sym, ap, ◌∙◌}
+use Rattle.std.proofs.Common.{subst, cond}
 use Rattle.std.specs.Prelude.{Contains}
 use Rattle.std.specs.List.{list_all}
 use Rattle.std.proofs.lemmas.Bool.{and_from, false≢true, cases_Bool, not_from_false}
@@ -8,8 +8,8 @@ use Rattle.access_context.specs.declared.access.Spec.{Spec}
 use Rattle.access_context.specs.Plain.{Plain, PlainOutcome, is_done}
 use Rattle.access_context.specs.Read.{all_done}
 use Rattle.job_graph.specs.Meaning.{Meaning}
-use Rattle.job_graph.specs.Rounds.{State, value_in, is_settled, reads_in, is_ready, awaits_nothing}
-use Rattle.job_graph.specs.Rounds.{blocked, outcome_in, limit}
+use Rattle.job_graph.specs.Rounds.{State, value_in, is_settled, reads_in, awaits_nothing, blocked}
+use Rattle.job_graph.specs.Rounds.{outcome_in, limit}
 use Rattle.job_graph.specs.Laws.{IsLawful}
 use Rattle.job_graph.specs.Promises.{IsValueOf, IsAdded, IsLimit}
 use Rattle.job_graph.specs.Members.{In, In-append_cases, In-from_Contains, Contains-from_In}

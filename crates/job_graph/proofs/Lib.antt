@@ -5,5 +5,12 @@ pub mod Short
 pub mod Last
 pub mod Kept
 pub mod Due
+pub mod Places
+pub mod Ranges
+pub mod Waiting
+pub mod Standing
+pub mod Passing
+pub mod Placing
+pub mod Agendas
 pub mod Boards
 pub mod Examples

@@ -1,7 +1,7 @@
 -- A history is short: at most a claim and a finish for each id of the universe, and a halt for each
 -- worker.
-use Rattle.std.proofs.Common.{◌≡◌, ℕ, ◌+◌, ◌*◌, ◌<◌, ◌≤◌, Bool, true, false, not, ◌||◌, List, []}
-use Rattle.std.proofs.Common.{◌∷◌, ◌++◌, length, replicate, Some, refl, sym, ap, ◌∙◌, subst, arith}
+use Rattle.std.proofs.Common.{◌≡◌, ℕ, ◌+◌, ◌*◌, ◌<◌, ◌≤◌, Bool, true, false, not, List, [], ◌∷◌}
+use Rattle.std.proofs.Common.{◌++◌, length, replicate, Some, refl, sym, ap, ◌∙◌, subst, arith}
 use Rattle.std.specs.Prelude.{slice_get, slice_set, count_by}
 use Rattle.std.specs.List.{list_any}
 use Rattle.std.proofs.lemmas.Bool.{and_parts, or_left, or_right, not-true, ltb-true}
@@ -13,13 +13,13 @@ use Rattle.job_graph.specs.declared.event.Event.TheVariants as event
 use Rattle.job_graph.specs.Meaning.{Meaning}
 use Rattle.job_graph.specs.Rounds.{limit}
 use Rattle.job_graph.specs.Laws.{IsLawful}
-use Rattle.job_graph.specs.Histories.{is_halt_of, is_claim_of, is_finish_of, was_claimed}
-use Rattle.job_graph.specs.Histories.{was_finished, has_out, out_of, state_of, is_allowed, is_run}
+use Rattle.job_graph.specs.Histories.{is_claim_of, is_finish_of, was_claimed, was_finished, out_of}
+use Rattle.job_graph.specs.Histories.{state_of, is_allowed, is_run}
 use Rattle.job_graph.specs.BoardView.{halted_of}
 use Rattle.job_graph.specs.Members.{In, In-from_Contains, Contains-from_In, list_any-found}
 use Rattle.job_graph.specs.Limit.{counted, count_more, count_one_more, count_all, below_limit}
 use Rattle.job_graph.proofs.Run.{may_claim, has_out_is, run_induction, IsOut, Grows, grows}
-use Rattle.job_graph.proofs.Owned.{or_false, list_any-push, Owned, owned}
+use Rattle.job_graph.proofs.Owned.{list_any-push, Owned, owned}
 use Rattle.job_graph.proofs.Halts.{halts-set, halted_of-push, halted_flag}
 
 module _ {Id V : Type 0} (same : Id → Id → Bool) (plan : Meaning Id V) (workers : ℕ)

@@ -6,9 +6,13 @@ use Rattle.std.specs.declared.vec.Vec.{Vec}
 use Rattle.std.specs.declared.alloc.Global.{Global}
 use Rattle.job_graph.specs.declared.event.Event.{Event}
 use Rattle.job_graph.specs.declared.event.Event.TheVariants as event
+use Rattle.access_context.specs.declared.access.Spec.{Spec}
 use Rattle.access_context.specs.Plain.{Plain}
+use Rattle.std.specs.declared.cmp.Ordering.{Ordering}
 use Rattle.job_graph.specs.Meaning.{Meaning}
 use Rattle.job_graph.specs.Rounds.{State, IsAddedOf}
+use Rattle.job_graph.specs.declared.agenda.Agenda.{Agenda}
+use Rattle.job_graph.specs.Agenda.{IsAgenda, ArePassed}
 use Rattle.job_graph.specs.Histories.{has_halted, out_of, out_at, state_of, is_run}
 
 -- the plan, how many workers there are, and what happened
@@ -45,14 +49,31 @@ pub record IsBoard {Id V : Type 0} (same : Id → Id → Bool) (plan : Meaning I
   pub any_is : any_halted ≡ has_halted events.items
   pub room : vec_len events + count_by not halted ≤ vec_capacity events
 
--- the jobs that each value added stand in a row, from one place up to another; there is a pair of
--- places for each value
-abbrev pub AreRanges : {Id V : Type 0} → (Id → Id → Bool) → Meaning Id V → State Id V → List (ℕ × ℕ)
-    → Type 0
-AreRanges {Id} {V} same plan state ranges =
-    (length ranges ≡ length state.values)
-    × ((place : ℕ) (value : Id × Plain V) (range : ℕ × ℕ)
-    → slice_get state.values place ≡ Some value
-    → slice_get ranges place ≡ Some range
-    → (range.0 ≤ range.1) × (range.1 ≤ length state.jobs)
-    × IsAddedOf same plan value.0 (slice_range state.jobs range.0 range.1))
+-- the jobs that come of this id stand from one place up to another
+pub record IsRange {Id V : Type 0} (same : Id → Id → Bool) (plan : Meaning Id V)
+    (jobs : List (Spec Id)) (id : Id) (range : ℕ × ℕ) : Type 0 where
+  pub order : range.0 ≤ range.1
+  pub within : range.1 ≤ length jobs
+  pub is : IsAddedOf same plan id (slice_range jobs range.0 range.1)
+
+-- each value has the range of the jobs that it added
+pub record AreRanges {Id V : Type 0} (same : Id → Id → Bool) (plan : Meaning Id V)
+    (state : State Id V) (ranges : List (ℕ × ℕ)) : Type 0 where
+  pub count : length ranges ≡ length state.values
+  pub added :
+      (place : ℕ) (value : Id × Plain V) (range : ℕ × ℕ)
+      → slice_get state.values place ≡ Some value
+      → slice_get ranges place ≡ Some range
+      → IsRange same plan state.jobs value.0 range
+
+-- all that a board keeps
+pub record IsKept {Id V : Type 0} (same : Id → Id → Bool) (order : Id → Id → Ordering)
+    (plan : Meaning Id V) (workers : ℕ) (events : Vec (Event Id) Global) (state : State Id V)
+    (outs : List (Option Id)) (halted : List Bool) (any_halted : Bool) (ranges : List (ℕ × ℕ))
+    (agenda : Agenda Id) (passed : List ℕ) : Type 0 where
+  pub board : IsBoard same plan workers events state outs halted any_halted
+  pub rows : AreRanges same plan state ranges
+  -- while nobody halted, the agenda says what is to be done
+  pub tasks : any_halted ≡ false → IsAgenda same order state outs agenda
+  pub strata : ArePassed same plan state passed
+  pub count : length passed ≡ 257

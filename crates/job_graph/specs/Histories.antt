@@ -101,7 +101,8 @@ module _ {Id V : Type 0} (same : Id → Id → Bool) (plan : Meaning Id V) where
       state.jobs
 
   -- what may come next. A claim: of a ready job that wasn't claimed, by a worker with none out,
-  -- while nobody halted. A finish: by the worker that has the job out. A halt: a worker's first.
+  -- while nobody halted.
+  -- A finish: by the worker that has the job out. A halt: a worker's first.
   abbrev pub is_allowed : ℕ → List (Event Id) → Event Id → Bool
   is_allowed workers events (event.Claim w id) =
       nat_lt w workers

@@ -7,8 +7,7 @@ use Rattle.std.specs.List.{list_all, list_any, flat_map}
 use Rattle.access_context.specs.declared.access.Access.{Access}
 use Rattle.access_context.specs.declared.access.Spec.{Spec}
 use Rattle.access_context.specs.Plain.{Plain, Blocked, PlainOutcome}
-use Rattle.access_context.specs.declared.settled.Settled.{Settled}
-use Rattle.access_context.specs.Read.{plain_item, read_of, all_done}
+use Rattle.access_context.specs.Read.{read_of, all_done}
 use Rattle.job_graph.specs.Meaning.{Meaning}
 
 -- the jobs that have been added, and what came of those that are settled. A list stands for the set
@@ -47,6 +46,11 @@ module _ {Id V : Type 0} (same : Id → Id → Bool) where
   abbrev pub is_unsettled_job : State Id V → Id → Bool
   is_unsettled_job state id = list_any (has_id same id) state.jobs && not (is_settled state id)
 
+  -- with what a job was added, where there is one with this id
+  abbrev pub access_in : State Id V → Id → Option (Access Id)
+  access_in state id = option_map (λ (job : Spec Id). job.access)
+      (find (has_id same id) state.jobs)
+
   module _ (plan : Meaning Id V) where
     abbrev pub start : State Id V
     start = record { jobs = plan.opening; values = [] }
@@ -65,11 +69,6 @@ module _ {Id V : Type 0} (same : Id → Id → Bool) where
     abbrev pub is_ready : State Id V → Spec Id → Bool
     is_ready state job = not (is_settled state job.id)
         && (list_all (is_settled state) job.access.reads && awaits_nothing state job.access.awaits)
-
-    -- with what a job was added, where there is one with this id
-    abbrev pub access_in : State Id V → Id → Option (Access Id)
-    access_in state id = option_map (λ (job : Spec Id). job.access)
-        (find (has_id same id) state.jobs)
 
     -- what comes of a job by what it reads in a state
     abbrev pub outcome_of : Id → List (Id × Plain V) → PlainOutcome V Id
@@ -110,8 +109,8 @@ pub record IsDue {Id V : Type 0} (same : Id → Id → Bool) (plan : Meaning Id 
   pub reads_are : reads ≡ reads_in same (limit same plan) job.access.reads
 
 -- the state of these jobs and of what came of them
-abbrev pub state_from : {Id V : Type 0} → List (Spec Id) → List (Id × Settled V) → State Id V
-state_from jobs values = record { jobs = jobs; values = map plain_item values }
+abbrev pub state_from : {Id V : Type 0} → List (Spec Id) → List (Id × Plain V) → State Id V
+state_from jobs values = record { jobs = jobs; values = values }
 
 -- what came of a job is what comes of it in the limit
 pub record IsOutcomeOf {Id V : Type 0} (same : Id → Id → Bool) (plan : Meaning Id V) (id : Id)

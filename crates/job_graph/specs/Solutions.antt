@@ -1,5 +1,6 @@
 -- A plan that is solved: what each of its jobs is, which of them are ever added and what comes of
--- each, all told by their ids alone, with no word on rounds, workers or an order. fontc's own.
+-- each, all told by their ids alone,
+-- with no word on rounds, workers or an order. fontc's own.
 use Rattle.std.specs.Prelude.{◌≡◌, ◌↔◌, ◌⊎◌, ℕ, ◌<◌, ◌≤◌, Bool, false, IsTrue, List, [], map, Some}
 use Rattle.std.specs.Prelude.{Contains}
 use Rattle.access_context.specs.declared.access.Spec.{Spec}
@@ -16,8 +17,8 @@ module _ {Id V : Type 0} (same : Id → Id → Bool) (plan : Meaning Id V) (spec
       (map (λ read. (read, value_of read)) (spec_of id).access.reads)
 
   -- the job is an opening one or a founded one adds it, each item that it reads is founded, and so
-  -- is each job that is there and that it awaits. A cycle of jobs that read one another is not
-  -- founded.
+  -- is each job that is there and that
+  -- it awaits. A cycle of jobs that read one another is not founded.
   pub data Founded : Id → Type 0 where
     opened :
         (id : Id)

@@ -1,8 +1,8 @@
 -- A solved plan keeps the laws of plans, and its limit is what the solution says. Lemmas for the
 -- plans of crates above.
-use Rattle.std.proofs.Common.{◌≡◌, ℕ, suc, ◌<◌, ◌≤◌, Bool, true, false, not, ◌||◌, nat_le, ◌⊎◌, inl}
-use Rattle.std.proofs.Common.{inr, List, [], ◌∷◌, ◌++◌, map, Option, Some, None, is_some, unwrap_or}
-use Rattle.std.proofs.Common.{refl, sym, ap, ◌∙◌, subst, cond, arith}
+use Rattle.std.proofs.Common.{◌≡◌, ℕ, ◌≤◌, Bool, true, false, not, ◌||◌, nat_le, inl, inr, List, []}
+use Rattle.std.proofs.Common.{◌∷◌, map, Option, Some, None, is_some, unwrap_or, refl, sym, ap, ◌∙◌}
+use Rattle.std.proofs.Common.{subst, cond, arith}
 use Rattle.std.specs.Prelude.{Contains}
 use Rattle.std.specs.List.{list_all}
 use Rattle.std.proofs.lemmas.Bool.{and_parts, and_from, or_left, or_right, false≢true, cases_Bool}
@@ -15,14 +15,11 @@ use Rattle.job_graph.specs.Rounds.{State, value_in, is_settled, item_in, reads_i
 use Rattle.job_graph.specs.Rounds.{awaits_nothing, is_ready, blocked, outcome_of, outcome_in}
 use Rattle.job_graph.specs.Rounds.{rounds, limit}
 use Rattle.job_graph.specs.Laws.{IsLawful}
-use Rattle.job_graph.specs.Solutions.{solved_outcome, Founded, opened, added, IsMade, IsSolution}
-use Rattle.job_graph.specs.Solutions.{IsSolved}
+use Rattle.job_graph.specs.Solutions.{solved_outcome, Founded, opened, added, IsSolution, IsSolved}
 use Rattle.job_graph.specs.Members.{In, In-append_cases, In-from_Contains, Contains-from_In}
 use Rattle.job_graph.specs.Members.{list_all-In, list_all-from, map_agree}
-use Rattle.job_graph.specs.Growth.{none≢some, some_of, read_of-push_cases, Within, within_itself}
-use Rattle.job_graph.specs.Growth.{within_through, all_settled_within, outcome_within, ready_reads}
-use Rattle.job_graph.specs.Growth.{ready_awaits, settle, within_settle, Grown, begun, grown}
-use Rattle.job_graph.specs.Growth.{opening_in}
+use Rattle.job_graph.specs.Growth.{none≢some, some_of, read_of-push_cases, ready_reads}
+use Rattle.job_graph.specs.Growth.{ready_awaits, Grown, begun, grown, opening_in}
 use Rattle.job_graph.specs.Confluence.{nil_append, Comes, comes, settled_up_to}
 use Rattle.job_graph.specs.Limit.{rounds_grown, limit_grown, limit_over, none_ready}
 

@@ -1,52 +1,67 @@
 ghost use Rattle.std.specs.Prelude.{◌≡◌, ◌<◌, [], ◌∷◌, ◌++◌, option_map, IfSome, IfOk, OnOk, IfErr};
-ghost use Rattle.std.specs.Prelude.{OnErr, Some, None, ℕ, if◌then◌else◌};
+ghost use Rattle.std.specs.Prelude.{OnErr, Some, None, ℕ, is_some, if◌then◌else◌};
 ghost use Rattle.std.specs.List.{list_any};
 ghost use Rattle.access_context.specs.Plain.{plain, plain_outcome};
-ghost use Rattle.job_graph.specs.Rounds.{value_in, is_unsettled_job, limit, IsOutcomeOf};
+ghost use Rattle.job_graph.specs.Rounds.{value_in, is_settled, is_unsettled_job, access_in, limit};
+ghost use Rattle.job_graph.specs.Rounds.{IsOutcomeOf, IsAddedOf};
 ghost use Rattle.job_graph.specs.Histories.{is_halt_of, out_at, state_of, end_of};
 ghost use Rattle.job_graph.specs.Promises.{IsHistory, IsComplete};
 
+use crate::agenda::Agenda;
 use crate::claim::{Claim, Ticket, Unfinished};
 use crate::event::{End, Event};
 use crate::plan::Plan;
-use crate::{lists, scan};
-use access_context::{Outcome, Settled, Spec};
+use crate::queues::QUEUES;
+use crate::values::Values;
+use crate::{lists, scan, strata, turns};
+use access_context::{Access, Outcome, Settled, Spec};
 use refusal_codes::NoMemory;
 use std::alloc::Global;
 use std::marker::Model;
 
 /// A board of jobs: what each worker did so far, and what came of it. A contract sees its plan, its
-/// workers and its events; all else follows from these.
+/// workers and its
+/// events; all else follows from these.
 ///
-/// This body keeps plain lists and finds a ready job by scanning them. To test a job it looks up
-/// the job and each of its reads in the list of values and, where the job awaits a stratum, every
-/// job. So a claim and `result` take up to as many comparisons as the square of the jobs and reads
-/// together, and as many again for each job that awaits a stratum. A run takes two calls for each
-/// job. `get` and `is_stuck` take one pass. No contract speaks of the lists, nor of which ready job
-/// comes first, so a body that keeps counts can stand in this one's place.
+/// This body keeps an agenda beside its lists: a job stands in a queue once all that it reads is
+/// settled, and till then in the line of the first item that isn't. A claim tells the agenda of the
+/// jobs and values that are new. So it takes the logarithm of the jobs for each of these, for each
+/// job that they wake and for each item that the job reads which is handed out. For each stratum
+/// that is awaited a whole run goes once through the jobs. `finish` takes the logarithm of the jobs
+/// and the length of what is added, and `get` and `added_by` take the logarithm. `is_stuck` and
+/// `access_of` take one pass, and so does `result` between a finish and the next claim.
+///
+/// The ready job with the least id is handed out; no contract speaks of that, nor of the agenda.
 #[derive(Drop)]
 pub struct Board<P: Plan> {
     plan: P,
     workers: u32,
     events: Vec<Event<P::Id>>,
     jobs: Vec<Spec<P::Id>>,
-    values: Vec<(P::Id, Settled<P::Value>)>,
+    values: Values<P::Id, P::Value>,
+    // For each value the places of the jobs that it added: the first of them, and the next after
+    // the last.
+    ranges: Vec<(usize, usize)>,
     outs: Vec<Option<P::Id>>,
     halted: Vec<bool>,
     any_halted: bool,
+    agenda: Agenda<P::Id>,
+    // For each queue of the agenda, how many of the first jobs are known not to hold it up.
+    passed: Vec<usize>,
 }
 
 impl<P: Plan> Model for Board<P> {
     ghost use Rattle.std.specs.Prelude.{map};
-    ghost use Rattle.job_graph.specs.BoardView.{BoardView, IsBoard};
+    ghost use Rattle.job_graph.specs.BoardView.{BoardView, IsKept};
     ghost use Rattle.job_graph.specs.Rounds.{state_from};
 
     ghost Value = { BoardView P P.Id };
 
     ghost view = { λ b. record { plan = b.plan; workers = b.workers; events = b.events.items } };
 
-    ghost invariant = { λ b. IsBoard P.Id.eq (P.meaning b.plan) b.workers b.events
-        (state_from b.jobs.items b.values.items) b.outs.items b.halted.items b.any_halted };
+    ghost invariant = { λ b. IsKept P.Id.eq P.Id.cmp (P.meaning b.plan) b.workers b.events
+        (state_from b.jobs.items b.values) b.outs.items b.halted.items b.any_halted b.ranges.items
+        b.agenda b.passed.items };
 }
 
 impl<P: Plan> Board<P> {
@@ -68,15 +83,20 @@ impl<P: Plan> Board<P> {
         let events = Vec::with_capacity(alloc, count)?;
         let outs = lists::none_out(alloc, count)?;
         let halted = lists::none_halted(alloc, count)?;
+        let agenda = Agenda::new(alloc)?;
+        let passed = strata::none_passed(alloc, QUEUES)?;
         Ok(Board {
             plan,
             workers,
             events,
             jobs,
-            values: Vec::new(alloc),
+            values: Values::new(alloc),
+            ranges: Vec::new(alloc),
             outs,
             halted,
             any_halted: false,
+            agenda,
+            passed,
         })
     }
 
@@ -92,12 +112,14 @@ impl<P: Plan> Board<P> {
         if self.any_halted {
             return Claim::Halted;
         }
-        let next = scan::next_run(
+        let next = turns::next_run(
+            &mut self.agenda,
+            &mut self.passed,
             alloc,
             &self.plan,
             self.jobs.as_slice(),
-            self.values.as_slice(),
-            self.events.as_slice(),
+            &self.values,
+            self.outs.as_slice(),
         );
         match next {
             Err(_) => Claim::NoMemory,
@@ -108,9 +130,11 @@ impl<P: Plan> Board<P> {
                 }
                 Claim::Ended
             }
-            Ok(Some((id, reads))) => {
+            Ok(Some((turn, reads))) => {
+                let id = turn.id;
                 let event = Event::Claim(worker, id);
                 if lists::note(&mut self.events, self.halted.as_slice(), event) {
+                    self.agenda.hand_out(turn);
                     self.outs[worker as usize] = Some(id);
                     Claim::Run(Ticket::of(id), reads)
                 } else {
@@ -141,24 +165,33 @@ impl<P: Plan> Board<P> {
             self.new.events }
     {
         let id = *ticket.id();
-        let event = Event::Finish(worker, id);
         let count = outcome.added.len();
         let halted = self.halted.as_slice();
         if !lists::make_room(
-            &mut self.values,
+            &mut self.ranges,
             &mut self.jobs,
             count,
             &mut self.events,
             halted,
-            event,
         ) {
             return Err(Unfinished { ticket, outcome });
         }
         let Outcome { value, added } = outcome;
-        self.values.push_reserved((id, value));
-        lists::add_all(&mut self.jobs, added.into_vec());
-        self.outs[worker as usize] = None;
-        Ok(())
+        match self.values.push(id, value) {
+            Err(value) => {
+                let outcome = Outcome { value, added };
+                Err(Unfinished { ticket, outcome })
+            }
+            Ok(()) => {
+                self.events.push_reserved(Event::Finish(worker, id));
+                let from = self.jobs.len();
+                lists::add_all(&mut self.jobs, added.into_vec());
+                let to = self.jobs.len();
+                self.ranges.push_reserved((from, to));
+                self.outs[worker as usize] = None;
+                Ok(())
+            }
+        }
     }
 
     /// Stops the board for all. Only a worker's first halt counts. A job that it has out is given
@@ -206,13 +239,20 @@ impl<P: Plan> Board<P> {
         if self.any_halted {
             return End::Halted;
         }
-        if scan::some_ready(&self.plan, self.jobs.as_slice(), self.values.as_slice()) {
+        if scan::running(self.outs.as_slice(), self.workers) > 0 {
             return End::Running;
         }
-        if scan::running(self.outs.as_slice(), self.workers) == 0 {
-            End::Ended
-        } else {
+        if turns::some_left(
+            &self.agenda,
+            self.passed.as_slice(),
+            &self.plan,
+            self.jobs.as_slice(),
+            &self.values,
+            self.outs.as_slice(),
+        ) {
             End::Running
+        } else {
+            End::Ended
         }
     }
 
@@ -236,7 +276,7 @@ impl<P: Plan> Board<P> {
             → option_map (λ s. plain s.now) result
             ≡ value_in P.Id.eq (limit P.Id.eq (P.meaning self.now.plan)) id.now }
     {
-        scan::value_of(self.values.as_slice(), id)
+        self.values.get(id)
     }
 
     /// Whether this is a job that isn't settled; on a board that has ended it never will be. It
@@ -248,6 +288,32 @@ impl<P: Plan> Board<P> {
             ≡ End.Ended
             → result ≡ is_unsettled_job P.Id.eq (limit P.Id.eq (P.meaning self.now.plan)) id.now }
     {
-        scan::has_job(self.jobs.as_slice(), id) && !scan::is_settled(self.values.as_slice(), id)
+        scan::has_job(self.jobs.as_slice(), id) && !scan::is_settled(&self.values, id)
+    }
+
+    /// The jobs that a settled job added, in their order: none where it isn't settled. It takes no
+    /// memory.
+    pub fn added_by(&self, id: &P::Id) -> Option<&[Spec<P::Id>]>
+        ensures settled { is_some result ≡ is_settled P.Id.eq
+            (state_of P.Id.eq (P.meaning self.now.plan) self.now.events) id.now }
+        ensures added { IfSome result (λ jobs. IsAddedOf P.Id.eq (P.meaning self.now.plan) id.now
+            jobs.now) }
+    {
+        match self.values.place(id) {
+            None => None,
+            Some(place) => {
+                let (from, to) = self.ranges[place];
+                Some(lists::part(self.jobs.as_slice(), from, to))
+            }
+        }
+    }
+
+    /// With what a job was added, where a job with this id was. It takes no memory.
+    pub fn access_of(&self, id: &P::Id) -> Option<&Access<P::Id>>
+        ensures { option_map (λ access. access.now) result
+            ≡ access_in P.Id.eq (state_of P.Id.eq (P.meaning self.now.plan) self.now.events)
+            id.now }
+    {
+        scan::access_of(self.jobs.as_slice(), id)
     }
 }

@@ -1,5 +1,6 @@
 // The laws of a plan's growth, over every plan and every history. Each is a function that does
-// nothing: its contract is the law.
+// nothing: its contract is
+// the law.
 ghost use Rattle.std.specs.Prelude.{◌≡◌, ◌<◌, ℕ, List, true};
 ghost use Rattle.job_graph.specs.declared.event.End.TheVariants.{Ended};
 ghost use Rattle.job_graph.specs.Laws.{IsLawful};
@@ -47,8 +48,9 @@ pub fn ended_history_is_complete<P: Plan>(plan: &P)
 }
 
 /// Each value of the limit is what comes of a job by what that job reads there. Each of its jobs is
-/// an opening one, or one that has a value added it. A job has a value once all that it reads has
-/// one and no job is unfinished that it awaits.
+/// an opening one, or one
+/// that has a value added it. A job has a value once all that it reads has one and no job is
+/// unfinished that it awaits.
 pub fn limit_follows_from_values<P: Plan>(plan: &P)
     ensures { IsLimit P.Id.eq (P.meaning plan.now) }
 {
@@ -72,7 +74,8 @@ pub fn solved_plan_is_lawful<P: Solved>(plan: &P)
 }
 
 /// The limit of a solved plan has the jobs that are there, and exactly the founded ones have
-/// values, which are those that the solution tells.
+/// values, which are those that the
+/// solution tells.
 pub fn limit_is_the_solution<P: Solved>(plan: &P)
     ensures { IsSolved P.Id.eq (P.meaning plan.now) (P.spec_of plan.now) (P.is_there plan.now)
         (P.value_of plan.now) }

@@ -1,13 +1,19 @@
 //! A board of jobs that grows while it runs: a pure machine of claims, finishes and halts.
 #![tactic(auto)]
 
+mod agenda;
 mod board;
 mod claim;
 mod event;
 mod laws;
+mod lines;
 mod lists;
 mod plan;
+mod queues;
 mod scan;
+mod strata;
+mod turns;
+mod values;
 
 pub use board::Board;
 pub use claim::{Claim, Ticket, Unfinished, run_claimed};

@@ -1,47 +1,86 @@
 // Readiness, found by scanning lists.
-ghost use Rattle.std.specs.Prelude.{◌≡◌, ℕ, option_map, map, is_some, not, ◌&&◌, ◌||◌, nat_le};
-ghost use Rattle.std.specs.Prelude.{length, count_by, IfOk, IsTrue, List, true, Some};
+ghost use Rattle.std.specs.Prelude.{◌≡◌, ℕ, take, slice_get, option_map, map, is_some, not, ◌&&◌};
+ghost use Rattle.std.specs.Prelude.{◌||◌, nat_le, length, count_by, IfOk, IsTrue, List, true};
+ghost use Rattle.std.specs.Prelude.{false, Some};
 ghost use Rattle.std.specs.List.{list_all, list_any, find};
+ghost use Rattle.access_context.specs.declared.access.Spec.{Spec};
 ghost use Rattle.access_context.specs.Plain.{plain};
 ghost use Rattle.access_context.specs.Read.{plain_item, read_of};
 ghost use Rattle.job_graph.specs.Rounds.{state_from, is_settled, is_done_up_to, awaits_nothing};
 ghost use Rattle.job_graph.specs.Rounds.{is_ready, item_of, has_id};
-ghost use Rattle.job_graph.specs.Histories.{is_claim_of, was_claimed, some_ready, is_claimable};
-ghost use Rattle.job_graph.specs.Scan.{next_of, IsNext};
+ghost use Rattle.job_graph.specs.Histories.{some_ready};
+ghost use Rattle.job_graph.specs.Agenda.{is_out_of};
 
-use crate::event::Event;
 use crate::plan::Plan;
-use access_context::{Reads, Settled, Spec};
+use crate::values::Values;
+use access_context::{Access, Settled, Spec};
 use refusal_codes::NoMemory;
 use std::alloc::Global;
 
-/// What came of the job with this id.
-pub fn value_of<'a, Id: Copy + Ord, V>(
-    values: &'a [(Id, Settled<V>)],
-    id: &Id,
-) -> Option<&'a Settled<V>>
-    ensures { option_map (λ s. plain s.now) result
-        ≡ read_of Id.eq (map plain_item values.now) id.now }
+/// Whether something came of the job with this id.
+pub fn is_settled<Id: Copy + Ord, V: Drop>(values: &Values<Id, V>, id: &Id) -> bool
+    ensures { result ≡ is_some (read_of Id.eq values.now id.now) }
 {
-    for item in values {
-        if item.0 == *id {
-            return Some(&item.1);
-        }
-    }
-    None
+    values.get(id).is_some()
 }
 
-/// Whether something came of the job with this id.
-pub fn is_settled<Id: Copy + Ord, V>(values: &[(Id, Settled<V>)], id: &Id) -> bool
-    ensures { result ≡ is_some (read_of Id.eq (map plain_item values.now) id.now) }
+/// Whether a worker has this job out.
+fn has_out<Id: Copy + Ord>(out: &Option<Id>, id: &Id) -> bool
+    ensures { result ≡ is_out_of Id.eq id.now out.now }
 {
-    value_of(values, id).is_some()
+    match out {
+        Some(job) => *job == *id,
+        None => false,
+    }
+}
+
+/// Whether some worker has this job out.
+fn is_out<Id: Copy + Ord>(outs: &[Option<Id>], id: &Id) -> bool
+    ensures { result ≡ list_any (is_out_of Id.eq id.now) outs.now }
+{
+    for out in outs {
+        if has_out(out, id) {
+            return true;
+        }
+    }
+    false
+}
+
+/// Whether a job is settled or out.
+pub fn is_taken<Id: Copy + Ord, V: Drop>(
+    values: &Values<Id, V>,
+    outs: &[Option<Id>],
+    id: &Id,
+) -> bool
+    ensures { result ≡ (is_some (read_of Id.eq values.now id.now)
+        || list_any (is_out_of Id.eq id.now) outs.now) }
+{
+    is_settled(values, id) || is_out(outs, id)
+}
+
+/// How many of the first reads are settled, where it is known of some.
+pub fn first_unsettled<Id: Copy + Ord, V: Drop>(
+    values: &Values<Id, V>,
+    reads: &[Id],
+    known: usize,
+) -> usize
+    requires { list_all (λ id. is_some (read_of Id.eq values.now id)) (take known reads.now)
+        ≡ true }
+    ensures settled { list_all (λ id. is_some (read_of Id.eq values.now id)) (take result reads.now)
+        ≡ true }
+    ensures stops { (id : Id) → slice_get reads.now result ≡ Some id
+        → is_some (read_of Id.eq values.now id) ≡ false }
+{
+    let mut read = known;
+    while read < reads.len() && is_settled(values, &reads[read]) {
+        read += 1;
+    }
+    read
 }
 
 /// Whether each of these ids is settled.
-pub fn all_settled<Id: Copy + Ord, V>(values: &[(Id, Settled<V>)], ids: &[Id]) -> bool
-    ensures { result ≡ list_all (λ id. is_some (read_of Id.eq (map plain_item values.now) id))
-        ids.now }
+pub fn all_settled<Id: Copy + Ord, V: Drop>(values: &Values<Id, V>, ids: &[Id]) -> bool
+    ensures { result ≡ list_all (λ id. is_some (read_of Id.eq values.now id)) ids.now }
 {
     for id in ids {
         if !is_settled(values, id) {
@@ -52,30 +91,30 @@ pub fn all_settled<Id: Copy + Ord, V>(values: &[(Id, Settled<V>)], ids: &[Id]) -
 }
 
 /// Whether a job is of a higher stratum, or is settled.
-fn lets_pass<P: Plan>(
+pub fn lets_pass<P: Plan>(
     plan: &P,
-    values: &[(P::Id, Settled<P::Value>)],
+    values: &Values<P::Id, P::Value>,
     job: &Spec<P::Id>,
-    stratum: u8,
+    stratum: usize,
 ) -> bool
     ensures { result ≡ (not (nat_le ((P.meaning plan.now).stratum job.now.id) stratum)
-        || is_some (read_of P.Id.eq (map plain_item values.now) job.now.id)) }
+        || is_some (read_of P.Id.eq values.now job.now.id)) }
 {
-    plan.stratum(&job.id) > stratum || is_settled(values, &job.id)
+    usize::from(plan.stratum(&job.id)) > stratum || is_settled(values, &job.id)
 }
 
 /// Whether no job of this stratum or a lower one is unfinished.
 pub fn is_done_up_to<P: Plan>(
     plan: &P,
     jobs: &[Spec<P::Id>],
-    values: &[(P::Id, Settled<P::Value>)],
+    values: &Values<P::Id, P::Value>,
     stratum: u8,
 ) -> bool
     ensures { result ≡ is_done_up_to P.Id.eq (P.meaning plan.now) (state_from jobs.now values.now)
         stratum }
 {
     for job in jobs {
-        if !lets_pass(plan, values, job, stratum) {
+        if !lets_pass(plan, values, job, usize::from(stratum)) {
             return false;
         }
     }
@@ -86,7 +125,7 @@ pub fn is_done_up_to<P: Plan>(
 fn awaits_nothing<P: Plan>(
     plan: &P,
     jobs: &[Spec<P::Id>],
-    values: &[(P::Id, Settled<P::Value>)],
+    values: &Values<P::Id, P::Value>,
     awaits: Option<u8>,
 ) -> bool
     ensures { result ≡ awaits_nothing P.Id.eq (P.meaning plan.now) (state_from jobs.now values.now)
@@ -102,7 +141,7 @@ fn awaits_nothing<P: Plan>(
 pub fn is_ready<P: Plan>(
     plan: &P,
     jobs: &[Spec<P::Id>],
-    values: &[(P::Id, Settled<P::Value>)],
+    values: &Values<P::Id, P::Value>,
     job: &Spec<P::Id>,
 ) -> bool
     ensures { result ≡ is_ready P.Id.eq (P.meaning plan.now) (state_from jobs.now values.now)
@@ -114,11 +153,7 @@ pub fn is_ready<P: Plan>(
 }
 
 /// Whether a job is ready.
-pub fn some_ready<P: Plan>(
-    plan: &P,
-    jobs: &[Spec<P::Id>],
-    values: &[(P::Id, Settled<P::Value>)],
-) -> bool
+pub fn some_ready<P: Plan>(plan: &P, jobs: &[Spec<P::Id>], values: &Values<P::Id, P::Value>) -> bool
     ensures { result ≡ some_ready P.Id.eq (P.meaning plan.now) (state_from jobs.now values.now) }
 {
     for job in jobs {
@@ -127,61 +162,6 @@ pub fn some_ready<P: Plan>(
         }
     }
     false
-}
-
-/// Whether an event claims this job.
-fn is_claim_of<Id: Copy + Ord>(event: &Event<Id>, id: &Id) -> bool
-    ensures { result ≡ is_claim_of Id.eq id.now event.now }
-{
-    match event {
-        Event::Claim(_, job) => *job == *id,
-        _ => false,
-    }
-}
-
-/// Whether a job was claimed.
-pub fn was_claimed<Id: Copy + Ord>(events: &[Event<Id>], id: &Id) -> bool
-    ensures { result ≡ was_claimed Id.eq events.now id.now }
-{
-    for event in events {
-        if is_claim_of(event, id) {
-            return true;
-        }
-    }
-    false
-}
-
-/// Whether a job is ready and wasn't claimed.
-fn is_claimable<P: Plan>(
-    plan: &P,
-    jobs: &[Spec<P::Id>],
-    values: &[(P::Id, Settled<P::Value>)],
-    events: &[Event<P::Id>],
-    job: &Spec<P::Id>,
-) -> bool
-    ensures { result ≡ is_claimable P.Id.eq (P.meaning plan.now) (state_from jobs.now values.now)
-        events.now job.now }
-{
-    is_ready(plan, jobs, values, job) && !was_claimed(events, &job.id)
-}
-
-/// The first ready job that wasn't claimed.
-pub fn next_job<'a, P: Plan>(
-    plan: &P,
-    jobs: &'a [Spec<P::Id>],
-    values: &[(P::Id, Settled<P::Value>)],
-    events: &[Event<P::Id>],
-) -> Option<&'a Spec<P::Id>>
-    ensures { option_map (λ job. job.now) result
-        ≡ next_of P.Id.eq (P.meaning plan.now) (state_from jobs.now values.now) events.now
-        jobs.now }
-{
-    for job in jobs {
-        if is_claimable(plan, jobs, values, events, job) {
-            return Some(job);
-        }
-    }
-    None
 }
 
 /// Whether a job has this id.
@@ -194,6 +174,19 @@ pub fn has_job<Id: Copy + Ord>(jobs: &[Spec<Id>], id: &Id) -> bool
         }
     }
     false
+}
+
+/// With what the job with this id was added.
+pub fn access_of<'a, Id: Copy + Ord>(jobs: &'a [Spec<Id>], id: &Id) -> Option<&'a Access<Id>>
+    ensures { option_map (λ access. access.now) result
+        ≡ option_map (λ (job : Spec Id). job.access) (find (has_id Id.eq id.now) jobs.now) }
+{
+    for job in jobs {
+        if job.id == *id {
+            return Some(&job.access);
+        }
+    }
+    None
 }
 
 /// How many workers have a job out.
@@ -213,12 +206,12 @@ pub fn running<Id: Copy>(outs: &[Option<Id>], workers: u32) -> u32
 /// What came of a job that is settled.
 fn copy_of<Id: Copy + Ord, V: Drop>(
     alloc: Global,
-    values: &[(Id, Settled<V>)],
+    values: &Values<Id, V>,
     id: &Id,
 ) -> Result<Settled<V>, NoMemory>
-    ensures { IfOk result (λ s. plain s ≡ (item_of Id.eq (map plain_item values.now) id.now).1) }
+    ensures { IfOk result (λ s. plain s ≡ (item_of Id.eq values.now id.now).1) }
 {
-    match value_of(values, id) {
+    match values.get(id) {
         Some(settled) => settled.copy(alloc),
         None => Ok(Settled::Blocked),
     }
@@ -227,35 +220,15 @@ fn copy_of<Id: Copy + Ord, V: Drop>(
 /// What a job reads; an item that isn't settled counts as blocked.
 pub fn reads_of<Id: Copy + Ord, V: Drop>(
     alloc: Global,
-    values: &[(Id, Settled<V>)],
+    values: &Values<Id, V>,
     ids: &[Id],
 ) -> Result<Vec<(Id, Settled<V>)>, NoMemory>
     ensures { IfOk result (λ reads. map plain_item reads.items
-        ≡ map (item_of Id.eq (map plain_item values.now)) ids.now) }
+        ≡ map (item_of Id.eq values.now) ids.now) }
 {
     let mut reads = Vec::with_capacity(alloc, ids.len())?;
     for id in ids {
         reads.push((*id, copy_of(alloc, values, id)?))?;
     }
     Ok(reads)
-}
-
-/// The next job to run, with what it reads.
-pub fn next_run<P: Plan>(
-    alloc: Global,
-    plan: &P,
-    jobs: &[Spec<P::Id>],
-    values: &[(P::Id, Settled<P::Value>)],
-    events: &[Event<P::Id>],
-) -> Result<Option<(P::Id, Reads<P::Id, P::Value>)>, NoMemory>
-    ensures { IfOk result (λ next. IsNext P.Id.eq (P.meaning plan.now)
-        (state_from jobs.now values.now) events.now next) }
-{
-    match next_job(plan, jobs, values, events) {
-        None => Ok(None),
-        Some(job) => {
-            let reads = reads_of(alloc, values, job.access.reads.as_slice())?;
-            Ok(Some((job.id, Reads::indexed(alloc, reads)?)))
-        }
-    }
 }

@@ -1,9 +1,8 @@
-use Rattle.std.proofs.Common.{◌≡◌, drop, map, is_some}
+use Rattle.std.proofs.Common.{◌≡◌, drop, is_some}
 use Rattle.std.specs.List.{list_all}
-use Rattle.access_context.specs.Read.{plain_item, read_of}
+use Rattle.access_context.specs.Read.{read_of}
 use Rattle.job_graph.proofs.scan.all_settled.Given as goal
 
 abbrev pub invariant-loop-id : goal.invariant-loop-id
-invariant-loop-id g l = list_all (λ id. is_some
-    (read_of g.Id.PartialEq.eq (map plain_item l.values) id)) (drop l.id-index l.ids)
-    ≡ list_all (λ id. is_some (read_of g.Id.PartialEq.eq (map plain_item l.values) id)) l.ids
+invariant-loop-id g l = list_all (λ id. is_some (read_of g.Id.PartialEq.eq l.values id))
+    (drop l.id-index l.ids) ≡ list_all (λ id. is_some (read_of g.Id.PartialEq.eq l.values id)) l.ids

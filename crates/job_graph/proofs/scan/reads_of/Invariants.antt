@@ -5,4 +5,4 @@ use Rattle.job_graph.proofs.scan.reads_of.Given as goal
 
 abbrev pub invariant-loop-id : goal.invariant-loop-id
 invariant-loop-id g l = map plain_item l.reads.items
-    ≡ map (item_of g.Id.PartialEq.eq (map plain_item l.values)) (take l.id-index l.ids)
+    ≡ map (item_of g.Id.PartialEq.eq l.values) (take l.id-index l.ids)

@@ -2,6 +2,7 @@ use Rattle.std.proofs.Common.{◌≡◌, ◌<◌, None, true, false, refl, sym, 
 use Rattle.std.specs.List.{list_any}
 use Rattle.job_graph.specs.declared.event.Event.TheVariants as event
 use Rattle.job_graph.specs.Histories.{is_halt_of}
+use Rattle.std.proofs.lemmas.Bool.{false≢true}
 use Rattle.job_graph.proofs.Boards.{flag_index, out_index, flag_says, halted_before, room_for_halt}
 use Rattle.job_graph.proofs.Boards.{board_halt, board_history, same_workers, same_events, view_push}
 use Rattle.job_graph.proofs.Boards.{chosen_first, chosen_second}
@@ -16,7 +17,8 @@ index-requires g c =
       arith,
       c.self.inside.halted.ok.0,
       flag_index _ _ _
-          (g.met.P.Plan.lawful c.self.inside.plan) _ _ _ _ _ c.self.invariant c.args.worker lt,
+          (g.met.P.Plan.lawful c.self.inside.plan) _ _ _ _ _ c.self.invariant.board
+          c.args.worker lt,
     )
 
 pub index_mut-requires : goal.index_mut-requires
@@ -27,16 +29,17 @@ index_mut-requires g c =
       arith,
       c.self.inside.halted.ok.0,
       flag_index _ _ _
-          (g.met.P.Plan.lawful c.self.inside.plan) _ _ _ _ _ c.self.invariant c.args.worker lt,
+          (g.met.P.Plan.lawful c.self.inside.plan) _ _ _ _ _ c.self.invariant.board
+          c.args.worker lt,
     )
 
 pub push_reserved-requires : goal.push_reserved-requires
 push_reserved-requires g c =
     let lt : c.args.worker < c.self.inside.workers
     = (let e = same_workers _ _ c.self.view_is in omega (arith, c.requires)) in
-    room_for_halt _ _ _ (g.met.P.Plan.lawful c.self.inside.plan) _ _ _ _ _ c.self.invariant
+    room_for_halt _ _ _ (g.met.P.Plan.lawful c.self.inside.plan) _ _ _ _ _ c.self.invariant.board
     c.args.worker (flag_says _ _ _ (g.met.P.Plan.lawful c.self.inside.plan) _ _ _ _ _
-    c.self.invariant c.args.worker lt c.index.result.now false c.index.ensures
+    c.self.invariant.board c.args.worker lt c.index.result.now false c.index.ensures
     c.if-not-index.true)
 
 pub index_mut-requires-then-not-index : goal.index_mut-requires-then-not-index
@@ -47,18 +50,25 @@ index_mut-requires-then-not-index g c =
       arith,
       c.self.inside.outs.ok.0,
       out_index _ _ _ (g.met.P.Plan.lawful c.self.inside.plan)
-          _ _ _ _ _ c.self.invariant c.args.worker lt,
+          _ _ _ _ _ c.self.invariant.board c.args.worker lt,
     )
 
 pub invariant_of-self : goal.invariant_of-self
 invariant_of-self g c =
     let lt : c.args.worker < c.self.inside.workers
     = (let e = same_workers _ _ c.self.view_is in omega (arith, c.requires)) in
-    board_halt _ _ _ (g.met.P.Plan.lawful c.self.inside.plan) _ _ _ _ _ c.self.invariant
-    c.args.worker lt (flag_says _ _ _ (g.met.P.Plan.lawful c.self.inside.plan) _ _ _ _ _
-    c.self.invariant c.args.worker lt c.index.result.now false c.index.ensures
-    c.if-not-index.true) c.push_reserved.new.self c.push_reserved.ensures.items
-    c.push_reserved.ensures.len c.push_reserved.ensures.capacity
+    record {
+      board = board_halt _ _ _ (g.met.P.Plan.lawful c.self.inside.plan) _ _ _ _ _
+          c.self.invariant.board c.args.worker lt
+          (flag_says _ _ _ (g.met.P.Plan.lawful c.self.inside.plan) _ _ _ _ _ c.self.invariant.board
+          c.args.worker lt c.index.result.now false c.index.ensures c.if-not-index.true)
+          c.push_reserved.new.self c.push_reserved.ensures.items c.push_reserved.ensures.len
+          c.push_reserved.ensures.capacity;
+      rows = c.self.invariant.rows;
+      tasks = λ e. absurd (false≢true (sym e));
+      strata = c.self.invariant.strata;
+      count = c.self.invariant.count;
+    }
 
 pub returns-then-not-index-clause-halts : goal.returns-then-not-index-clause-halts
 returns-then-not-index-clause-halts g c =
@@ -66,8 +76,9 @@ returns-then-not-index-clause-halts g c =
     = (let e = same_workers _ _ c.self.view_is in omega (arith, c.requires)) in
     let before : list_any (is_halt_of c.args.worker) c.args.self.now.events
     ≡ false = ap (list_any (is_halt_of c.args.worker)) (sym (same_events _ _ c.self.view_is))
-    ∙ halted_before _ _ _ (g.met.P.Plan.lawful c.self.inside.plan) _ _ _ _ _ c.self.invariant
-    c.args.worker lt c.index.result.now false c.index.ensures c.if-not-index.true in
+    ∙ halted_before _ _ _ (g.met.P.Plan.lawful c.self.inside.plan) _ _ _ _ _
+    c.self.invariant.board c.args.worker lt c.index.result.now false c.index.ensures
+    c.if-not-index.true in
     chosen_second _ _ _ _ before (view_push _ _ (event.Halt c.args.worker) _ c.self.view_is
     c.push_reserved.ensures.items)
 
@@ -76,9 +87,9 @@ returns-then-not-index-clause-history g c =
     let lt : c.args.worker < c.self.inside.workers
     = (let e = same_workers _ _ c.self.view_is in omega (arith, c.requires)) in
     board_history _ _ _ (g.met.P.Plan.lawful c.self.inside.plan) _ _ _ _ _
-    (board_halt _ _ _ (g.met.P.Plan.lawful c.self.inside.plan) _ _ _ _ _ c.self.invariant
+    (board_halt _ _ _ (g.met.P.Plan.lawful c.self.inside.plan) _ _ _ _ _ c.self.invariant.board
     c.args.worker lt (flag_says _ _ _ (g.met.P.Plan.lawful c.self.inside.plan) _ _ _ _ _
-    c.self.invariant c.args.worker lt c.index.result.now false c.index.ensures
+    c.self.invariant.board c.args.worker lt c.index.result.now false c.index.ensures
     c.if-not-index.true) c.push_reserved.new.self c.push_reserved.ensures.items
     c.push_reserved.ensures.len c.push_reserved.ensures.capacity)
 
@@ -88,14 +99,15 @@ returns-else-not-index-clause-halts g c =
     = (let e = same_workers _ _ c.self.view_is in omega (arith, c.requires)) in
     let before : list_any (is_halt_of c.args.worker) c.args.self.now.events
     ≡ true = ap (list_any (is_halt_of c.args.worker)) (sym (same_events _ _ c.self.view_is))
-    ∙ halted_before _ _ _ (g.met.P.Plan.lawful c.self.inside.plan) _ _ _ _ _ c.self.invariant
-    c.args.worker lt c.index.result.now true c.index.ensures c.if-not-index.false in
+    ∙ halted_before _ _ _ (g.met.P.Plan.lawful c.self.inside.plan) _ _ _ _ _
+    c.self.invariant.board c.args.worker lt c.index.result.now true c.index.ensures
+    c.if-not-index.false in
     chosen_first _ _ _ _ before refl
 
 pub returns-else-not-index-clause-history : goal.returns-else-not-index-clause-history
 returns-else-not-index-clause-history g c
     = rw (← c.self.view_is) (board_history _ _ _ (g.met.P.Plan.lawful c.self.inside.plan) _ _ _ _ _
-    c.self.invariant)
+    c.self.invariant.board)
 
 pub returns-then-not-index-clause-gives_up : goal.returns-then-not-index-clause-gives_up
 returns-then-not-index-clause-gives_up g c =
@@ -110,8 +122,8 @@ returns-else-not-index-clause-gives_up g c =
     = (let e = same_workers _ _ c.self.view_is in omega (arith, c.requires)) in
     let before : list_any (is_halt_of c.args.worker) c.self.inside.events.items
     ≡ true = halted_before _ _ _ (g.met.P.Plan.lawful c.self.inside.plan) _ _ _ _ _
-    c.self.invariant c.args.worker lt c.index.result.now true c.index.ensures
+    c.self.invariant.board c.args.worker lt c.index.result.now true c.index.ensures
     c.if-not-index.false in
     rw (← c.self.view_is) (still_has _ c.args.worker None
     (out_halted g.P.Id.PartialEq.eq (g.P.Plan.meaning c.self.inside.plan) c.self.inside.workers
-    c.args.worker lt c.self.inside.events.items c.self.invariant.legal before))
+    c.args.worker lt c.self.inside.events.items c.self.invariant.board.legal before))

@@ -1,0 +1,568 @@
+-- A graph has a font exactly where each part answers and the font is made of their answers. For the
+-- plans of crates above. fontc's own.
+use Rattle.std.proofs.Common.{◌≡◌, ℕ, Bool, true, false, cond, inl, inr, List, [], ◌∷◌, map, Option}
+use Rattle.std.proofs.Common.{Some, None, Result, Ok, Err, refl, sym, ap, ◌∙◌, subst}
+use Rattle.std.specs.Prelude.{◌↔◌, IsTrue, option_and_then}
+use Rattle.std.specs.List.{list_all}
+use Rattle.std.proofs.lemmas.Bool.{false≢true, cases_Bool, and_from}
+use Rattle.refusal_codes.specs.declared.refusal.Refusal.{Refusal}
+use Rattle.access_context.specs.Plain.{Plain, Done, PlainOutcome, is_done, done_value}
+use Rattle.access_context.specs.Read.{read_of, value_read, all_done}
+use Rattle.font_ir.specs.declared.tag.Tag.{Tag}
+use Rattle.job_graph.specs.Rounds.{blocked}
+use Rattle.job_graph.specs.Members.{In, list_all-In, list_all-from}
+use Rattle.font_graph.specs.Parts.{Parts}
+use Rattle.font_graph.specs.Fonts.{AllMade, drawn, table, IsFontOf}
+use Rattle.refusal_codes.specs.Gives.{◌>>=◌}
+use Rattle.font_graph.specs.Graph.{Item, ATree, AHeader, AnIndex, ARaw, AFlat, AnOrder, AMeasure}
+use Rattle.font_graph.specs.Graph.{Bytes, as_tree, as_header, as_index, as_raw, as_flat, as_order}
+use Rattle.font_graph.specs.Graph.{as_measures, as_bytes, all_of, on, settle, none, outcome}
+use Rattle.font_graph.specs.Graph.{settled}
+use Rattle.font_graph.specs.Graph.{read_as, read_all, reads_with, numbers, value_of, tree_value}
+use Rattle.font_graph.specs.Graph.{header_value, index_value, raw_value, flat_value, simple_value}
+use Rattle.font_graph.specs.Graph.{order_value, advances_value, table_value, font_value}
+use Rattle.font_graph.specs.Outcomes.{map-In, In-map, with_value, items, reads_done, value}
+use Rattle.font_graph.specs.Solved.{found, numbers_are, raw_done, flats_done}
+use Rattle.font_graph.specs.declared.ids.JobId.{JobId}
+use Rattle.font_graph.specs.declared.ids.JobId.TheVariants as job
+
+module _ (p : Parts) (same : JobId → JobId → Bool)
+    (identity : (x y : JobId) → IsTrue (same x y) ↔ (x ≡ y)) where
+  -- what a part answers, as a value
+  plain_of : {A : Type 0} → (A → Item p) → Result A Refusal → Plain (Item p)
+  plain_of item r = (settle p same item (none p same) r).value
+
+  on_some : {A : Type 0} (x : Option A) (f : A → PlainOutcome (Item p) JobId) (a : A)
+      → x ≡ Some a → on p same x f ≡ f a
+  unfolding on
+  on_some x f a e = ap (λ o. on p same o f) e
+
+  settle_value : {A : Type 0} (item : A → Item p) (adds : A → List _) (r : Result A Refusal)
+      → (settle p same item adds r).value ≡ plain_of item r
+  unfolding settle plain_of
+  settle_value item adds (Ok a) = refl
+  settle_value item adds (Err r) = refl
+
+  -- a value is that of an answer
+  answered : {A : Type 0} (item : A → Item p) (r : Result A Refusal) (v : Plain (Item p))
+      → v ≡ plain_of item r → is_done v ≡ true → (a : A) × (r ≡ Ok a) × (v ≡ Done (item a))
+  unfolding settle plain_of
+  answered item (Ok a) v e d = (a, refl, e)
+  answered item (Err r) v e d = absurd (false≢true (ap is_done (sym e) ∙ d))
+
+  -- and an answer has its value
+  of_answer : {A : Type 0} (item : A → Item p) (r : Result A Refusal) (v : Plain (Item p)) (a : A)
+      → v ≡ plain_of item r → r ≡ Ok a → v ≡ Done (item a)
+  unfolding settle plain_of
+  of_answer item r v a e f = e ∙ ap (plain_of item) f
+
+  settled_is : (id : JobId) (reads : List (JobId × Plain (Item p))) → all_done reads ≡ true
+      → (settled p same id reads).value ≡ (outcome p same id reads).value
+  settled_is id reads e = ap (λ b. (cond b (outcome p same id reads) blocked).value) e
+
+  -- what is read of an item with a value
+  read_is : {A : Type 0} (kind : Item p → Option A) (ids : List JobId) (id : JobId) (i : Item p)
+      (a : A) → In id ids → value_of p same id ≡ Done i → kind i ≡ Some a
+      → read_as p same kind (map (with_value p same) ids) id ≡ Some a
+  read_is kind ids id i a there is kinded =
+      ap (λ o. option_and_then kind (option_and_then done_value o))
+      (found p same identity ids id there ∙ ap Some is) ∙ kinded
+
+  all_from : (ids : List JobId) → ((id : JobId) → In id ids → is_done (value_of p same id) ≡ true)
+      → all_done (map (with_value p same) ids) ≡ true
+  all_from [] every = refl
+  all_from (id ∷ ids) every = and_from (is_done (value_of p same id))
+      (all_done (map (with_value p same) ids)) (every id (inl refl))
+      (all_from ids (λ other there. every other (inr there)))
+
+  by_outcome : (id : JobId) → all_done (items p same id) ≡ true
+      → value_of p same id ≡ (outcome p same id (items p same id)).value
+  by_outcome id e = sym (value p same id) ∙ settled_is id (items p same id) e
+
+  is_done_by : (v : Plain (Item p)) (i : Item p) → v ≡ Done i → is_done v ≡ true
+  is_done_by v i e = ap is_done e
+
+  -- a job that reads two items, or three
+  both : (a b : JobId) → is_done (value_of p same a) ≡ true → is_done (value_of p same b) ≡ true
+      → all_done (map (with_value p same) (a ∷ b ∷ [])) ≡ true
+  both a b e f = all_from (a ∷ b ∷ []) (λ id there. elim there [
+    | inl is ↦ subst (λ id. is_done (value_of p same id) ≡ true) is e
+    | inr there ↦ elim there [
+      | inl is ↦ subst (λ id. is_done (value_of p same id) ≡ true) is f
+      | inr none ↦ absurd none
+    ]
+  ])
+
+  -- ---- each value by its part
+
+  tree_by : tree_value p same ≡ plain_of ATree p.tree
+  tree_by = settle_value ATree (none p same) p.tree
+
+  module _ (tree : p.Tree) (tree_is : tree_value p same ≡ Done (ATree tree)) where
+    tree_read : (id : JobId) → In job.Tree (reads_with p same (numbers p same) id)
+        → read_as p same (as_tree p) (items p same id) job.Tree ≡ Some tree
+    tree_read id there = read_is (as_tree p) (reads_with p same (numbers p same) id) job.Tree
+        (ATree tree) tree there tree_is refl
+
+    tree_done : all_done (map (with_value p same) (job.Tree ∷ [])) ≡ true
+    tree_done = all_from (job.Tree ∷ []) (λ id there. elim there [
+      | inl is ↦ subst (λ id. is_done (value_of p same id) ≡ true) is
+          (is_done_by (tree_value p same) (ATree tree) tree_is)
+      | inr none ↦ absurd none
+    ])
+
+    header_by : header_value p same ≡ plain_of AHeader (p.header tree)
+    header_by = by_outcome job.Header tree_done
+        ∙ ap (λ o. o.value) (on_some _ _ tree (tree_read job.Header (inl refl)))
+        ∙ settle_value AHeader (none p same) (p.header tree)
+
+    index_by : index_value p same ≡ plain_of AnIndex (p.index tree)
+    index_by = by_outcome job.Index tree_done
+        ∙ ap (λ o. o.value) (on_some _ _ tree (tree_read job.Index (inl refl)))
+        ∙ settle_value AnIndex _ (p.index tree)
+
+    module _ (header : p.Header) (index : p.Index)
+        (header_is : header_value p same ≡ Done (AHeader header))
+        (index_is : index_value p same ≡ Done (AnIndex index)) where
+      header_read : (id : JobId) → In job.Header (reads_with p same (numbers p same) id)
+          → read_as p same (as_header p) (items p same id) job.Header ≡ Some header
+      header_read id there = read_is (as_header p) (reads_with p same (numbers p same) id)
+          job.Header (AHeader header) header there header_is refl
+
+      index_read : (id : JobId) → In job.Index (reads_with p same (numbers p same) id)
+          → read_as p same (as_index p) (items p same id) job.Index ≡ Some index
+      index_read id there = read_is (as_index p) (reads_with p same (numbers p same) id)
+          job.Index (AnIndex index) index there index_is refl
+
+      source_done : all_done (map (with_value p same) (job.Tree ∷ job.Header ∷ job.Index ∷ []))
+          ≡ true
+      source_done = and_from (is_done (tree_value p same)) _
+          (is_done_by (tree_value p same) (ATree tree) tree_is)
+          (both job.Header job.Index
+          (is_done_by (header_value p same) (AHeader header) header_is)
+          (is_done_by (index_value p same) (AnIndex index) index_is))
+
+      raw_by : (glyph : ℕ) → raw_value p same glyph ≡ plain_of ARaw (p.raw tree header index glyph)
+      raw_by glyph = by_outcome (job.Raw glyph) source_done
+          ∙ ap (λ o. o.value) (on_some _ _ tree (tree_read (job.Raw glyph) (inl refl)))
+          ∙ ap (λ o. o.value) (on_some _ _ header (header_read (job.Raw glyph) (inr (inl refl))))
+          ∙ ap (λ o. o.value)
+          (on_some _ _ index (index_read (job.Raw glyph) (inr (inr (inl refl)))))
+          ∙ settle_value ARaw _ (p.raw tree header index glyph)
+
+      flat_by : (glyph : ℕ) (raw : p.Raw) → raw_value p same glyph ≡ Done (ARaw raw)
+          → flat_value p same glyph ≡ plain_of AFlat (p.flat raw index)
+      flat_by glyph raw is = by_outcome (job.Flat glyph) (both (job.Raw glyph) job.Index
+          (is_done_by (raw_value p same glyph) (ARaw raw) is)
+          (is_done_by (index_value p same) (AnIndex index) index_is))
+          ∙ ap (λ o. o.value) (on_some _ _ raw (read_is (as_raw p)
+          (reads_with p same (numbers p same) (job.Flat glyph)) (job.Raw glyph) (ARaw raw) raw
+          (inl refl) is refl))
+          ∙ ap (λ o. o.value) (on_some _ _ index (index_read (job.Flat glyph) (inr (inl refl))))
+          ∙ settle_value AFlat _ (p.flat raw index)
+
+      simple_by : (glyph : ℕ) (flat : p.Flat) → flat_value p same glyph ≡ Done (AFlat flat)
+          → simple_value p same glyph ≡ plain_of Bytes (p.simple header flat)
+      simple_by glyph flat is = by_outcome (job.Simple glyph) (both job.Header (job.Flat glyph)
+          (is_done_by (header_value p same) (AHeader header) header_is)
+          (is_done_by (flat_value p same glyph) (AFlat flat) is))
+          ∙ ap (λ o. o.value)
+          (on_some _ _ header (header_read (job.Simple glyph) (inl refl)))
+          ∙ ap (λ o. o.value) (on_some _ _ flat (read_is (as_flat p)
+          (reads_with p same (numbers p same) (job.Simple glyph)) (job.Flat glyph) (AFlat flat)
+          flat (inr (inl refl)) is refl))
+          ∙ settle_value Bytes (none p same) (p.simple header flat)
+
+      -- ---- of the glyphs together
+
+      -- each of these jobs has a value of one kind
+      Valued : {X A : Type 0} → (X → JobId) → (A → Item p) → List X → List A → Type 0
+      Valued make item [] [] = Unit {0}
+      Valued make item (x ∷ xs) (a ∷ others) = (value_of p same (make x) ≡ Done (item a))
+          × Valued make item xs others
+      Valued make item [] (a ∷ others) = ⊥
+      Valued make item (x ∷ xs) [] = ⊥
+
+      valued_done : {X A : Type 0} (make : X → JobId) (item : A → Item p) (xs : List X)
+          (answers : List A) → Valued make item xs answers → (x : X) → In x xs
+          → is_done (value_of p same (make x)) ≡ true
+      unfolding Valued
+      valued_done make item [] answers v x i = absurd i
+      valued_done make item (y ∷ xs) [] v x i = absurd v
+      valued_done make item (y ∷ xs) (a ∷ others) v x i = elim i [
+        | inl is ↦ subst (λ z. is_done (value_of p same (make z)) ≡ true) is
+            (is_done_by (value_of p same (make y)) (item a) v.0)
+        | inr there ↦ valued_done make item xs others v.1 x there
+      ]
+
+      read_all_is : {X A : Type 0} (kind : Item p → Option A) (id : JobId) (make : X → JobId)
+          (item : A → Item p) → ((a : A) → kind (item a) ≡ Some a) → (xs : List X)
+          (answers : List A) → Valued make item xs answers
+          → ((x : X) → In x xs → In (make x) (reads_with p same (numbers p same) id))
+          → read_all p same kind (items p same id) (map make xs) ≡ Some answers
+      unfolding Valued
+      read_all_is kind id make item kinded [] [] v read = refl
+      read_all_is kind id make item kinded [] (a ∷ others) v read = absurd v
+      read_all_is kind id make item kinded (x ∷ xs) [] v read = absurd v
+      read_all_is kind id make item kinded (x ∷ xs) (a ∷ others) v read =
+          ap (λ o. all_of (o ∷ map (λ i. read_as p same kind (items p same id) i) (map make xs)))
+          (read_is kind (reads_with p same (numbers p same) id) (make x) (item a) a
+          (read x (inl refl)) v.0 (kinded a))
+          ∙ ap (option_and_then (λ rest. Some (a ∷ rest)))
+          (read_all_is kind id make item kinded xs others v.1 (λ y i. read y (inr i)))
+
+      in_numbers : (glyph : ℕ) → In glyph (p.numbers index) → In glyph (numbers p same)
+      in_numbers glyph i = subst (λ ns. In glyph ns) (numbers_are p same index index_is) i
+
+      from_numbers : (glyph : ℕ) → In glyph (numbers p same) → In glyph (p.numbers index)
+      from_numbers glyph i = subst (λ ns. In glyph ns) (sym (numbers_are p same index index_is)) i
+
+      abbrev IsDoneJob : JobId → Type 0
+      IsDoneJob id = is_done (value_of p same id) ≡ true
+
+      header_done : IsDoneJob job.Header
+      header_done = is_done_by (header_value p same) (AHeader header) header_is
+
+      index_done : IsDoneJob job.Index
+      index_done = is_done_by (index_value p same) (AnIndex index) index_is
+
+      module _ (flats : List p.Flat) (drawn : Valued job.Flat AFlat (p.numbers index) flats) where
+        flat_reads_done : (id : JobId) → In id (map job.Flat (numbers p same)) → IsDoneJob id
+        flat_reads_done id i = let m = In-map job.Flat (numbers p same) id i in
+            subst IsDoneJob m.2 (valued_done job.Flat AFlat (p.numbers index) flats drawn m.0
+            (from_numbers m.0 m.1))
+
+        order_by : order_value p same ≡ plain_of AnOrder (p.order header index flats)
+        order_by = by_outcome job.Order (all_from
+            (job.Header ∷ job.Index ∷ map job.Flat (numbers p same)) (λ id i. elim i [
+              | inl is ↦ subst IsDoneJob is header_done
+              | inr i ↦ elim i [
+                | inl is ↦ subst IsDoneJob is index_done
+                | inr i ↦ flat_reads_done id i
+              ]
+            ]))
+            ∙ ap (λ o. o.value) (on_some _ _ header (header_read job.Order (inl refl)))
+            ∙ ap (λ o. o.value) (on_some _ _ index (index_read job.Order (inr (inl refl))))
+            ∙ ap (λ o. o.value) (on_some _ _ flats (read_all_is (as_flat p) job.Order job.Flat AFlat
+            (λ flat. refl) (p.numbers index) flats drawn
+            (λ g i. inr (inr (map-In job.Flat (numbers p same) g (in_numbers g i))))))
+            ∙ settle_value AnOrder _ (p.order header index flats)
+
+        module _ (order : p.Order) (order_is : order_value p same ≡ Done (AnOrder order)) where
+          order_done : IsDoneJob job.Order
+          order_done = is_done_by (order_value p same) (AnOrder order) order_is
+
+          order_read : (id : JobId) → In job.Order (reads_with p same (numbers p same) id)
+              → read_as p same (as_order p) (items p same id) job.Order ≡ Some order
+          order_read id there = read_is (as_order p) (reads_with p same (numbers p same) id)
+              job.Order (AnOrder order) order there order_is refl
+
+          advances_by : advances_value p same ≡ plain_of AMeasure (p.measures header order flats)
+          advances_by = by_outcome job.Advances (all_from
+              (job.Header ∷ job.Index ∷ job.Order ∷ map job.Flat (numbers p same)) (λ id i. elim i [
+                | inl is ↦ subst IsDoneJob is header_done
+                | inr i ↦ elim i [
+                  | inl is ↦ subst IsDoneJob is index_done
+                  | inr i ↦ elim i [
+                    | inl is ↦ subst IsDoneJob is order_done
+                    | inr i ↦ flat_reads_done id i
+                  ]
+                ]
+              ]))
+              ∙ ap (λ o. o.value) (on_some _ _ header (header_read job.Advances (inl refl)))
+              ∙ ap (λ o. o.value) (on_some _ _ index (index_read job.Advances (inr (inl refl))))
+              ∙ ap (λ o. o.value)
+              (on_some _ _ order (order_read job.Advances (inr (inr (inl refl)))))
+              ∙ ap (λ o. o.value) (on_some _ _ flats (read_all_is (as_flat p) job.Advances job.Flat
+              AFlat (λ flat. refl) (p.numbers index) flats drawn
+              (λ g i. inr (inr (inr (map-In job.Flat (numbers p same) g (in_numbers g i)))))))
+              ∙ settle_value AMeasure (none p same) (p.measures header order flats)
+
+          module _ (measures : p.Measures)
+              (measures_is : advances_value p same ≡ Done (AMeasure measures))
+              (parts : List (List ℕ))
+              (written : Valued job.Simple Bytes (p.numbers index) parts) where
+            abbrev others : Bool → List JobId
+            others b = cond b (map job.Simple (numbers p same)) (job.Advances ∷ [])
+
+            others_done : (b : Bool) (id : JobId) → In id (others b) → IsDoneJob id
+            others_done true id i = let m = In-map job.Simple (numbers p same) id i in
+                subst IsDoneJob m.2 (valued_done job.Simple Bytes (p.numbers index) parts written
+                m.0 (from_numbers m.0 m.1))
+            others_done false id i = elim i [
+              | inl is ↦ subst IsDoneJob is
+                  (is_done_by (advances_value p same) (AMeasure measures) measures_is)
+              | inr none ↦ absurd none
+            ]
+
+            made_by : (tag : Tag) (b : Bool) → p.is_of_outlines tag ≡ b
+                → (cond b
+                (on p same (read_all p same (as_bytes p) (items p same (job.Table tag))
+                (map job.Simple (p.numbers index)))
+                (λ parts. settle p same Bytes (none p same)
+                (p.outline_table tag header order parts)))
+                (on p same (read_as p same (as_measures p) (items p same (job.Table tag))
+                job.Advances)
+                (λ measures. settle p same Bytes (none p same)
+                (p.metrics_table tag header order measures)))).value
+                ≡ plain_of Bytes (cond b (p.outline_table tag header order parts)
+                (p.metrics_table tag header order measures))
+            made_by tag true e = ap (λ o. o.value) (on_some _ _ parts (read_all_is (as_bytes p)
+                (job.Table tag) job.Simple Bytes (λ bytes. refl) (p.numbers index) parts written
+                (λ g i. inr (inr (inr (subst (λ b. In (job.Simple g) (others b)) (sym e)
+                (map-In job.Simple (numbers p same) g (in_numbers g i))))))))
+                ∙ settle_value Bytes (none p same) (p.outline_table tag header order parts)
+            made_by tag false e = ap (λ o. o.value) (on_some _ _ measures (read_is (as_measures p)
+                (reads_with p same (numbers p same) (job.Table tag)) job.Advances
+                (AMeasure measures) measures
+                (inr (inr (inr (subst (λ b. In job.Advances (others b)) (sym e) (inl refl)))))
+                measures_is refl))
+                ∙ settle_value Bytes (none p same) (p.metrics_table tag header order measures)
+
+            table_by : (tag : Tag) → table_value p same tag
+                ≡ plain_of Bytes (table p header order measures parts tag)
+            table_by tag = by_outcome (job.Table tag) (all_from
+                (job.Header ∷ job.Index ∷ job.Order ∷ others (p.is_of_outlines tag))
+                (λ id i. elim i [
+                  | inl is ↦ subst IsDoneJob is header_done
+                  | inr i ↦ elim i [
+                    | inl is ↦ subst IsDoneJob is index_done
+                    | inr i ↦ elim i [
+                      | inl is ↦ subst IsDoneJob is order_done
+                      | inr i ↦ others_done (p.is_of_outlines tag) id i
+                    ]
+                  ]
+                ]))
+                ∙ ap (λ o. o.value) (on_some _ _ header (header_read (job.Table tag) (inl refl)))
+                ∙ ap (λ o. o.value)
+                (on_some _ _ index (index_read (job.Table tag) (inr (inl refl))))
+                ∙ ap (λ o. o.value)
+                (on_some _ _ order (order_read (job.Table tag) (inr (inr (inl refl)))))
+                ∙ made_by tag (p.is_of_outlines tag) refl
+
+      font_by : (tables : List (List ℕ)) → Valued job.Table Bytes p.tags tables
+          → font_value p same ≡ plain_of Bytes (p.font tables)
+      font_by tables made = by_outcome job.Font (all_from (map job.Table p.tags) (λ id i.
+          let m = In-map job.Table p.tags id i in
+          subst IsDoneJob m.2 (valued_done job.Table Bytes p.tags tables made m.0 m.1)))
+          ∙ ap (λ o. o.value) (on_some _ _ tables (read_all_is (as_bytes p) job.Font job.Table Bytes
+          (λ bytes. refl) p.tags tables made (λ tag i. map-In job.Table p.tags tag i)))
+          ∙ settle_value Bytes (none p same) (p.font tables)
+
+      -- ---- the parts' answers, and the values
+
+      drawn_by : (glyph : ℕ) (flat : p.Flat) → drawn p tree header index glyph ≡ Ok flat
+          → flat_value p same glyph ≡ Done (AFlat flat)
+      drawn_by glyph flat e =
+          elim (p.raw tree header index glyph) as (λ r. p.raw tree header index glyph ≡ r
+          → (r >>= λ raw. p.flat raw index) ≡ Ok flat
+          → flat_value p same glyph ≡ Done (AFlat flat)) [
+            | Ok raw ↦ λ is f. of_answer AFlat (p.flat raw index) (flat_value p same glyph) flat
+                (flat_by glyph raw (of_answer ARaw (p.raw tree header index glyph)
+                (raw_value p same glyph) raw (raw_by glyph) is)) f
+            | Err refusal ↦ λ is f. absurd cc
+          ] refl e
+
+      all_drawn : (glyphs : List ℕ) (flats : List p.Flat)
+          → AllMade (drawn p tree header index) glyphs flats → Valued job.Flat AFlat glyphs flats
+      unfolding Valued
+      all_drawn [] [] m = tt
+      all_drawn [] (flat ∷ flats) m = absurd m
+      all_drawn (glyph ∷ glyphs) [] m = absurd m
+      all_drawn (glyph ∷ glyphs) (flat ∷ flats) m =
+          (drawn_by glyph flat m.0, all_drawn glyphs flats m.1)
+
+      all_written : (glyphs : List ℕ) (flats : List p.Flat) (parts : List (List ℕ))
+          → Valued job.Flat AFlat glyphs flats → AllMade (p.simple header) flats parts
+          → Valued job.Simple Bytes glyphs parts
+      unfolding Valued
+      all_written [] [] [] v m = tt
+      all_written [] [] (part ∷ parts) v m = absurd m
+      all_written [] (flat ∷ flats) parts v m = absurd v
+      all_written (glyph ∷ glyphs) [] parts v m = absurd v
+      all_written (glyph ∷ glyphs) (flat ∷ flats) [] v m = absurd m
+      all_written (glyph ∷ glyphs) (flat ∷ flats) (part ∷ parts) v m = (
+        of_answer Bytes (p.simple header flat) (simple_value p same glyph) part
+            (simple_by glyph flat v.0) m.0,
+        all_written glyphs flats parts v.1 m.1,
+      )
+
+      all_made : (make : Tag → Result (List ℕ) Refusal)
+          → ((tag : Tag) → table_value p same tag ≡ plain_of Bytes (make tag)) → (tags : List Tag)
+          (tables : List (List ℕ)) → AllMade make tags tables → Valued job.Table Bytes tags tables
+      unfolding Valued
+      all_made make by [] [] m = tt
+      all_made make by [] (made ∷ tables) m = absurd m
+      all_made make by (tag ∷ tags) [] m = absurd m
+      all_made make by (tag ∷ tags) (made ∷ tables) m = (
+        of_answer Bytes (make tag) (table_value p same tag) made (by tag) m.0,
+        all_made make by tags tables m.1,
+      )
+
+      -- what answers has a value, so what has a value was answered
+      record Drawings (glyphs : List ℕ) : Type 0 where
+        flats : List p.Flat
+        drawn_are : AllMade (drawn p tree header index) glyphs flats
+
+      drawings : (glyphs : List ℕ) → ((glyph : ℕ) → In glyph glyphs
+          → is_done (flat_value p same glyph) ≡ true) → Drawings glyphs
+      drawings [] done = record { flats = []; drawn_are = tt }
+      drawings (glyph ∷ glyphs) done =
+          let flat_done = done glyph (inl refl) in
+          let raw = answered ARaw (p.raw tree header index glyph) (raw_value p same glyph)
+          (raw_by glyph) (raw_done p same identity glyph flat_done) in
+          let flat = answered AFlat (p.flat raw.0 index) (flat_value p same glyph)
+          (flat_by glyph raw.0 raw.2) flat_done in
+          let more = drawings glyphs (λ g i. done g (inr i)) in
+          record {
+            flats = flat.0 ∷ more.flats;
+            drawn_are = (ap (λ r. r >>= λ raw. p.flat raw index) raw.1 ∙ flat.1, more.drawn_are);
+          }
+
+      record Writings (flats : List p.Flat) : Type 0 where
+        parts : List (List ℕ)
+        written_are : AllMade (p.simple header) flats parts
+
+      writings : (glyphs : List ℕ) (flats : List p.Flat) → Valued job.Flat AFlat glyphs flats
+          → ((glyph : ℕ) → In glyph glyphs → is_done (simple_value p same glyph) ≡ true)
+          → Writings flats
+      unfolding Valued
+      writings [] [] v done = record { parts = []; written_are = tt }
+      writings [] (flat ∷ flats) v done = absurd v
+      writings (glyph ∷ glyphs) [] v done = absurd v
+      writings (glyph ∷ glyphs) (flat ∷ flats) v done =
+          let part = answered Bytes (p.simple header flat) (simple_value p same glyph)
+          (simple_by glyph flat v.0) (done glyph (inl refl)) in
+          let more = writings glyphs flats v.1 (λ g i. done g (inr i)) in
+          record { parts = part.0 ∷ more.parts; written_are = (part.1, more.written_are) }
+
+      record Tables (make : Tag → Result (List ℕ) Refusal) (tags : List Tag) : Type 0 where
+        tables : List (List ℕ)
+        made_are : AllMade make tags tables
+
+      tables_of : (make : Tag → Result (List ℕ) Refusal)
+          → ((tag : Tag) → table_value p same tag ≡ plain_of Bytes (make tag)) → (tags : List Tag)
+          → ((tag : Tag) → In tag tags → is_done (table_value p same tag) ≡ true)
+          → Tables make tags
+      tables_of make by [] done = record { tables = []; made_are = tt }
+      tables_of make by (tag ∷ tags) done =
+          let made = answered Bytes (make tag) (table_value p same tag) (by tag)
+          (done tag (inl refl)) in
+          let more = tables_of make by tags (λ t i. done t (inr i)) in
+          record { tables = made.0 ∷ more.tables; made_are = (made.1, more.made_are) }
+
+  -- ---- the font
+
+  pub made_font : (font : List ℕ) → IsFontOf p font → font_value p same ≡ Done (Bytes font)
+  made_font font f =
+      let tree_is = of_answer ATree p.tree (tree_value p same) f.tree tree_by f.tree_read in
+      let header_is = of_answer AHeader (p.header f.tree) (header_value p same) f.header
+      (header_by f.tree tree_is) f.header_read in
+      let index_is = of_answer AnIndex (p.index f.tree) (index_value p same) f.index
+      (index_by f.tree tree_is) f.index_read in
+      let flats = all_drawn f.tree tree_is f.header f.index header_is index_is
+      (p.numbers f.index) f.flats f.glyphs_drawn in
+      let order_is = of_answer AnOrder (p.order f.header f.index f.flats) (order_value p same)
+      f.order (order_by f.tree tree_is f.header f.index header_is index_is f.flats flats)
+      f.glyphs_ordered in
+      let measures_is = of_answer AMeasure (p.measures f.header f.order f.flats)
+      (advances_value p same) f.measures
+      (advances_by f.tree tree_is f.header f.index header_is index_is f.flats flats f.order
+      order_is) f.glyphs_measured in
+      let parts = all_written f.tree tree_is f.header f.index header_is index_is
+      (p.numbers f.index) f.flats f.parts flats f.glyphs_written in
+      let tables = all_made f.tree tree_is f.header f.index header_is index_is
+      (table p f.header f.order f.measures f.parts)
+      (table_by f.tree tree_is f.header f.index header_is index_is f.flats flats f.order
+      order_is f.measures measures_is f.parts parts) p.tags f.tables f.tables_made in
+      of_answer Bytes (p.font f.tables) (font_value p same) font
+      (font_by f.tree tree_is f.header f.index header_is index_is f.tables tables) f.is_font
+
+  -- what a job with a value reads has values
+  part_done : (id : JobId) → is_done (value_of p same id) ≡ true → (read : JobId)
+      → In read (reads_with p same (numbers p same) id) → is_done (value_of p same read) ≡ true
+  part_done id done read there = list_all-In (λ (item : JobId × Plain (Item p)). is_done item.1)
+      (items p same id) (with_value p same read)
+      (reads_done p same id (items p same id) (ap is_done (value p same id) ∙ done))
+      (map-In (with_value p same) (reads_with p same (numbers p same) id) read there)
+
+  same_bytes : (made font : List ℕ) → ◌≡◌ {A = Plain (Item p)} (Done (Bytes made))
+      (Done (Bytes font))
+      → made ≡ font
+  same_bytes made font e = some_same (ap (λ v. option_and_then (as_bytes p) (done_value v)) e)
+    where
+      some_same : Some made ≡ Some font → made ≡ font
+      some_same e = cc
+
+  -- where there is a table of outlines and one of metrics, so that all parts are asked
+  pub font_made : (outlines metrics : Tag) → In outlines p.tags → In metrics p.tags
+      → p.is_of_outlines outlines ≡ true → p.is_of_outlines metrics ≡ false → (font : List ℕ)
+      → font_value p same ≡ Done (Bytes font) → IsFontOf p font
+  font_made outlines metrics outlines_there metrics_there is_one is_none font e =
+      let font_done = is_done_by (font_value p same) (Bytes font) e in
+      let table_done : (tag : Tag) → In tag p.tags → is_done (table_value p same tag) ≡ true
+      = λ tag i. part_done job.Font font_done (job.Table tag) (map-In job.Table p.tags tag i) in
+      let of_metrics = table_done metrics metrics_there in
+      let of_outlines = table_done outlines outlines_there in
+      let header_done = part_done (job.Table metrics) of_metrics job.Header (inl refl) in
+      let index_done = part_done (job.Table metrics) of_metrics job.Index (inr (inl refl)) in
+      let order_done = part_done (job.Table metrics) of_metrics job.Order (inr (inr (inl refl))) in
+      let advances_done = part_done (job.Table metrics) of_metrics job.Advances
+      (inr (inr (inr (subst (λ b. In job.Advances
+      (cond b (map job.Simple (numbers p same)) (job.Advances ∷ []))) (sym is_none)
+      (inl refl))))) in
+      let simple_done : (glyph : ℕ) → In glyph (numbers p same)
+      → is_done (simple_value p same glyph) ≡ true
+      = λ glyph i. part_done (job.Table outlines) of_outlines (job.Simple glyph)
+      (inr (inr (inr (subst (λ b. In (job.Simple glyph)
+      (cond b (map job.Simple (numbers p same)) (job.Advances ∷ []))) (sym is_one)
+      (map-In job.Simple (numbers p same) glyph i))))) in
+      let tree_done = part_done job.Header header_done job.Tree (inl refl) in
+      let tree = answered ATree p.tree (tree_value p same) tree_by tree_done in
+      let header = answered AHeader (p.header tree.0) (header_value p same)
+      (header_by tree.0 tree.2) header_done in
+      let index = answered AnIndex (p.index tree.0) (index_value p same)
+      (index_by tree.0 tree.2) index_done in
+      let known : (glyph : ℕ) → In glyph (p.numbers index.0) → In glyph (numbers p same)
+      = λ glyph i. subst (λ ns. In glyph ns) (numbers_are p same index.0 index.2) i in
+      let glyphs = drawings tree.0 tree.2 header.0 index.0 header.2 index.2 (p.numbers index.0)
+      (λ g i. flats_done p same identity order_done g (known g i)) in
+      let flats = all_drawn tree.0 tree.2 header.0 index.0 header.2 index.2 (p.numbers index.0)
+      glyphs.flats glyphs.drawn_are in
+      let order = answered AnOrder (p.order header.0 index.0 glyphs.flats) (order_value p same)
+      (order_by tree.0 tree.2 header.0 index.0 header.2 index.2 glyphs.flats flats) order_done
+      in
+      let measures = answered AMeasure (p.measures header.0 order.0 glyphs.flats)
+      (advances_value p same) (advances_by tree.0 tree.2 header.0 index.0 header.2 index.2
+      glyphs.flats flats order.0 order.2) advances_done in
+      let written = writings tree.0 tree.2 header.0 index.0 header.2 index.2 (p.numbers index.0)
+      glyphs.flats flats (λ g i. simple_done g (known g i)) in
+      let parts = all_written tree.0 tree.2 header.0 index.0 header.2 index.2 (p.numbers index.0)
+      glyphs.flats written.parts flats written.written_are in
+      let by = table_by tree.0 tree.2 header.0 index.0 header.2 index.2 glyphs.flats flats order.0
+      order.2 measures.0 measures.2 written.parts parts in
+      let made = tables_of tree.0 tree.2 header.0 index.0 header.2 index.2
+      (table p header.0 order.0 measures.0 written.parts) by p.tags table_done in
+      let tables = all_made tree.0 tree.2 header.0 index.0 header.2 index.2
+      (table p header.0 order.0 measures.0 written.parts) by p.tags made.tables made.made_are in
+      let last = answered Bytes (p.font made.tables) (font_value p same)
+      (font_by tree.0 tree.2 header.0 index.0 header.2 index.2 made.tables tables) font_done in
+      record {
+        tree = tree.0;
+        header = header.0;
+        index = index.0;
+        flats = glyphs.flats;
+        parts = written.parts;
+        order = order.0;
+        measures = measures.0;
+        tables = made.tables;
+        tree_read = tree.1;
+        header_read = header.1;
+        index_read = index.1;
+        glyphs_drawn = glyphs.drawn_are;
+        glyphs_written = written.written_are;
+        glyphs_ordered = order.1;
+        glyphs_measured = measures.1;
+        tables_made = made.made_are;
+        is_font = last.1 ∙ ap Ok (same_bytes last.0 font (sym last.2 ∙ e));
+      }

@@ -1,0 +1,103 @@
+-- An index of a list to which an item is added.
+use Rattle.std.proofs.Common.{◌≡◌, ℕ, suc, ◌+◌, ◌<◌, Bool, true, false, cond, List, [], ◌∷◌, ◌++◌}
+use Rattle.std.proofs.Common.{map, length, get_or, Some, None, refl, sym, ap, ◌∙◌, zero-add, arith}
+use Rattle.std.specs.Prelude.{slice_get, option_map}
+use Rattle.std.proofs.lemmas.Option.{slice_get_within, slice_get-get_or, slice_get-map, same_Some}
+use Rattle.std.specs.BTreeMap as tree
+use Rattle.std.specs.BTreeMap.{BTreeMap}
+use Rattle.std.specs.declared.cmp.Ordering.{Ordering}
+use Rattle.access_context.specs.declared.settled.Settled.{Settled}
+use Rattle.access_context.specs.Plain.{Plain, plain}
+use Rattle.access_context.specs.Read.{plain_item, read_of}
+use Rattle.access_context.specs.Places.{place_from, IsIndex}
+use Rattle.job_graph.specs.Places.{first_of}
+
+pub place_from-push : {Id X : Type 0} (same : Id → Id → Bool) (n : ℕ) (xs : List (Id × X)) (k : Id)
+    (v : X) (q : Id) → place_from same n (xs ++ (k, v) ∷ []) q
+    ≡ first_of (place_from same n xs q) (cond (same k q) (Some (n + length xs)) None)
+place_from-push same n [] k v q = let e : n ≡ n + 0 = omega arith
+    in ap (λ m. cond (same k q) (Some m) None) e
+place_from-push same n (x ∷ xs) k v q =
+    let e : suc n + length xs ≡ n + length (x ∷ xs) = omega arith in
+    elim (same x.0 q) as (λ b. cond b (Some n) (place_from same (suc n) (xs ++ (k, v) ∷ []) q)
+    ≡ first_of (cond b (Some n) (place_from same (suc n) xs q))
+    (cond (same k q) (Some (n + length (x ∷ xs))) None)) [
+      | true ↦ refl
+      | false ↦ place_from-push same (suc n) xs k v q
+          ∙ ap (λ m. first_of (place_from same (suc n) xs q) (cond (same k q) (Some m) None)) e
+    ]
+
+-- the places do not depend on what stands beside the ids
+pub place_from-plain : {Id V : Type 0} (same : Id → Id → Bool) (n : ℕ)
+    (items : List (Id × Settled V)) (q : Id)
+    → place_from same n (map plain_item items) q ≡ place_from same n items q
+place_from-plain same n [] q = refl
+place_from-plain same n (x ∷ xs) q = ap (λ o. cond (same x.0 q) (Some n) o)
+    (place_from-plain same (suc n) xs q)
+
+-- what stands at a place
+pub stands_from : {Id X : Type 0} (same : Id → Id → Bool) (n : ℕ) (items : List (Id × X)) (id : Id)
+    (p : ℕ) → place_from same n items id ≡ Some p
+    → (k : ℕ) × (p ≡ n + k) × (item : Id × X) × (slice_get items k ≡ Some item)
+    × (same item.0 id ≡ true) × (read_of same items id ≡ Some item.1)
+stands_from same n [] id p e = cc
+stands_from {Id} {X} same n (x ∷ xs) id p e =
+    elim (same x.0 id) as (λ b. same x.0 id ≡ b
+    → cond b (Some n) (place_from same (suc n) xs id) ≡ Some p
+    → (k : ℕ) × (p ≡ n + k) × (item : Id × X) × (slice_get (x ∷ xs) k ≡ Some item)
+    × (same item.0 id ≡ true) × (cond b (Some x.1) (read_of same xs id) ≡ Some item.1)) [
+      | true ↦ λ is e. let s : n ≡ p = cc in (0, omega arith, x, refl, is, refl)
+      | false ↦ λ is e. let r = stands_from same (suc n) xs id p e
+          in (suc r.0, omega (arith, r.1), r.2, r.3, r.4, r.5)
+    ] refl e
+
+pub stands : {Id X : Type 0} (same : Id → Id → Bool) (items : List (Id × X)) (id : Id) (p : ℕ)
+    → place_from same 0 items id ≡ Some p → (item : Id × X) × (slice_get items p ≡ Some item)
+    × (same item.0 id ≡ true) × (read_of same items id ≡ Some item.1)
+stands same items id p e =
+    let r = stands_from same 0 items id p e in
+    let at : r.0 ≡ p = omega (arith, r.1) in
+    (r.2, ap (slice_get items) (sym at) ∙ r.3, r.4, r.5)
+
+pub unread : {Id X : Type 0} (same : Id → Id → Bool) (n : ℕ) (items : List (Id × X)) (id : Id)
+    → place_from same n items id ≡ None → read_of same items id ≡ None
+unread same n [] id e = refl
+unread same n (x ∷ xs) id e =
+    elim (same x.0 id) as (λ b. cond b (Some n) (place_from same (suc n) xs id) ≡ None
+    → cond b (Some x.1) (read_of same xs id) ≡ None) [
+      | true ↦ λ e. cc
+      | false ↦ λ e. unread same (suc n) xs id e
+    ] e
+
+-- the index of a list with one more item
+pub index_push : {Id X : Type 0} (same : Id → Id → Bool) (order : Id → Id → Ordering)
+    (m n : BTreeMap Id ℕ) (items items' : List (Id × X)) (k : Id) (v : X) (place : ℕ)
+    → IsIndex same order m items → place ≡ length items
+    → ((q : Id) → tree.get order n q ≡ first_of (tree.get order m q)
+    (cond (same k q) (Some place) None)) → items' ≡ items ++ (k, v) ∷ []
+    → IsIndex same order n items'
+index_push same order m n items items' k v place old at noted is = λ q.
+    noted q
+    ∙ ap (λ o. first_of o (cond (same k q) (Some place) None)) (old q)
+    ∙ ap (λ p. first_of (place_from same 0 items q) (cond (same k q) (Some p) None)) at
+    ∙ sym (place_from-push same 0 items k v q
+    ∙ ap (λ p. first_of (place_from same 0 items q) (cond (same k q) (Some p) None))
+    (zero-add (length items)))
+    ∙ ap (λ xs. place_from same 0 xs q) (sym is)
+
+-- a value that stands at its place
+pub value_there : {Id V : Type 0} (same : Id → Id → Bool) (items : List (Id × Settled V)) (id : Id)
+    (p : ℕ) → place_from same 0 items id ≡ Some p → (x : Id × Settled V) → x ≡ get_or items p x
+    → Some (plain x.1) ≡ read_of same (map plain_item items) id
+value_there {Id} {V} same items id p e x is =
+    let s = stands same (map plain_item items) id p (place_from-plain same 0 items id ∙ e) in
+    let lt : p < length items = slice_get_within items p _ (stands same items id p e).1 in
+    let at : slice_get (map plain_item items) p
+    ≡ Some (plain_item x) = slice_get-map plain_item items p
+    ∙ ap (option_map plain_item) (slice_get-get_or items p x lt ∙ ap Some (sym is)) in
+    let it : s.0 ≡ plain_item x = same_Some _ _ (sym s.1 ∙ at) in
+    sym (s.3 ∙ ap (λ (y : Id × Plain V). Some y.1) it)
+
+pub place_within : {Id X : Type 0} (same : Id → Id → Bool) (items : List (Id × X)) (id : Id) (p : ℕ)
+    → place_from same 0 items id ≡ Some p → p < length items
+place_within same items id p e = slice_get_within items p _ (stands same items id p e).1
