@@ -2,6 +2,7 @@ ghost use Rattle.std.specs.Prelude.{◌<◌};
 
 use crate::chain::Chain;
 use crate::hands::{Step, begun, calls, halt, played};
+use crate::scanned::is_as_scanned;
 use crate::table::{Table, refused, row};
 use access_context::Settled;
 use job_graph::{Board, Claim, End, Event, Plan, run_claimed};
@@ -91,6 +92,7 @@ fn orders_end_alike<R: Abort>(rt: &R, alloc: Global, workers: u32, orders: u32) 
             "{workers} workers in order {order}"
         );
         assert_eq!(rt; board.events().len(), 6);
+        assert!(rt; is_as_scanned(alloc, &board)?);
         for (id, wanted) in [
             (0, Some(0)),
             (1, Some(1)),
@@ -140,6 +142,7 @@ fn a_worker_is_idle_while_the_one_ready_job_runs(rt: HostRuntime) -> Result<(), 
     assert_eq!(rt; board.events(), history.as_slice());
     assert_eq!(rt; board.result(), End::Ended);
     assert_eq!(rt; board.plan().stratum(&2), 0);
+    assert!(rt; is_as_scanned(rt.alloc(), &board)?);
     for (id, wanted) in [(0, 0), (1, 1), (2, 3)] {
         assert_eq!(rt; value(&board, id), Some(wanted));
     }
@@ -168,6 +171,12 @@ fn a_job_waits_for_all_that_it_reads(rt: HostRuntime) -> Result<(), Fail> {
     calls(&rt, rt.alloc(), &mut board, &mut hands, wanted.as_slice())?;
     assert_eq!(rt; board.result(), End::Ended);
     assert_eq!(rt; board.events().len(), 8);
+    assert!(rt; is_as_scanned(rt.alloc(), &board)?);
+    let Some(access) = board.access_of(&3) else {
+        panic!(rt; "a job has no access");
+    };
+    assert_eq!(rt; access.reads.as_slice(), [1, 2].as_slice());
+    assert!(rt; board.access_of(&4).is_none());
     for (id, wanted) in [(0, 0), (1, 1), (2, 2), (3, 6)] {
         assert_eq!(rt; value(&board, id), Some(wanted));
         assert!(rt; !board.is_stuck(&id));
@@ -206,6 +215,7 @@ fn a_job_that_reads_a_refused_one_is_blocked_and_adds_nothing(rt: HostRuntime) -
         assert!(rt; !board.is_stuck(&id));
     }
     assert_eq!(rt; board.result(), End::Ended);
+    assert!(rt; is_as_scanned(rt.alloc(), &board)?);
     assert_eq!(rt; board.events().len(), 4);
     Ok(())
 }
@@ -234,6 +244,7 @@ fn after_a_halt_every_claim_is_halted(rt: HostRuntime) -> Result<(), Fail> {
     halt(&mut board, &mut hands, 0);
     let history = [Event::Claim(1, 0), Event::Halt(0), Event::Finish(1, 0)];
     assert_eq!(rt; board.events(), history.as_slice());
+    assert!(rt; is_as_scanned(rt.alloc(), &board)?);
     assert_eq!(rt; board.result(), End::Halted);
     Ok(())
 }
@@ -256,6 +267,7 @@ fn a_worker_that_halts_gives_up_its_job(rt: HostRuntime) -> Result<(), Fail> {
     assert!(rt; board.is_stuck(&0));
     let history = [Event::Claim(1, 0), Event::Halt(1)];
     assert_eq!(rt; board.events(), history.as_slice());
+    assert!(rt; is_as_scanned(rt.alloc(), &board)?);
     assert_eq!(rt; board.result(), End::Halted);
     Ok(())
 }
@@ -266,6 +278,7 @@ fn a_plan_may_add_a_thousand_jobs(rt: HostRuntime) -> Result<(), Fail> {
     let board = played(rt.alloc(), plan, 3, 0, 700)?;
     assert_eq!(rt; board.result(), End::Ended);
     assert_eq!(rt; board.events().len(), 2002);
+    assert!(rt; is_as_scanned(rt.alloc(), &board)?);
     for id in 0..1001 {
         assert_eq!(rt; value(&board, id), Some(id));
     }
@@ -285,8 +298,13 @@ fn a_claimed_job_is_run_and_finished(rt: HostRuntime) -> Result<(), Fail> {
     assert!(rt; reads.all_done());
     let outcome = run_claimed(rt.alloc(), board.plan(), &ticket, &reads)?;
     assert_eq!(rt; outcome.added.len(), 2);
+    assert!(rt; board.added_by(&0).is_none());
     assert!(rt; board.finish(rt.alloc(), 0, ticket, outcome).is_ok());
     assert_eq!(rt; value(&board, 0), Some(0));
+    let Some(added) = board.added_by(&0) else {
+        panic!(rt; "a settled job tells nothing");
+    };
+    assert_eq!(rt; added.len(), 2);
     Ok(())
 }
 
@@ -295,6 +313,7 @@ fn a_chain_of_jobs_is_run_to_its_end(rt: HostRuntime) -> Result<(), Fail> {
     let board = played(rt.alloc(), Chain { length: 40 }, 2, 0, 80)?;
     assert_eq!(rt; board.result(), End::Ended);
     assert_eq!(rt; board.events().len(), 80);
+    assert!(rt; is_as_scanned(rt.alloc(), &board)?);
     for id in 0..40 {
         let Some(Settled::Done(value)) = board.get(&id) else {
             panic!(rt; "a job has no value");

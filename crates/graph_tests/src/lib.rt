@@ -10,4 +10,6 @@ mod contexts;
 #[cfg(test)]
 mod hands;
 #[cfg(test)]
+mod scanned;
+#[cfg(test)]
 mod table;
