@@ -18,21 +18,21 @@ module _ (p : Parts) where
   abbrev pub drawn : p.Tree → p.Header → p.Index → ℕ → Result p.Flat Refusal
   drawn tree header index glyph = p.raw tree header index glyph >>= λ raw. p.flat raw index
 
-  abbrev pub table : p.Header → p.Order → p.Measures → List (List ℕ) → Tag
-      → Result (List ℕ) Refusal
+  abbrev pub table : p.Header → p.Order → p.Measures → List p.Data → Tag
+      → Result p.Table Refusal
   table header order measures parts tag =
       if p.is_of_outlines tag then p.outline_table tag header order parts
       else p.metrics_table tag header order measures
 
-  pub record IsFontOf (font : List ℕ) : Type 0 where
+  pub record IsFontOf (font : p.File) : Type 0 where
     pub tree : p.Tree
     pub header : p.Header
     pub index : p.Index
     pub flats : List p.Flat
-    pub parts : List (List ℕ)
+    pub parts : List p.Data
     pub order : p.Order
     pub measures : p.Measures
-    pub tables : List (List ℕ)
+    pub tables : List p.Table
     pub tree_read : p.tree ≡ Ok tree
     pub header_read : p.header tree ≡ Ok header
     pub index_read : p.index tree ≡ Ok index

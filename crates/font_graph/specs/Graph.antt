@@ -14,51 +14,54 @@ use Rattle.font_graph.specs.Kinds.{stratum_of, awaited_by}
 use Rattle.font_graph.specs.Parts.{Parts}
 use Rattle.font_graph.specs.declared.ids.JobId.{JobId}
 use Rattle.font_graph.specs.declared.ids.JobId.TheVariants as job
+use Rattle.font_graph.specs.declared.items.Item as items
+use Rattle.font_graph.specs.declared.items.Item.TheVariants as an
 
 -- ---- items
 
 module _ (p : Parts) where
-  pub data Item : Type 0 where
-    ATree : p.Tree → Item
-    AHeader : p.Header → Item
-    AnIndex : p.Index → Item
-    ARaw : p.Raw → Item
-    AFlat : p.Flat → Item
-    AnOrder : p.Order → Item
-    AMeasure : p.Measures → Item
-    Bytes : List ℕ → Item
+  abbrev pub Item : Type 0
+  Item = items.Item p.Tree p.Header p.Index p.Raw p.Flat p.Data p.Order p.Measures p.Table p.File
 
   abbrev pub as_tree : Item → Option p.Tree
-  as_tree (ATree tree) = Some tree
+  as_tree (an.Tree tree) = Some tree
   as_tree _ = None
 
   abbrev pub as_header : Item → Option p.Header
-  as_header (AHeader header) = Some header
+  as_header (an.Header header) = Some header
   as_header _ = None
 
   abbrev pub as_index : Item → Option p.Index
-  as_index (AnIndex index) = Some index
+  as_index (an.Index index) = Some index
   as_index _ = None
 
   abbrev pub as_raw : Item → Option p.Raw
-  as_raw (ARaw raw) = Some raw
+  as_raw (an.Raw raw) = Some raw
   as_raw _ = None
 
   abbrev pub as_flat : Item → Option p.Flat
-  as_flat (AFlat flat) = Some flat
+  as_flat (an.Flat flat) = Some flat
   as_flat _ = None
 
   abbrev pub as_order : Item → Option p.Order
-  as_order (AnOrder order) = Some order
+  as_order (an.Order order) = Some order
   as_order _ = None
 
   abbrev pub as_measures : Item → Option p.Measures
-  as_measures (AMeasure measures) = Some measures
+  as_measures (an.Advances measures) = Some measures
   as_measures _ = None
 
-  abbrev pub as_bytes : Item → Option (List ℕ)
-  as_bytes (Bytes bytes) = Some bytes
-  as_bytes _ = None
+  abbrev pub as_data : Item → Option p.Data
+  as_data (an.Simple bytes) = Some bytes
+  as_data _ = None
+
+  abbrev pub as_table : Item → Option p.Table
+  as_table (an.Table table) = Some table
+  as_table _ = None
+
+  abbrev pub as_font : Item → Option p.File
+  as_font (an.Font file) = Some file
+  as_font _ = None
 
 -- ---- values
 
@@ -124,40 +127,40 @@ module _ (p : Parts) (same : JobId → JobId → Bool) where
 
   -- what comes of a job whose reads have values
   abbrev pub outcome : JobId → List (JobId × Plain (Item p)) → PlainOutcome (Item p) JobId
-  outcome job.Tree reads = settle ATree none p.tree
+  outcome job.Tree reads = settle an.Tree none p.tree
   outcome job.Header reads = on (read_as (as_tree p) reads job.Tree) (λ tree.
-      settle AHeader none (p.header tree))
+      settle an.Header none (p.header tree))
   outcome job.Index reads = on (read_as (as_tree p) reads job.Tree) (λ tree.
-      settle AnIndex (λ index. after_index (p.numbers index)) (p.index tree))
+      settle an.Index (λ index. after_index (p.numbers index)) (p.index tree))
   outcome (job.Raw glyph) reads = on (read_as (as_tree p) reads job.Tree) (λ tree.
       on (read_as (as_header p) reads job.Header) (λ header.
       on (read_as (as_index p) reads job.Index) (λ index.
-      settle ARaw (λ raw. spec_with [] (job.Flat glyph) ∷ []) (p.raw tree header index glyph))))
+      settle an.Raw (λ raw. spec_with [] (job.Flat glyph) ∷ []) (p.raw tree header index glyph))))
   outcome (job.Flat glyph) reads = on (read_as (as_raw p) reads (job.Raw glyph)) (λ raw.
       on (read_as (as_index p) reads job.Index) (λ index.
-      settle AFlat (λ flat. spec_with [] (job.Simple glyph) ∷ []) (p.flat raw index)))
+      settle an.Flat (λ flat. spec_with [] (job.Simple glyph) ∷ []) (p.flat raw index)))
   outcome (job.Simple glyph) reads = on (read_as (as_header p) reads job.Header) (λ header.
       on (read_as (as_flat p) reads (job.Flat glyph)) (λ flat.
-      settle Bytes none (p.simple header flat)))
+      settle an.Simple none (p.simple header flat)))
   outcome job.Order reads = on (read_as (as_header p) reads job.Header) (λ header.
       on (read_as (as_index p) reads job.Index) (λ index.
       on (read_all (as_flat p) reads (map job.Flat (p.numbers index))) (λ flats.
-      settle AnOrder (λ order. after_order (p.numbers index)) (p.order header index flats))))
+      settle an.Order (λ order. after_order (p.numbers index)) (p.order header index flats))))
   outcome job.Advances reads = on (read_as (as_header p) reads job.Header) (λ header.
       on (read_as (as_index p) reads job.Index) (λ index.
       on (read_as (as_order p) reads job.Order) (λ order.
       on (read_all (as_flat p) reads (map job.Flat (p.numbers index))) (λ flats.
-      settle AMeasure none (p.measures header order flats)))))
+      settle an.Advances none (p.measures header order flats)))))
   outcome (job.Table tag) reads = on (read_as (as_header p) reads job.Header) (λ header.
       on (read_as (as_index p) reads job.Index) (λ index.
       on (read_as (as_order p) reads job.Order) (λ order.
       if p.is_of_outlines tag then
-      on (read_all (as_bytes p) reads (map job.Simple (p.numbers index))) (λ parts.
-      settle Bytes none (p.outline_table tag header order parts))
+      on (read_all (as_data p) reads (map job.Simple (p.numbers index))) (λ parts.
+      settle an.Table none (p.outline_table tag header order parts))
       else on (read_as (as_measures p) reads job.Advances) (λ measures.
-      settle Bytes none (p.metrics_table tag header order measures)))))
-  outcome job.Font reads = on (read_all (as_bytes p) reads (map job.Table p.tags)) (λ tables.
-      settle Bytes none (p.font tables))
+      settle an.Table none (p.metrics_table tag header order measures)))))
+  outcome job.Font reads = on (read_all (as_table p) reads (map job.Table p.tags)) (λ tables.
+      settle an.Font none (p.font tables))
   outcome _ reads = blocked
 
   -- and what comes of it at all

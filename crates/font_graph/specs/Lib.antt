@@ -2,7 +2,10 @@ pub mod Kinds
 pub mod Parts
 pub mod Graph
 pub mod Fonts
+pub mod Same
+pub mod Verdicts
 -- lemmas that the proofs of other crates need
 pub mod Outcomes
 pub mod Solved
 pub mod Made
+pub mod Due

@@ -13,15 +13,16 @@ use Rattle.job_graph.specs.Rounds.{blocked}
 use Rattle.job_graph.specs.Members.{In}
 use Rattle.job_graph.specs.Solutions.{solved_outcome}
 use Rattle.font_graph.specs.Parts.{Parts}
-use Rattle.font_graph.specs.Graph.{Item, ATree, AHeader, AnIndex, ARaw, AFlat, AnOrder, AMeasure}
-use Rattle.font_graph.specs.Graph.{Bytes, as_index, spec_with, on, settle}
+use Rattle.font_graph.specs.Graph.{Item}
+use Rattle.font_graph.specs.Graph.{as_index, spec_with, on, settle}
 use Rattle.font_graph.specs.Graph.{none, after_index, after_order, outcome, settled, index_value}
 use Rattle.font_graph.specs.Graph.{numbers, order_value}
 use Rattle.font_graph.specs.Graph.{value_of, spec_of, There, plan, read_as, read_all, reads_with}
-use Rattle.font_graph.specs.Graph.{as_bytes, as_measures, header_value, simple_value}
+use Rattle.font_graph.specs.Graph.{as_data, as_measures, header_value, simple_value}
 use Rattle.font_graph.specs.Graph.{advances_value}
 use Rattle.font_graph.specs.declared.ids.JobId.{JobId}
 use Rattle.font_graph.specs.declared.ids.JobId.TheVariants as job
+use Rattle.font_graph.specs.declared.items.Item.TheVariants as an
 
 -- what stands in a list that was made item by item
 pub map-In : {X Y : Type 0} (f : X → Y) (xs : List X) (x : X) → In x xs → In (f x) (map f xs)
@@ -105,35 +106,35 @@ module _ (p : Parts) (same : JobId → JobId → Bool) where
 
   pub quiet : (id : JobId) (reads : List (JobId × Plain (Item p)))
       → IsQuiet (outcome p same id reads)
-  quiet job.Tree reads = quiet_settle ATree (none p same) p.tree
-  quiet job.Header reads = quiet_on _ _ (λ tree. quiet_settle AHeader (none p same) (p.header tree))
-  quiet job.Index reads = quiet_on _ _ (λ tree. quiet_settle AnIndex _ (p.index tree))
+  quiet job.Tree reads = quiet_settle an.Tree (none p same) p.tree
+  quiet job.Header reads = quiet_on _ _ (λ tree. quiet_settle an.Header (none p same) (p.header tree))
+  quiet job.Index reads = quiet_on _ _ (λ tree. quiet_settle an.Index _ (p.index tree))
   quiet (job.Raw glyph) reads = quiet_on _ _ (λ tree. quiet_on _ _ (λ header. quiet_on _ _
-      (λ index. quiet_settle ARaw _ (p.raw tree header index glyph))))
+      (λ index. quiet_settle an.Raw _ (p.raw tree header index glyph))))
   quiet (job.Flat glyph) reads = quiet_on _ _ (λ raw. quiet_on _ _
-      (λ index. quiet_settle AFlat _ (p.flat raw index)))
+      (λ index. quiet_settle an.Flat _ (p.flat raw index)))
   quiet (job.Simple glyph) reads = quiet_on _ _ (λ header. quiet_on _ _
-      (λ flat. quiet_settle Bytes _ (p.simple header flat)))
+      (λ flat. quiet_settle an.Simple _ (p.simple header flat)))
   quiet job.Order reads = quiet_on _ _ (λ header. quiet_on _ _ (λ index. quiet_on _ _
-      (λ flats. quiet_settle AnOrder _ (p.order header index flats))))
+      (λ flats. quiet_settle an.Order _ (p.order header index flats))))
   quiet job.Advances reads = quiet_on _ _ (λ header. quiet_on _ _ (λ index. quiet_on _ _
-      (λ order. quiet_on _ _ (λ flats. quiet_settle AMeasure _ (p.measures header order flats)))))
+      (λ order. quiet_on _ _ (λ flats. quiet_settle an.Advances _ (p.measures header order flats)))))
   quiet (job.Table tag) reads = quiet_on _ _ (λ header. quiet_on _ _ (λ index. quiet_on _ _
       (λ order. by_kind (p.is_of_outlines tag) header index order)))
     where
       by_kind : (b : Bool) (header : p.Header) (index : p.Index) (order : p.Order) → IsQuiet
           (cond b
-          (on p same (read_all p same (as_bytes p) reads (map job.Simple (p.numbers index)))
-          (λ parts. settle p same Bytes (none p same)
+          (on p same (read_all p same (as_data p) reads (map job.Simple (p.numbers index)))
+          (λ parts. settle p same an.Table (none p same)
           (p.outline_table tag header order parts)))
           (on p same (read_as p same (as_measures p) reads job.Advances)
-          (λ measures. settle p same Bytes (none p same)
+          (λ measures. settle p same an.Table (none p same)
           (p.metrics_table tag header order measures))))
       by_kind true header index order = quiet_on _ _
-          (λ parts. quiet_settle Bytes (none p same) (p.outline_table tag header order parts))
+          (λ parts. quiet_settle an.Table (none p same) (p.outline_table tag header order parts))
       by_kind false header index order = quiet_on _ _
-          (λ measures. quiet_settle Bytes (none p same) (p.metrics_table tag header order measures))
-  quiet job.Font reads = quiet_on _ _ (λ tables. quiet_settle Bytes (none p same) (p.font tables))
+          (λ measures. quiet_settle an.Table (none p same) (p.metrics_table tag header order measures))
+  quiet job.Font reads = quiet_on _ _ (λ tables. quiet_settle an.Font (none p same) (p.font tables))
   quiet _ reads = λ e. refl
 
   -- ---- values
@@ -199,23 +200,23 @@ module _ (p : Parts) (same : JobId → JobId → Bool) where
   leaf_if false o l = refl
 
   pub leaf_tree : (reads : List (JobId × Plain (Item p))) → IsLeaf (settled p same job.Tree reads)
-  leaf_tree reads = leaf_if (all_done reads) _ (leaf_settle ATree p.tree)
+  leaf_tree reads = leaf_if (all_done reads) _ (leaf_settle an.Tree p.tree)
 
   pub leaf_header : (reads : List (JobId × Plain (Item p)))
       → IsLeaf (settled p same job.Header reads)
   leaf_header reads = leaf_if (all_done reads) _
-      (leaf_on _ _ (λ tree. leaf_settle AHeader (p.header tree)))
+      (leaf_on _ _ (λ tree. leaf_settle an.Header (p.header tree)))
 
   pub leaf_simple : (glyph : ℕ) (reads : List (JobId × Plain (Item p)))
       → IsLeaf (settled p same (job.Simple glyph) reads)
   leaf_simple glyph reads = leaf_if (all_done reads) _ (leaf_on _ _ (λ header.
-      leaf_on _ _ (λ flat. leaf_settle Bytes (p.simple header flat))))
+      leaf_on _ _ (λ flat. leaf_settle an.Simple (p.simple header flat))))
 
   pub leaf_advances : (reads : List (JobId × Plain (Item p)))
       → IsLeaf (settled p same job.Advances reads)
   leaf_advances reads = leaf_if (all_done reads) _ (leaf_on _ _ (λ header.
       leaf_on _ _ (λ index. leaf_on _ _ (λ order. leaf_on _ _ (λ flats.
-      leaf_settle AMeasure (p.measures header order flats))))))
+      leaf_settle an.Advances (p.measures header order flats))))))
 
   pub leaf_table : (tag : Tag) (reads : List (JobId × Plain (Item p)))
       → IsLeaf (settled p same (job.Table tag) reads)
@@ -225,57 +226,57 @@ module _ (p : Parts) (same : JobId → JobId → Bool) where
     where
       by_kind : (b : Bool) (header : p.Header) (index : p.Index) (order : p.Order) → IsLeaf
           (cond b
-          (on p same (read_all p same (as_bytes p) reads (map job.Simple (p.numbers index)))
-          (λ parts. settle p same Bytes (none p same)
+          (on p same (read_all p same (as_data p) reads (map job.Simple (p.numbers index)))
+          (λ parts. settle p same an.Table (none p same)
           (p.outline_table tag header order parts)))
           (on p same (read_as p same (as_measures p) reads job.Advances)
-          (λ measures. settle p same Bytes (none p same)
+          (λ measures. settle p same an.Table (none p same)
           (p.metrics_table tag header order measures))))
       by_kind true header index order = leaf_on _ _
-          (λ parts. leaf_settle Bytes (p.outline_table tag header order parts))
+          (λ parts. leaf_settle an.Table (p.outline_table tag header order parts))
       by_kind false header index order = leaf_on _ _
-          (λ measures. leaf_settle Bytes (p.metrics_table tag header order measures))
+          (λ measures. leaf_settle an.Table (p.metrics_table tag header order measures))
 
   pub leaf_font : (reads : List (JobId × Plain (Item p))) → IsLeaf (settled p same job.Font reads)
   leaf_font reads = leaf_if (all_done reads) _
-      (leaf_on _ _ (λ tables. leaf_settle Bytes (p.font tables)))
+      (leaf_on _ _ (λ tables. leaf_settle an.Font (p.font tables)))
 
   pub makes_index : (reads : List (JobId × Plain (Item p)))
-      → Makes AnIndex (λ index. after_index p same (p.numbers index))
+      → Makes an.Index (λ index. after_index p same (p.numbers index))
       (settled p same job.Index reads)
-  makes_index reads = makes_if AnIndex (λ index. after_index p same (p.numbers index))
-      (all_done reads) _ (makes_on AnIndex (λ index. after_index p same (p.numbers index)) _ _
-      (λ tree e. makes_settle AnIndex (λ index. after_index p same (p.numbers index))
+  makes_index reads = makes_if an.Index (λ index. after_index p same (p.numbers index))
+      (all_done reads) _ (makes_on an.Index (λ index. after_index p same (p.numbers index)) _ _
+      (λ tree e. makes_settle an.Index (λ index. after_index p same (p.numbers index))
       (p.index tree)))
 
   abbrev pub flat_next : {A : Type 0} → ℕ → A → List (Spec JobId)
   flat_next glyph a = spec_with p same [] (job.Flat glyph) ∷ []
 
   pub makes_raw : (glyph : ℕ) (reads : List (JobId × Plain (Item p)))
-      → Makes ARaw (flat_next glyph) (settled p same (job.Raw glyph) reads)
-  makes_raw glyph reads = makes_if ARaw (flat_next glyph) (all_done reads) _
-      (makes_on ARaw (flat_next glyph) _ _ (λ tree e. makes_on ARaw (flat_next glyph) _ _
-      (λ header f. makes_on ARaw (flat_next glyph) _ _
-      (λ index g. makes_settle ARaw (flat_next glyph) (p.raw tree header index glyph)))))
+      → Makes an.Raw (flat_next glyph) (settled p same (job.Raw glyph) reads)
+  makes_raw glyph reads = makes_if an.Raw (flat_next glyph) (all_done reads) _
+      (makes_on an.Raw (flat_next glyph) _ _ (λ tree e. makes_on an.Raw (flat_next glyph) _ _
+      (λ header f. makes_on an.Raw (flat_next glyph) _ _
+      (λ index g. makes_settle an.Raw (flat_next glyph) (p.raw tree header index glyph)))))
 
   abbrev pub simple_next : {A : Type 0} → ℕ → A → List (Spec JobId)
   simple_next glyph a = spec_with p same [] (job.Simple glyph) ∷ []
 
   pub makes_flat : (glyph : ℕ) (reads : List (JobId × Plain (Item p)))
-      → Makes AFlat (simple_next glyph) (settled p same (job.Flat glyph) reads)
-  makes_flat glyph reads = makes_if AFlat (simple_next glyph) (all_done reads) _
-      (makes_on AFlat (simple_next glyph) _ _ (λ raw e. makes_on AFlat (simple_next glyph) _ _
-      (λ index f. makes_settle AFlat (simple_next glyph) (p.flat raw index))))
+      → Makes an.Flat (simple_next glyph) (settled p same (job.Flat glyph) reads)
+  makes_flat glyph reads = makes_if an.Flat (simple_next glyph) (all_done reads) _
+      (makes_on an.Flat (simple_next glyph) _ _ (λ raw e. makes_on an.Flat (simple_next glyph) _ _
+      (λ index f. makes_settle an.Flat (simple_next glyph) (p.flat raw index))))
 
   abbrev pub order_next : {A : Type 0} → List ℕ → A → List (Spec JobId)
   order_next ns a = after_order p same ns
 
   pub makes_order : (ns : List ℕ) (reads : List (JobId × Plain (Item p)))
       → ((index : p.Index) → read_as p same (as_index p) reads job.Index ≡ Some index
-      → p.numbers index ≡ ns) → Makes AnOrder (order_next ns) (settled p same job.Order reads)
-  makes_order ns reads known = makes_if AnOrder (order_next ns) (all_done reads) _
-      (makes_on AnOrder (order_next ns) _ _ (λ header e. makes_on AnOrder (order_next ns) _ _
-      (λ index f. makes_on AnOrder (order_next ns) _ _ (λ flats g.
-      subst (λ ms. Makes AnOrder (order_next ms) (settle p same AnOrder
+      → p.numbers index ≡ ns) → Makes an.Order (order_next ns) (settled p same job.Order reads)
+  makes_order ns reads known = makes_if an.Order (order_next ns) (all_done reads) _
+      (makes_on an.Order (order_next ns) _ _ (λ header e. makes_on an.Order (order_next ns) _ _
+      (λ index f. makes_on an.Order (order_next ns) _ _ (λ flats g.
+      subst (λ ms. Makes an.Order (order_next ms) (settle p same an.Order
       (order_next (p.numbers index)) (p.order header index flats))) (known index f)
-      (makes_settle AnOrder (order_next (p.numbers index)) (p.order header index flats))))))
+      (makes_settle an.Order (order_next (p.numbers index)) (p.order header index flats))))))

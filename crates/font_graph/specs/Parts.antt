@@ -9,8 +9,12 @@ pub record Parts : Type 1 where
   pub Index : Type 0
   pub Raw : Type 0
   pub Flat : Type 0
+  -- a glyph's data in the table "glyf"
+  pub Data : Type 0
   pub Order : Type 0
   pub Measures : Type 0
+  pub Table : Type 0
+  pub File : Type 0
   pub tree : Result Tree Refusal
   pub header : Tree → Result Header Refusal
   pub index : Tree → Result Index Refusal
@@ -18,12 +22,12 @@ pub record Parts : Type 1 where
   pub numbers : Index → List ℕ
   pub raw : Tree → Header → Index → ℕ → Result Raw Refusal
   pub flat : Raw → Index → Result Flat Refusal
-  pub simple : Header → Flat → Result (List ℕ) Refusal
+  pub simple : Header → Flat → Result Data Refusal
   pub order : Header → Index → List Flat → Result Order Refusal
   pub measures : Header → Order → List Flat → Result Measures Refusal
   -- the tags of the tables, and which of them are made of the glyphs' data
   pub tags : List Tag
   pub is_of_outlines : Tag → Bool
-  pub outline_table : Tag → Header → Order → List (List ℕ) → Result (List ℕ) Refusal
-  pub metrics_table : Tag → Header → Order → Measures → Result (List ℕ) Refusal
-  pub font : List (List ℕ) → Result (List ℕ) Refusal
+  pub outline_table : Tag → Header → Order → List Data → Result Table Refusal
+  pub metrics_table : Tag → Header → Order → Measures → Result Table Refusal
+  pub font : List Table → Result File Refusal

@@ -13,7 +13,7 @@ use Rattle.job_graph.specs.Members.{In, In-append_left, In-append_right, In-appe
 use Rattle.job_graph.specs.Members.{In-from_Contains, Contains-from_In, list_all-In}
 use Rattle.job_graph.specs.Solutions.{Founded, opened, added, IsMade, IsSolution}
 use Rattle.font_graph.specs.Parts.{Parts}
-use Rattle.font_graph.specs.Graph.{Item, AnIndex, ARaw, AFlat, AnOrder}
+use Rattle.font_graph.specs.Graph.{Item}
 use Rattle.font_graph.specs.Graph.{as_index, spec_with}
 use Rattle.font_graph.specs.Kinds.{stratum_of, awaited_by}
 use Rattle.font_graph.specs.Graph.{none, after_index, after_order, index_value}
@@ -23,6 +23,7 @@ use Rattle.font_graph.specs.Graph.{header_value}
 use Rattle.font_graph.specs.Graph.{flat_items, tree_value}
 use Rattle.font_graph.specs.declared.ids.JobId.{JobId}
 use Rattle.font_graph.specs.declared.ids.JobId.TheVariants as job
+use Rattle.font_graph.specs.declared.items.Item.TheVariants as an
 use Rattle.font_graph.specs.Outcomes.{map-In, In-map, none_awaited, awaited_is}
 use Rattle.font_graph.specs.Outcomes.{reads_done, quiet, with_value, S, items, value, leaf_tree}
 use Rattle.font_graph.specs.Outcomes.{leaf_header, leaf_simple, leaf_advances, leaf_table}
@@ -32,7 +33,7 @@ use Rattle.font_graph.specs.Outcomes.{order_next, Makes, IsLeaf}
 module _ (p : Parts) (same : JobId → JobId → Bool) where
   -- ---- what is there
 
-  pub numbers_are : (index : p.Index) → index_value p same ≡ Done (AnIndex index)
+  pub numbers_are : (index : p.Index) → index_value p same ≡ Done (an.Index index)
       → p.numbers index ≡ numbers p same
   numbers_are index e = sym (ap (λ v. numbers_in p same
       (option_and_then (as_index p) (done_value v))) e)
@@ -116,7 +117,7 @@ module _ (p : Parts) (same : JobId → JobId → Bool) where
         (found (reads_with p same (numbers p same) job.Order) job.Index (inr (inl refl))) in
         sym (ap (numbers_in p same) (sym (ap (option_and_then (as_index p)) read) ∙ e))
 
-    order_made : (Makes p same) AnOrder ((order_next p same) (numbers p same))
+    order_made : (Makes p same) an.Order ((order_next p same) (numbers p same))
         ((S p same) job.Order)
     order_made = (makes_order p same) (numbers p same)
         (map (with_value p same) (reads_with p same (numbers p same) job.Order)) order_numbers
@@ -162,7 +163,7 @@ module _ (p : Parts) (same : JobId → JobId → Bool) where
         (leaf_adds ((S p same) job.Header) ((leaf_header p same) ((items p same) job.Header)) s i)
     adds_there job.Index there s i = elim (cases_Bool (is_done (index_value p same))) [
       | inl done ↦ after_index_there done (subst (λ ss. In s ss) (index_adds done) i)
-      | inr not ↦ absurd (subst (λ ss. In s ss) (adds_none AnIndex
+      | inr not ↦ absurd (subst (λ ss. In s ss) (adds_none an.Index
           (λ index. after_index p same (p.numbers index)) ((S p same) job.Index)
           ((makes_index p same) index_items)
           not) i)
@@ -181,12 +182,12 @@ module _ (p : Parts) (same : JobId → JobId → Bool) where
               ]
             ]
     adds_there (job.Raw glyph) there s i =
-        let a = adds_some ARaw (spec_with p same [] (job.Flat glyph) ∷ [])
+        let a = adds_some an.Raw (spec_with p same [] (job.Flat glyph) ∷ [])
         ((S p same) (job.Raw glyph))
         ((makes_raw p same) glyph ((items p same) (job.Raw glyph))) s i in
         elim a.1 [ inl e ↦ subst IsJob e ((there, a.0), refl) | inr none ↦ absurd none ]
     adds_there (job.Flat glyph) there s i =
-        let a = adds_some AFlat (spec_with p same [] (job.Simple glyph) ∷ [])
+        let a = adds_some an.Flat (spec_with p same [] (job.Simple glyph) ∷ [])
         ((S p same) (job.Flat glyph))
         ((makes_flat p same) glyph ((items p same) (job.Flat glyph))) s i in
         elim a.1 [ inl e ↦ subst IsJob e ((there.0, a.0), refl) | inr none ↦ absurd none ]
@@ -195,7 +196,7 @@ module _ (p : Parts) (same : JobId → JobId → Bool) where
         ((leaf_simple p same) glyph ((items p same) (job.Simple glyph))) s
         i)
     adds_there job.Order there s i =
-        let a = adds_some AnOrder (after_order p same (numbers p same)) ((S p same) job.Order)
+        let a = adds_some an.Order (after_order p same (numbers p same)) ((S p same) job.Order)
         order_made s i
         in
         let done : is_done (order_value p same) ≡ true = sym (ap is_done ((value p same) job.Order))
@@ -276,7 +277,7 @@ module _ (p : Parts) (same : JobId → JobId → Bool) where
         → Contains ((S p same) (job.Raw glyph)).added (spec_of p same (job.Flat glyph))
     flat_added glyph done = Contains-from_In ((S p same) (job.Raw glyph)).added
         (spec_of p same (job.Flat glyph)) (subst (λ ss. In (spec_of p same (job.Flat glyph)) ss)
-        (sym (adds_these ARaw (spec_with p same [] (job.Flat glyph) ∷ [])
+        (sym (adds_these an.Raw (spec_with p same [] (job.Flat glyph) ∷ [])
         ((S p same) (job.Raw glyph))
         ((makes_raw p same) glyph ((items p same) (job.Raw glyph))) done)) (inl refl))
 
@@ -295,7 +296,7 @@ module _ (p : Parts) (same : JobId → JobId → Bool) where
     simple_added glyph done = Contains-from_In ((S p same) (job.Flat glyph)).added
         (spec_of p same (job.Simple glyph))
         (subst (λ ss. In (spec_of p same (job.Simple glyph)) ss)
-        (sym (adds_these AFlat (spec_with p same [] (job.Simple glyph) ∷ [])
+        (sym (adds_these an.Flat (spec_with p same [] (job.Simple glyph) ∷ [])
         ((S p same) (job.Flat glyph))
         ((makes_flat p same) glyph ((items p same) (job.Flat glyph))) done)) (inl refl))
 
@@ -353,7 +354,7 @@ module _ (p : Parts) (same : JobId → JobId → Bool) where
       order_has : (s : Spec JobId) → In s (after_order p same (numbers p same))
           → Contains ((S p same) job.Order).added s
       order_has s i = Contains-from_In ((S p same) job.Order).added s (subst (λ ss. In s ss)
-          (sym (adds_these AnOrder (after_order p same (numbers p same)) ((S p same) job.Order)
+          (sym (adds_these an.Order (after_order p same (numbers p same)) ((S p same) job.Order)
           order_made
           (ap is_done ((value p same) job.Order) ∙ done))) i)
 
@@ -509,12 +510,12 @@ module _ (p : Parts) (same : JobId → JobId → Bool) where
     above_maker job.Header s i = omega arith
     above_maker job.Index s i = omega arith
     above_maker (job.Raw glyph) s i =
-        let a = adds_some ARaw (spec_with p same [] (job.Flat glyph) ∷ [])
+        let a = adds_some an.Raw (spec_with p same [] (job.Flat glyph) ∷ [])
         ((S p same) (job.Raw glyph))
         ((makes_raw p same) glyph ((items p same) (job.Raw glyph))) s i in
         elim a.1 [ inl e ↦ subst (IsAbove (job.Raw glyph)) e (omega arith) | inr n ↦ absurd n ]
     above_maker (job.Flat glyph) s i =
-        let a = adds_some AFlat (spec_with p same [] (job.Simple glyph) ∷ [])
+        let a = adds_some an.Flat (spec_with p same [] (job.Simple glyph) ∷ [])
         ((S p same) (job.Flat glyph))
         ((makes_flat p same) glyph ((items p same) (job.Flat glyph))) s i in
         elim a.1 [ inl e ↦ subst (IsAbove (job.Flat glyph)) e (omega arith) | inr n ↦ absurd n ]
@@ -522,7 +523,7 @@ module _ (p : Parts) (same : JobId → JobId → Bool) where
         (leaf_adds ((S p same) (job.Simple glyph))
         ((leaf_simple p same) glyph ((items p same) (job.Simple glyph))) s i)
     above_maker job.Order s i =
-        let a = adds_some AnOrder (after_order p same (numbers p same)) ((S p same) job.Order)
+        let a = adds_some an.Order (after_order p same (numbers p same)) ((S p same) job.Order)
         order_made s i
         in
         elim a.1 [

@@ -1,12 +1,14 @@
 ghost use Rattle.std.specs.Prelude.{◌≡◌};
+ghost use Rattle.std.specs.Cmp.{partial_equiv_from_equiv};
 ghost use Rattle.font_graph.specs.Kinds.{job_of};
+ghost use Rattle.font_graph.specs.Same.{same_id, ids_equiv};
 
 use font_ir::Tag;
 use refusal_codes::job;
 use refusal_codes::job::Job;
 
 /// What names a job and its item. Glyphs are numbered by their places in the source's list, from 0.
-#[derive(Clone, Copy, Debug, PartialEq, Eq, PartialOrd, Ord)]
+#[derive(Clone, Copy, Debug, PartialOrd, Ord)]
 pub enum JobId {
     /// The source's property list.
     Tree,
@@ -72,4 +74,38 @@ impl JobId {
             JobId::Font => job::FONT,
         }
     }
+}
+
+impl PartialEq for JobId {
+    ghost eq = { same_id };
+
+    ghost laws = { partial_equiv_from_equiv ids_equiv };
+
+    fn eq(&self, other: &Self) -> bool {
+        match (*self, *other) {
+            (JobId::Tree, JobId::Tree)
+            | (JobId::Header, JobId::Header)
+            | (JobId::Index, JobId::Index)
+            | (JobId::FeatureParse, JobId::FeatureParse)
+            | (JobId::Order, JobId::Order)
+            | (JobId::Advances, JobId::Advances)
+            | (JobId::Kern, JobId::Kern)
+            | (JobId::Marks, JobId::Marks)
+            | (JobId::Rules, JobId::Rules)
+            | (JobId::Store, JobId::Store)
+            | (JobId::Font, JobId::Font) => true,
+            (JobId::Raw(a), JobId::Raw(b))
+            | (JobId::Flat(a), JobId::Flat(b))
+            | (JobId::Simple(a), JobId::Simple(b))
+            | (JobId::Composite(a), JobId::Composite(b))
+            | (JobId::Variations(a), JobId::Variations(b))
+            | (JobId::Lookup(a), JobId::Lookup(b)) => a == b,
+            (JobId::Table(a), JobId::Table(b)) => a == b,
+            _ => false,
+        }
+    }
+}
+
+impl Eq for JobId {
+    ghost laws = { ids_equiv };
 }

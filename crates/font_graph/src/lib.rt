@@ -7,5 +7,7 @@
 #![tactic(auto)]
 
 mod ids;
+mod items;
 
 pub use ids::JobId;
+pub use items::Item;
