@@ -9,3 +9,4 @@ pub mod Outcomes
 pub mod Solved
 pub mod Made
 pub mod Due
+pub mod Running

@@ -30,29 +30,29 @@ use Rattle.font_graph.specs.declared.items.Item.TheVariants as an
 module _ (p : Parts) (same : JobId → JobId → Bool)
     (identity : (x y : JobId) → IsTrue (same x y) ↔ (x ≡ y)) where
   -- what a part answers, as a value
-  plain_of : {A : Type 0} → (A → Item p) → Result A Refusal → Plain (Item p)
+  pub plain_of : {A : Type 0} → (A → Item p) → Result A Refusal → Plain (Item p)
   plain_of item r = (settle p same item (none p same) r).value
 
-  on_some : {A : Type 0} (x : Option A) (f : A → PlainOutcome (Item p) JobId) (a : A)
+  pub on_some : {A : Type 0} (x : Option A) (f : A → PlainOutcome (Item p) JobId) (a : A)
       → x ≡ Some a → on p same x f ≡ f a
   unfolding on
   on_some x f a e = ap (λ o. on p same o f) e
 
-  settle_value : {A : Type 0} (item : A → Item p) (adds : A → List _) (r : Result A Refusal)
+  pub settle_value : {A : Type 0} (item : A → Item p) (adds : A → List _) (r : Result A Refusal)
       → (settle p same item adds r).value ≡ plain_of item r
   unfolding settle plain_of
   settle_value item adds (Ok a) = refl
   settle_value item adds (Err r) = refl
 
   -- a value is that of an answer
-  answered : {A : Type 0} (item : A → Item p) (r : Result A Refusal) (v : Plain (Item p))
+  pub answered : {A : Type 0} (item : A → Item p) (r : Result A Refusal) (v : Plain (Item p))
       → v ≡ plain_of item r → is_done v ≡ true → (a : A) × (r ≡ Ok a) × (v ≡ Done (item a))
   unfolding settle plain_of
   answered item (Ok a) v e d = (a, refl, e)
   answered item (Err r) v e d = absurd (false≢true (ap is_done (sym e) ∙ d))
 
   -- and an answer has its value
-  of_answer : {A : Type 0} (item : A → Item p) (r : Result A Refusal) (v : Plain (Item p)) (a : A)
+  pub of_answer : {A : Type 0} (item : A → Item p) (r : Result A Refusal) (v : Plain (Item p)) (a : A)
       → v ≡ plain_of item r → r ≡ Ok a → v ≡ Done (item a)
   unfolding settle plain_of
   of_answer item r v a e f = e ∙ ap (plain_of item) f
@@ -62,7 +62,7 @@ module _ (p : Parts) (same : JobId → JobId → Bool)
   settled_is id reads e = ap (λ b. (cond b (outcome p same id reads) blocked).value) e
 
   -- what is read of an item with a value
-  read_is : {A : Type 0} (kind : Item p → Option A) (ids : List JobId) (id : JobId) (i : Item p)
+  pub read_is : {A : Type 0} (kind : Item p → Option A) (ids : List JobId) (id : JobId) (i : Item p)
       (a : A) → In id ids → value_of p same id ≡ Done i → kind i ≡ Some a
       → read_as p same kind (map (with_value p same) ids) id ≡ Some a
   read_is kind ids id i a there is kinded =
@@ -80,7 +80,7 @@ module _ (p : Parts) (same : JobId → JobId → Bool)
       → value_of p same id ≡ (outcome p same id (items p same id)).value
   by_outcome id e = sym (value p same id) ∙ settled_is id (items p same id) e
 
-  is_done_by : (v : Plain (Item p)) (i : Item p) → v ≡ Done i → is_done v ≡ true
+  pub is_done_by : (v : Plain (Item p)) (i : Item p) → v ≡ Done i → is_done v ≡ true
   is_done_by v i e = ap is_done e
 
   -- a job that reads two items, or three
@@ -96,7 +96,7 @@ module _ (p : Parts) (same : JobId → JobId → Bool)
 
   -- ---- each value by its part
 
-  tree_by : tree_value p same ≡ plain_of an.Tree p.tree
+  pub tree_by : tree_value p same ≡ plain_of an.Tree p.tree
   tree_by = settle_value an.Tree (none p same) p.tree
 
   module _ (tree : p.Tree) (tree_is : tree_value p same ≡ Done (an.Tree tree)) where
@@ -112,12 +112,12 @@ module _ (p : Parts) (same : JobId → JobId → Bool)
       | inr none ↦ absurd none
     ])
 
-    header_by : header_value p same ≡ plain_of an.Header (p.header tree)
+    pub header_by : header_value p same ≡ plain_of an.Header (p.header tree)
     header_by = by_outcome job.Header tree_done
         ∙ ap (λ o. o.value) (on_some _ _ tree (tree_read job.Header (inl refl)))
         ∙ settle_value an.Header (none p same) (p.header tree)
 
-    index_by : index_value p same ≡ plain_of an.Index (p.index tree)
+    pub index_by : index_value p same ≡ plain_of an.Index (p.index tree)
     index_by = by_outcome job.Index tree_done
         ∙ ap (λ o. o.value) (on_some _ _ tree (tree_read job.Index (inl refl)))
         ∙ settle_value an.Index _ (p.index tree)
@@ -143,7 +143,7 @@ module _ (p : Parts) (same : JobId → JobId → Bool)
           (is_done_by (header_value p same) (an.Header header) header_is)
           (is_done_by (index_value p same) (an.Index index) index_is))
 
-      raw_by : (glyph : ℕ) → raw_value p same glyph ≡ plain_of an.Raw (p.raw tree header index glyph)
+      pub raw_by : (glyph : ℕ) → raw_value p same glyph ≡ plain_of an.Raw (p.raw tree header index glyph)
       raw_by glyph = by_outcome (job.Raw glyph) source_done
           ∙ ap (λ o. o.value) (on_some _ _ tree (tree_read (job.Raw glyph) (inl refl)))
           ∙ ap (λ o. o.value) (on_some _ _ header (header_read (job.Raw glyph) (inr (inl refl))))
@@ -151,7 +151,7 @@ module _ (p : Parts) (same : JobId → JobId → Bool)
           (on_some _ _ index (index_read (job.Raw glyph) (inr (inr (inl refl)))))
           ∙ settle_value an.Raw _ (p.raw tree header index glyph)
 
-      flat_by : (glyph : ℕ) (raw : p.Raw) → raw_value p same glyph ≡ Done (an.Raw raw)
+      pub flat_by : (glyph : ℕ) (raw : p.Raw) → raw_value p same glyph ≡ Done (an.Raw raw)
           → flat_value p same glyph ≡ plain_of an.Flat (p.flat raw index)
       flat_by glyph raw is = by_outcome (job.Flat glyph) (both (job.Raw glyph) job.Index
           (is_done_by (raw_value p same glyph) (an.Raw raw) is)
@@ -162,7 +162,7 @@ module _ (p : Parts) (same : JobId → JobId → Bool)
           ∙ ap (λ o. o.value) (on_some _ _ index (index_read (job.Flat glyph) (inr (inl refl))))
           ∙ settle_value an.Flat _ (p.flat raw index)
 
-      simple_by : (glyph : ℕ) (flat : p.Flat) → flat_value p same glyph ≡ Done (an.Flat flat)
+      pub simple_by : (glyph : ℕ) (flat : p.Flat) → flat_value p same glyph ≡ Done (an.Flat flat)
           → simple_value p same glyph ≡ plain_of an.Simple (p.simple header flat)
       simple_by glyph flat is = by_outcome (job.Simple glyph) (both job.Header (job.Flat glyph)
           (is_done_by (header_value p same) (an.Header header) header_is)
@@ -177,14 +177,14 @@ module _ (p : Parts) (same : JobId → JobId → Bool)
       -- ---- of the glyphs together
 
       -- each of these jobs has a value of one kind
-      Valued : {X A : Type 0} → (X → JobId) → (A → Item p) → List X → List A → Type 0
+      pub Valued : {X A : Type 0} → (X → JobId) → (A → Item p) → List X → List A → Type 0
       Valued make item [] [] = Unit {0}
       Valued make item (x ∷ xs) (a ∷ others) = (value_of p same (make x) ≡ Done (item a))
           × Valued make item xs others
       Valued make item [] (a ∷ others) = ⊥
       Valued make item (x ∷ xs) [] = ⊥
 
-      valued_done : {X A : Type 0} (make : X → JobId) (item : A → Item p) (xs : List X)
+      pub valued_done : {X A : Type 0} (make : X → JobId) (item : A → Item p) (xs : List X)
           (answers : List A) → Valued make item xs answers → (x : X) → In x xs
           → is_done (value_of p same (make x)) ≡ true
       unfolding Valued
@@ -196,7 +196,7 @@ module _ (p : Parts) (same : JobId → JobId → Bool)
         | inr there ↦ valued_done make item xs others v.1 x there
       ]
 
-      read_all_is : {X A : Type 0} (kind : Item p → Option A) (id : JobId) (make : X → JobId)
+      pub read_all_is : {X A : Type 0} (kind : Item p → Option A) (id : JobId) (make : X → JobId)
           (item : A → Item p) → ((a : A) → kind (item a) ≡ Some a) → (xs : List X)
           (answers : List A) → Valued make item xs answers
           → ((x : X) → In x xs → In (make x) (reads_with p same (numbers p same) id))
@@ -212,7 +212,7 @@ module _ (p : Parts) (same : JobId → JobId → Bool)
           ∙ ap (option_and_then (λ rest. Some (a ∷ rest)))
           (read_all_is kind id make item kinded xs others v.1 (λ y i. read y (inr i)))
 
-      in_numbers : (glyph : ℕ) → In glyph (p.numbers index) → In glyph (numbers p same)
+      pub in_numbers : (glyph : ℕ) → In glyph (p.numbers index) → In glyph (numbers p same)
       in_numbers glyph i = subst (λ ns. In glyph ns) (numbers_are p same index index_is) i
 
       from_numbers : (glyph : ℕ) → In glyph (numbers p same) → In glyph (p.numbers index)
@@ -233,7 +233,7 @@ module _ (p : Parts) (same : JobId → JobId → Bool)
             subst IsDoneJob m.2 (valued_done job.Flat an.Flat (p.numbers index) flats drawn m.0
             (from_numbers m.0 m.1))
 
-        order_by : order_value p same ≡ plain_of an.Order (p.order header index flats)
+        pub order_by : order_value p same ≡ plain_of an.Order (p.order header index flats)
         order_by = by_outcome job.Order (all_from
             (job.Header ∷ job.Index ∷ map job.Flat (numbers p same)) (λ id i. elim i [
               | inl is ↦ subst IsDoneJob is header_done
@@ -258,7 +258,7 @@ module _ (p : Parts) (same : JobId → JobId → Bool)
           order_read id there = read_is (as_order p) (reads_with p same (numbers p same) id)
               job.Order (an.Order order) order there order_is refl
 
-          advances_by : advances_value p same ≡ plain_of an.Advances (p.measures header order flats)
+          pub advances_by : advances_value p same ≡ plain_of an.Advances (p.measures header order flats)
           advances_by = by_outcome job.Advances (all_from
               (job.Header ∷ job.Index ∷ job.Order ∷ map job.Flat (numbers p same)) (λ id i. elim i [
                 | inl is ↦ subst IsDoneJob is header_done
@@ -320,7 +320,7 @@ module _ (p : Parts) (same : JobId → JobId → Bool)
                 measures_is refl))
                 ∙ settle_value an.Table (none p same) (p.metrics_table tag header order measures)
 
-            table_by : (tag : Tag) → table_value p same tag
+            pub table_by : (tag : Tag) → table_value p same tag
                 ≡ plain_of an.Table (table p header order measures parts tag)
             table_by tag = by_outcome (job.Table tag) (all_from
                 (job.Header ∷ job.Index ∷ job.Order ∷ others (p.is_of_outlines tag))
@@ -341,7 +341,7 @@ module _ (p : Parts) (same : JobId → JobId → Bool)
                 (on_some _ _ order (order_read (job.Table tag) (inr (inr (inl refl)))))
                 ∙ made_by tag (p.is_of_outlines tag) refl
 
-      font_by : (tables : List p.Table) → Valued job.Table an.Table p.tags tables
+      pub font_by : (tables : List p.Table) → Valued job.Table an.Table p.tags tables
           → font_value p same ≡ plain_of an.Font (p.font tables)
       font_by tables made = by_outcome job.Font (all_from (map job.Table p.tags) (λ id i.
           let m = In-map job.Table p.tags id i in
@@ -364,7 +364,7 @@ module _ (p : Parts) (same : JobId → JobId → Bool)
             | Err refusal ↦ λ is f. absurd cc
           ] refl e
 
-      all_drawn : (glyphs : List ℕ) (flats : List p.Flat)
+      pub all_drawn : (glyphs : List ℕ) (flats : List p.Flat)
           → AllMade (drawn p tree header index) glyphs flats → Valued job.Flat an.Flat glyphs flats
       unfolding Valued
       all_drawn [] [] m = tt
@@ -373,7 +373,7 @@ module _ (p : Parts) (same : JobId → JobId → Bool)
       all_drawn (glyph ∷ glyphs) (flat ∷ flats) m =
           (drawn_by glyph flat m.0, all_drawn glyphs flats m.1)
 
-      all_written : (glyphs : List ℕ) (flats : List p.Flat) (parts : List p.Data)
+      pub all_written : (glyphs : List ℕ) (flats : List p.Flat) (parts : List p.Data)
           → Valued job.Flat an.Flat glyphs flats → AllMade (p.simple header) flats parts
           → Valued job.Simple an.Simple glyphs parts
       unfolding Valued
@@ -388,7 +388,7 @@ module _ (p : Parts) (same : JobId → JobId → Bool)
         all_written glyphs flats parts v.1 m.1,
       )
 
-      all_made : (make : Tag → Result p.Table Refusal)
+      pub all_made : (make : Tag → Result p.Table Refusal)
           → ((tag : Tag) → table_value p same tag ≡ plain_of an.Table (make tag)) → (tags : List Tag)
           (tables : List p.Table) → AllMade make tags tables → Valued job.Table an.Table tags tables
       unfolding Valued
@@ -401,11 +401,11 @@ module _ (p : Parts) (same : JobId → JobId → Bool)
       )
 
       -- what answers has a value, so what has a value was answered
-      record Drawings (glyphs : List ℕ) : Type 0 where
-        flats : List p.Flat
-        drawn_are : AllMade (drawn p tree header index) glyphs flats
+      pub record Drawings (glyphs : List ℕ) : Type 0 where
+        pub flats : List p.Flat
+        pub drawn_are : AllMade (drawn p tree header index) glyphs flats
 
-      drawings : (glyphs : List ℕ) → ((glyph : ℕ) → In glyph glyphs
+      pub drawings : (glyphs : List ℕ) → ((glyph : ℕ) → In glyph glyphs
           → is_done (flat_value p same glyph) ≡ true) → Drawings glyphs
       drawings [] done = record { flats = []; drawn_are = tt }
       drawings (glyph ∷ glyphs) done =
@@ -420,11 +420,11 @@ module _ (p : Parts) (same : JobId → JobId → Bool)
             drawn_are = (ap (λ r. r >>= λ raw. p.flat raw index) raw.1 ∙ flat.1, more.drawn_are);
           }
 
-      record Writings (flats : List p.Flat) : Type 0 where
-        parts : List p.Data
-        written_are : AllMade (p.simple header) flats parts
+      pub record Writings (flats : List p.Flat) : Type 0 where
+        pub parts : List p.Data
+        pub written_are : AllMade (p.simple header) flats parts
 
-      writings : (glyphs : List ℕ) (flats : List p.Flat) → Valued job.Flat an.Flat glyphs flats
+      pub writings : (glyphs : List ℕ) (flats : List p.Flat) → Valued job.Flat an.Flat glyphs flats
           → ((glyph : ℕ) → In glyph glyphs → is_done (simple_value p same glyph) ≡ true)
           → Writings flats
       unfolding Valued
@@ -437,11 +437,11 @@ module _ (p : Parts) (same : JobId → JobId → Bool)
           let more = writings glyphs flats v.1 (λ g i. done g (inr i)) in
           record { parts = part.0 ∷ more.parts; written_are = (part.1, more.written_are) }
 
-      record Tables (make : Tag → Result p.Table Refusal) (tags : List Tag) : Type 0 where
-        tables : List p.Table
-        made_are : AllMade make tags tables
+      pub record Tables (make : Tag → Result p.Table Refusal) (tags : List Tag) : Type 0 where
+        pub tables : List p.Table
+        pub made_are : AllMade make tags tables
 
-      tables_of : (make : Tag → Result p.Table Refusal)
+      pub tables_of : (make : Tag → Result p.Table Refusal)
           → ((tag : Tag) → table_value p same tag ≡ plain_of an.Table (make tag)) → (tags : List Tag)
           → ((tag : Tag) → In tag tags → is_done (table_value p same tag) ≡ true)
           → Tables make tags
@@ -480,7 +480,7 @@ module _ (p : Parts) (same : JobId → JobId → Bool)
       (font_by f.tree tree_is f.header f.index header_is index_is f.tables tables) f.is_font
 
   -- what a job with a value reads has values
-  part_done : (id : JobId) → is_done (value_of p same id) ≡ true → (read : JobId)
+  pub part_done : (id : JobId) → is_done (value_of p same id) ≡ true → (read : JobId)
       → In read (reads_with p same (numbers p same) id) → is_done (value_of p same read) ≡ true
   part_done id done read there = list_all-In (λ (item : JobId × Plain (Item p)). is_done item.1)
       (items p same id) (with_value p same read)

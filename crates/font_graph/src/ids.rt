@@ -1,6 +1,6 @@
 ghost use Rattle.std.specs.Prelude.{◌≡◌};
 ghost use Rattle.std.specs.Cmp.{partial_equiv_from_equiv};
-ghost use Rattle.font_graph.specs.Kinds.{job_of};
+ghost use Rattle.font_graph.specs.Kinds.{job_of, awaited_by};
 ghost use Rattle.font_graph.specs.Same.{same_id, ids_equiv};
 
 use font_ir::Tag;
@@ -72,6 +72,27 @@ impl JobId {
             JobId::Store => job::STORE,
             JobId::Table(_) => job::TABLE,
             JobId::Font => job::FONT,
+        }
+    }
+}
+
+impl JobId {
+    /// The stratum of which every job must be finished before this one, where there is one. It
+    /// takes no memory.
+    pub fn awaits(self) -> Option<u8>
+        ensures { result ≡ awaited_by self }
+    {
+        match self {
+            JobId::Order => Some(1),
+            JobId::Composite(_)
+            | JobId::Advances
+            | JobId::Kern
+            | JobId::Marks
+            | JobId::Rules
+            | JobId::Lookup(_) => Some(2),
+            JobId::Store | JobId::Table(_) => Some(3),
+            JobId::Font => Some(4),
+            _ => None,
         }
     }
 }
