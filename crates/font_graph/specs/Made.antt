@@ -16,7 +16,8 @@ use Rattle.font_graph.specs.Fonts.{AllMade, drawn, table, IsFontOf}
 use Rattle.refusal_codes.specs.Gives.{◌>>=◌}
 use Rattle.font_graph.specs.Graph.{Item}
 use Rattle.font_graph.specs.Graph.{as_tree, as_header, as_index, as_raw, as_flat, as_order}
-use Rattle.font_graph.specs.Graph.{as_measures, as_data, as_table, as_font, all_of, on, settle, none, outcome}
+use Rattle.font_graph.specs.Graph.{as_measures, as_data, as_table, as_font, all_of, on, settle}
+use Rattle.font_graph.specs.Graph.{none, outcome}
 use Rattle.font_graph.specs.Graph.{settled}
 use Rattle.font_graph.specs.Graph.{read_as, read_all, reads_with, numbers, value_of, tree_value}
 use Rattle.font_graph.specs.Graph.{header_value, index_value, raw_value, flat_value, simple_value}

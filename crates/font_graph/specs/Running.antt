@@ -591,10 +591,17 @@ module _ (p : Parts) where
             (flats_read (p.numbers s.index) rs) g.flats fs flats f drawn_of)) fs e;
       })
 
+  -- the glyphs of an index were ordered so
+  pub record IsOrderOf (header : p.Header) (index : p.Index) (order : p.Order) : Type 0 where
+    pub flats : List p.Flat
+    pub order_made : p.order header index flats ≡ Ok order
+
   pub record TableFound (reads : Reads) : Type 0 where
     pub header : IsSome (header_read reads)
     pub index : IsSome (index_read reads)
     pub order : IsSome (order_read reads)
+    pub order_is : (h : p.Header) (i : p.Index) (o : p.Order) → header_read reads ≡ Some h
+        → index_read reads ≡ Some i → order_read reads ≡ Some o → IsOrderOf h i o
 
   table_known : (tag : Tag) → is_done (order_value p same_id) ≡ true
       → TableFound (items p same_id (job.Table tag))
@@ -603,13 +610,18 @@ module _ (p : Parts) where
       let s = order_source done in
       let g = order_glyphs done in
       let o = ordered s g done in
+      let rs = items p same_id id in
+      let header = header_known s id (inl refl) in
+      let index = index_known s id (inr (inl refl)) in
+      let order = order_known s g o id (inr (inr (inl refl))) in
       record {
-        header = some_read (header_read (items p same_id id)) s.header
-            (header_known s id (inl refl));
-        index = some_read (index_read (items p same_id id)) s.index
-            (index_known s id (inr (inl refl)));
-        order = some_read (order_read (items p same_id id)) o.order
-            (order_known s g o id (inr (inr (inl refl))));
+        header = some_read (header_read rs) s.header header;
+        index = some_read (index_read rs) s.index index;
+        order = some_read (order_read rs) o.order order;
+        order_is = λ h i n a b c. as_read (λ h. IsOrderOf h i n) (header_read rs) s.header h header a
+            (as_read (λ i. IsOrderOf s.header i n) (index_read rs) s.index i index b
+            (as_read (λ n. IsOrderOf s.header s.index n) (order_read rs) o.order n order c
+            (record { flats = g.flats; order_made = o.order_made })));
       }
 
   pub table_finds : (tag : Tag) (reads : Reads) → Due (job.Table tag) reads → TableFound reads
