@@ -20,3 +20,9 @@ pub record Fails (p : Parts) (id : JobId) (r : Refusal) : Type 0 where
 pub record IsLeast (r : Refusal) (rs : List Refusal) : Type 0 where
   pub there : In r rs
   pub none_less : (other : Refusal) → In other rs → refusal_cmp other r ≢ Less
+
+-- a job fails by this refusal, and no job fails by a lesser one
+pub record IsLeastFailure (p : Parts) (r : Refusal) : Type 0 where
+  pub id : JobId
+  pub fails : Fails p id r
+  pub none_less : (other : JobId) (s : Refusal) → Fails p other s → refusal_cmp s r ≢ Less

@@ -13,3 +13,8 @@ pub mod Due
 pub mod Running
 pub mod RefusalOrder
 pub mod Least
+pub mod Failing
+pub mod Values
+pub mod Unrefused
+pub mod AllDone
+pub mod Judged
