@@ -86,7 +86,7 @@ chosen false r m rs e l = record {
   ];
 }
 
-least_found : (r : Refusal) (rs : List Refusal) → IsLeast (lesser r (least rs)) (r ∷ rs)
+pub least_found : (r : Refusal) (rs : List Refusal) → IsLeast (lesser r (least rs)) (r ∷ rs)
 least_found r [] = itself r
 least_found r (s ∷ rs) = chosen (is_gt (refusal_cmp r (lesser s (least rs)))) r
     (lesser s (least rs)) (s ∷ rs) refl (least_found s rs)
@@ -130,16 +130,17 @@ least_alike [] ss alike = sym ((least_none ss).1 (nothing_in ss (λ r i. (alike 
 least_alike (r ∷ rs) ss alike = sym ((least_is ss (lesser r (least rs))).1
     (least_among (lesser r (least rs)) (r ∷ rs) ss alike (least_found r rs)))
 
--- so one that is met later is looked at in the same way
-pub least_push : (rs : List Refusal) (r : Refusal)
-    → least (rs ++ r ∷ []) ≡ Some (lesser r (least rs))
-least_push rs r = least_alike (rs ++ r ∷ []) (r ∷ rs) (λ s. (
-  λ i. elim (In-append_cases rs (r ∷ []) s i) [
-    | inl there ↦ inr there
-    | inr last ↦ elim last [ inl e ↦ inl e | inr none ↦ absurd none ]
-  ],
-  λ i. elim i [
-    | inl e ↦ In-append_right rs (r ∷ []) s (inl e)
-    | inr there ↦ In-append_left rs (r ∷ []) s there
-  ],
-))
+-- the least of some and of others is the least of the one's least and of the others
+pub least_through : (n m : Refusal) (ms rs : List Refusal) → IsLeast m ms → IsLeast n (m ∷ rs)
+    → IsLeast n (ms ++ rs)
+least_through n m ms rs of_ms of_all = record {
+  there = elim of_all.there [
+    | inl e ↦ In-append_left ms rs n (subst (λ x. In x ms) e of_ms.there)
+    | inr i ↦ In-append_right ms rs n i
+  ];
+  none_less = λ other i. elim (In-append_cases ms rs other i) [
+    | inl i ↦ not_less n other (upto refusals_ordered n m other
+        (up_to n m (of_all.none_less m (inl refl))) (up_to m other (of_ms.none_less other i)))
+    | inr i ↦ of_all.none_less other (inr i)
+  ];
+}

@@ -13,8 +13,11 @@ pub mod Due
 pub mod Running
 pub mod RefusalOrder
 pub mod Least
+pub mod Kept
 pub mod Failing
 pub mod Values
 pub mod Unrefused
 pub mod AllDone
 pub mod Judged
+pub mod Grounds
+pub mod Ended
