@@ -49,13 +49,13 @@ module _ (p : Parts) where
       ∙ ap (λ v. font_or p (option_and_then (as_font p) (done_value v)))
       (made_font p same_id identity font f)
 
-  -- of the verdict, one way or the other
-  pub record IsJudged : Type 0 where
-    pub font : p.File
-    pub is_font : IsFontOf p font
-    pub accepted : verdict p ≡ Ok font
+  -- a font that is made, and that the verdict gives
+  record Accepted : Type 0 where
+    font : p.File
+    is_font : IsFontOf p font
+    accepted : verdict p ≡ Ok font
 
-  judged : least (refusals p) ≡ None → IsJudged
+  judged : least (refusals p) ≡ None → Accepted
   judged e =
       let m = made_of_unrefused ((least_none (refusals p)).0 e) in
       record { font = m.0; is_font = m.1; accepted = made_accepted m.0 m.1 }
