@@ -15,9 +15,9 @@ use Rattle.table_bytes.specs.LimitLaws.{is_within}
 use Rattle.glyf_writer.specs.Tables as outlines
 use Rattle.font_assembly.specs.File.{Table, file, file_len}
 use Rattle.font_plan.specs.Accepted.{IsFontOf}
-use Rattle.font_plan.specs.Font.{source_too_large, too_many_glyphs, table_too_large, font_too_large}
-use Rattle.font_plan.specs.Font.{glyphs_in, parts_of, tables_of, unless_too_large, filed, written}
-use Rattle.font_plan.specs.Font.{glyphs_font, tree_font, font_of}
+use Rattle.font_plan.specs.Direct.{source_too_large, too_many_glyphs, table_too_large, font_too_large}
+use Rattle.font_plan.specs.Direct.{glyphs_in, parts_of, tables_of, unless_too_large, filed, written}
+use Rattle.font_plan.specs.Direct.{glyphs_font, tree_font, direct_font}
 
 -- what was passed on, and what came of it
 record Passed {A B : Type 0} (given : Result A Refusal) (next : A → Result B Refusal) (made : B)
@@ -68,8 +68,8 @@ fitting tables font e =
     (small (file_len tables) fits.0, same_file (file tables) font (Ok (file tables)) refl fits.1)
 
 pub accepted_font : (tree_of_computed : (source : List ℕ) (t : Tree) → read_of source ≡ Ok t
-    → HasTree source t) (source font : List ℕ) → font_of source ≡ Ok font → IsFontOf source font
-unfolding font_of tree_font written
+    → HasTree source t) (source font : List ℕ) → direct_font source ≡ Ok font → IsFontOf source font
+unfolding direct_font tree_font written
 accepted_font tree_of_computed source font e =
     let whole = within 67108864 (length source) source_too_large (read_of source >>= tree_font) font
     e in
@@ -115,8 +115,8 @@ fits n few = is_within n (min n 18446744073709551615) refl (omega arith)
 
 pub font_accepted : (tree_computed : (source : List ℕ) (t : Tree) → HasTree source t
     → read_of source ≡ Ok t) (source font : List ℕ) → IsFontOf source font
-    → font_of source ≡ Ok font
-unfolding font_of tree_font written
+    → direct_font source ≡ Ok font
+unfolding direct_font tree_font written
 font_accepted tree_computed source font f =
     below 67108864 (length source) source_too_large (read_of source >>= tree_font) f.few_bytes
     ∙ ap (λ tree. tree >>= tree_font) (tree_computed source f.tree f.read)

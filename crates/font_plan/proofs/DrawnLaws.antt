@@ -16,8 +16,8 @@ use Rattle.font_ir.specs.declared.glyph.FlatGlyph.{FlatGlyph}
 use Rattle.font_ir.specs.FlatGlyphs.{IsFlatGlyph}
 use Rattle.font_ir.specs.Notdef.{made_notdef_of}
 use Rattle.font_plan.specs.Drawn.{IsDrawn}
-use Rattle.font_plan.specs.Font.{Entry, others_from, drawn_of, all_drawn, followed_by, notdef_from}
-use Rattle.font_plan.specs.Font.{notdef_of, glyphs_in, order_in}
+use Rattle.font_plan.specs.Direct.{Entry, others_from, drawn_of, all_drawn, followed_by, notdef_from}
+use Rattle.font_plan.specs.Direct.{notdef_of, glyphs_in, order_in}
 
 -- ---- as many glyphs as names
 

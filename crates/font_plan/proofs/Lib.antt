@@ -1,8 +1,15 @@
 pub mod AcceptedLaws
 pub mod DrawnLaws
+pub mod Found
+pub mod Judgement
+pub mod Loops
+pub mod Made
 pub mod Names
 pub mod OnLiterals
+pub mod Orders
+pub mod Runs
 pub mod Steps
 pub mod TableLaws
+pub mod Tabled
 pub mod TooLarge
 pub mod Examples

@@ -14,8 +14,8 @@ use Rattle.font_ir.specs.declared.glyph.FlatGlyph.{FlatGlyph}
 use Rattle.refusal_codes.specs.declared.errors.ReadError.{ReadError}
 use Rattle.refusal_codes.specs.declared.errors.ReadError.TheVariants as read_errors
 use Rattle.refusal_codes.specs.Gives.{◌>>=◌, RefusesRead}
-use Rattle.font_plan.specs.Font.{Entry, is_notdef, is_other, others_from, drawn_of, all_drawn}
-use Rattle.font_plan.specs.Font.{followed_by, notdef_from}
+use Rattle.font_plan.specs.Direct.{Entry, is_notdef, is_other, others_from, drawn_of, all_drawn}
+use Rattle.font_plan.specs.Direct.{followed_by, notdef_from}
 
 rest_at : {X : Type 0} (xs : List X) (n : ℕ) (x : X) → slice_get xs n ≡ Some x
     → drop n xs ≡ x ∷ drop (n + 1) xs

@@ -17,7 +17,7 @@ use Rattle.font_ir.specs.FlatGlyphs.{glyphs_of}
 use Rattle.metrics_tables.specs.Tables.{head_table}
 use Rattle.font_assembly.specs.File.{HasHead}
 use Rattle.font_plan.specs.Drawn.{IsDrawn}
-use Rattle.font_plan.specs.Font.{tables_with, parts_of}
+use Rattle.font_plan.specs.Direct.{tables_with, parts_of}
 
 head_length : (h : Header) (m : Measures) → length (head_table h m) ≡ 54
 unfolding head_table

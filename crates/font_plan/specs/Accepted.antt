@@ -10,7 +10,7 @@ use Rattle.glyphs_source.specs.HeaderReading.{header_of}
 use Rattle.glyphs_source.specs.IndexReading.{index_of}
 use Rattle.glyf_writer.specs.Tables as outlines
 use Rattle.font_assembly.specs.File.{file, file_len}
-use Rattle.font_plan.specs.Font.{Entry, glyphs_in, parts_of, tables_of}
+use Rattle.font_plan.specs.Direct.{Entry, glyphs_in, parts_of, tables_of}
 
 pub record IsFontOf (source font : List ℕ) : Type 0 where
   pub tree : Tree

@@ -1,3 +1,10 @@
 pub mod Accepted
+pub mod Alone
+pub mod Direct
 pub mod Drawn
 pub mod Font
+pub mod Jobs
+pub mod Known
+pub mod Reading
+pub mod Settling
+pub mod Telling

@@ -8,7 +8,8 @@ ghost use Rattle.std.specs.Cmp.Lexicographic.{pointwise};
 ghost use Rattle.refusal_codes.specs.declared.limits.TheConstants.{GLYPHS, NAME_BYTES};
 ghost use Rattle.font_ir.specs.Glyphs.{gid_of};
 ghost use Rattle.glyphs_source.specs.IndexReading.{AreNamed};
-ghost use Rattle.font_plan.specs.Font.{Entry, is_other, others_from, notdef_from, order_in};
+ghost use Rattle.font_plan.specs.Direct.{Entry, is_other, others_from, notdef_from, order_in};
+ghost use Rattle.font_plan.specs.Jobs.{numbers_in};
 
 use font_ir::{GlyphOrder, Name};
 use glyphs_source::{GlyphIndex, IndexEntry};
@@ -31,6 +32,47 @@ pub fn order_in(alloc: Global, index: &GlyphIndex) -> Result<GlyphOrder, NoMemor
     push_glyph(alloc, notdef_number(index), NOTDEF, &mut order)?;
     push_others(alloc, index, &mut order)?;
     Ok(order)
+}
+
+/// The numbers of the exported glyphs, in the order of the font.
+pub fn numbers_in(alloc: Global, index: &GlyphIndex) -> Result<Vec<u32>, NoMemory>
+    requires { length index.now < 2 ^ 32 }
+    ensures { IfOk result (λ numbers. numbers.items ≡ numbers_in index.now) }
+{
+    let mut numbers = Vec::new(alloc);
+    if let Some(number) = notdef_number(index) {
+        numbers.push(number)?;
+    }
+    push_numbers(index, &mut numbers)?;
+    Ok(numbers)
+}
+
+/// Adds the numbers of the exported glyphs other than `.notdef`.
+fn push_numbers(index: &GlyphIndex, numbers: &mut Vec<u32>) -> Result<(), NoMemory>
+    requires { length index.now < 2 ^ 32 }
+    ensures { OnOk result (numbers.new.items
+        ≡ numbers.old.items ++ map (λ glyph. glyph.0) (others_from 0 index.now)) }
+{
+    for number in 0..index.len() as u32 {
+        let (name, entry) = entry_at(index, number);
+        if is_other(name, entry) {
+            numbers.push(number)?;
+        }
+    }
+    Ok(())
+}
+
+/// How many glyphs the font has: those that are exported, and `.notdef` where the source has none.
+pub fn glyph_count(index: &GlyphIndex, numbers: &[u32]) -> u64
+    requires few { length index.now < 2 ^ 32 }
+    requires numbers { numbers.now ≡ numbers_in index.now }
+    ensures { result ≡ length (order_in index.now).names }
+{
+    let count = numbers.len() as u64;
+    match notdef_number(index) {
+        Some(_) => count,
+        None => count + 1,
+    }
 }
 
 /// The number of the first `.notdef`, where the source has one.

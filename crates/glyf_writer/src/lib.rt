@@ -11,4 +11,4 @@ mod tables;
 
 pub use composite::composite_bytes;
 pub use simple::simple_bytes;
-pub use tables::glyf_loca;
+pub use tables::{glyf_table, loca_table};

@@ -1,7 +1,7 @@
 ghost use Rattle.std.specs.Prelude.{◌≡◌, ◌≤◌, ◌*◌, ◌+◌, ℕ, List, length, map, min, IfOk};
 ghost use Rattle.std.specs.List.{concat};
 ghost use Rattle.refusal_codes.specs.declared.limits.TheConstants.{TABLE_BYTES};
-ghost use Rattle.table_bytes.specs.Tables.{Builds};
+ghost use Rattle.table_bytes.specs.Tables.{Builds, over_limit};
 ghost use Rattle.glyf_writer.specs.Tables.{glyf_bytes, loca_bytes, too_large};
 
 use refusal_codes::NoMemory;
@@ -10,23 +10,36 @@ use std::alloc::Global;
 use std::sync::Arc;
 use table_bytes::{TableError, push_uint32};
 
-/// The tables "glyf" and "loca" (OpenType 1.9) of each glyph's data, in the order of the glyph
-/// numbers.
+/// The table "glyf" (OpenType 1.9) of each glyph's data, in the order of the glyph numbers.
 ///
-/// The offsets are long.
+/// # Errors
+///
+/// `TooLarge` with its length, or `u64::MAX` where it is longer, exactly where that is more than
+/// 4,294,967,295 bytes. `NoMemory` comes only where it isn't.
+pub fn glyf_table(alloc: Global, parts: &[Arc<Vec<u8>>]) -> Result<Vec<u8>, TableError>
+    ensures { Builds {Y = List ℕ} (λ glyf. glyf.items) result
+        (over_limit (length (glyf_bytes (map (λ part. part.value.items) parts.now))))
+        (glyf_bytes (map (λ part. part.value.items) parts.now)) }
+{
+    let length = total_length(parts);
+    if length > TABLE_BYTES {
+        return Err(TableError::TooLarge(length));
+    }
+    Ok(joined(alloc, parts)?)
+}
+
+/// The table "loca" (OpenType 1.9), which says where each glyph's data begin in "glyf": with long
+/// offsets. It measures "glyf", and doesn't build it.
 ///
 /// # Errors
 ///
 /// `TooLarge` with the length of "glyf", or `u64::MAX` where it is longer, exactly where that is
-/// more than 4,294,967,295 bytes, or else that of "loca" exactly where that is. `NoMemory` comes
-/// only where neither is.
-pub fn glyf_loca(alloc: Global, parts: &[Arc<Vec<u8>>]) -> Result<(Vec<u8>, Vec<u8>), TableError>
-    ensures { Builds {Y = List ℕ × List ℕ} (λ tables. (tables.0.items, tables.1.items)) result
-        (too_large (map (λ part. part.value.items) parts.now)) (
-          glyf_bytes (map (λ part. part.value.items) parts.now),
-          loca_bytes
-              (map (λ part. part.value.items) parts.now),
-        ) }
+/// more than 4,294,967,295 bytes, so that no offset of 32 bits tells its end; or else with that of
+/// "loca" exactly where that is. `NoMemory` comes only where neither is.
+pub fn loca_table(alloc: Global, parts: &[Arc<Vec<u8>>]) -> Result<Vec<u8>, TableError>
+    ensures { Builds {Y = List ℕ} (λ loca. loca.items) result
+        (too_large (map (λ part. part.value.items) parts.now))
+        (loca_bytes (map (λ part. part.value.items) parts.now)) }
 {
     let glyf_length = total_length(parts);
     if glyf_length > TABLE_BYTES {
@@ -36,7 +49,7 @@ pub fn glyf_loca(alloc: Global, parts: &[Arc<Vec<u8>>]) -> Result<(Vec<u8>, Vec<
     if loca_length > TABLE_BYTES {
         return Err(TableError::TooLarge(loca_length));
     }
-    Ok(short_tables(alloc, parts)?)
+    Ok(loca_of(alloc, parts)?)
 }
 
 /// How many bytes all parts have, at most the greatest number of 64 bits.
@@ -49,18 +62,6 @@ fn total_length(parts: &[Arc<Vec<u8>>]) -> u64
         total = total.saturating_add(part.len() as u64);
     }
     total
-}
-
-/// The two tables, where they aren't too large.
-fn short_tables(alloc: Global, parts: &[Arc<Vec<u8>>]) -> Result<(Vec<u8>, Vec<u8>), NoMemory>
-    requires glyf { length (concat (map (λ part. part.value.items) parts.now)) ≤ TABLE_BYTES }
-    requires loca { 4 * (length parts.now + 1) ≤ TABLE_BYTES }
-    ensures glyf { IfOk result (λ tables. tables.0.items
-        ≡ glyf_bytes (map (λ part. part.value.items) parts.now)) }
-    ensures loca { IfOk result (λ tables. tables.1.items
-        ≡ loca_bytes (map (λ part. part.value.items) parts.now)) }
-{
-    Ok((joined(alloc, parts)?, loca_of(alloc, parts)?))
 }
 
 /// The parts, one after another.

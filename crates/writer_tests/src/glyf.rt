@@ -1,5 +1,5 @@
 use fixtures::{GLYPH_DATA, composite, glyph, one_contour, points_at_origin, triangle};
-use glyf_writer::{composite_bytes, glyf_loca, simple_bytes};
+use glyf_writer::{composite_bytes, glyf_table, loca_table, simple_bytes};
 use std::alloc::Global;
 use std::sync::Arc;
 use std::test::Fail;
@@ -14,8 +14,9 @@ fn the_triangle_stands_behind_a_glyph_without_data(rt: HostRuntime) -> Result<()
         Arc::new(rt.alloc(), Vec::new(rt.alloc()))?,
         Arc::new(rt.alloc(), data)?,
     ]?;
-    let (glyf, loca) = glyf_loca(rt.alloc(), parts.as_slice())?;
+    let glyf = glyf_table(rt.alloc(), parts.as_slice())?;
     assert!(rt; glyf == hex::decode(rt.alloc(), GLYPH_DATA)?);
+    let loca = loca_table(rt.alloc(), parts.as_slice())?;
     assert!(rt; loca == hex::decode(rt.alloc(), "00000000000000000000001c")?);
     Ok(())
 }
@@ -61,7 +62,7 @@ fn too_large(alloc: Global, count: u32) -> Result<Option<u64>, Fail> {
     for _ in 0..count {
         parts.push(part.clone()?)?;
     }
-    match glyf_loca(alloc, parts.as_slice()) {
+    match glyf_table(alloc, parts.as_slice()) {
         Err(TableError::TooLarge(length)) => Ok(Some(length)),
         _ => Ok(None),
     }

@@ -1,0 +1,144 @@
+-- What is known of a glyph that was read or drawn: its number, and where it stands.
+use Rattle.std.proofs.Common.{◌≡◌, ℕ, ◌<◌, ◌+◌, List, [], ◌∷◌, ◌++◌, map, length, Option, Some, None}
+use Rattle.std.proofs.Common.{Result, Ok, Err, refl, sym, ap, ◌∙◌, inl, inr, subst, arith, Bool}
+use Rattle.std.proofs.Common.{true, false, cond}
+use Rattle.std.specs.Prelude.{slice_get, if◌then◌else◌}
+use Rattle.std.proofs.lemmas.Option.{slice_get_within}
+use Rattle.refusal_codes.specs.declared.refusal.Refusal.{Refusal}
+use Rattle.refusal_codes.specs.First.{refusal_of, foremost}
+use Rattle.refusal_codes.specs.declared.job.TheConstants.{FLAT}
+use Rattle.refusal_codes.specs.JudgedLaws.{judged_ok}
+use Rattle.refusal_codes.specs.Gives.{◌>>=◌}
+use Rattle.plist_reader.specs.declared.tree.Tree.{Tree}
+use Rattle.font_ir.specs.declared.header.Header.{Header}
+use Rattle.font_ir.specs.declared.header.Master.{Master}
+use Rattle.font_ir.specs.declared.glyph.GlyphIr.{GlyphIr}
+use Rattle.font_ir.specs.declared.glyph.FlatGlyph.{FlatGlyph}
+use Rattle.glyphs_layers.specs.LayerReading.{glyph_of, glyph_record}
+use Rattle.component_flatten.specs.Flattening.{flat_of, flat_record, limit_failures}
+use Rattle.metrics_tables.specs.Measuring.{HasMastersPlaces}
+use Rattle.job_graph.specs.Members.{In, In-append_cases}
+use Rattle.font_graph.specs.Outcomes.{In-map}
+use Rattle.font_plan.specs.Direct.{Entry, is_notdef, is_other, others_from, notdef_from}
+use Rattle.font_plan.specs.Jobs.{raw_at, raw_in, flat_at, flat_in, number_of, numbers_in}
+
+-- ---- a glyph that was read
+
+pub record IsRawOf (header : Header) (index : List Entry) (number : ℕ) (raw : GlyphIr) : Type 0 where
+  pub number_is : raw.number ≡ number
+  pub within : number < length index
+  pub places_are : raw.places ≡ map (λ master. master.location) header.masters
+
+record_is : (tree : Tree) (masters : List Master) (name : List ℕ) (number node : ℕ) (raw : GlyphIr)
+    → glyph_of tree masters name number node ≡ Ok raw
+    → glyph_record tree masters number node ≡ raw
+unfolding glyph_of
+record_is tree masters name number node raw e = (judged_ok _ _ _ _ _ e).2
+
+record_number : (tree : Tree) (masters : List Master) (number node : ℕ)
+    → (glyph_record tree masters number node).number ≡ number
+unfolding glyph_record
+record_number tree masters number node = refl
+
+record_places : (tree : Tree) (masters : List Master) (number node : ℕ)
+    → (glyph_record tree masters number node).places ≡ map (λ m. m.location) masters
+unfolding glyph_record
+record_places tree masters number node = refl
+
+pub raw_known : (tree : Tree) (header : Header) (index : List Entry) (number : ℕ) (raw : GlyphIr)
+    → raw_in tree header index number ≡ Ok raw → IsRawOf header index number raw
+raw_known tree header index number raw e = at (slice_get index number) refl e
+  where
+    at : (entry : Option Entry) → slice_get index number ≡ entry
+        → raw_at tree header number entry ≡ Ok raw → IsRawOf header index number raw
+    at None is f = absurd cc
+    at (Some entry) is f =
+        let made = record_is tree header.masters entry.0 number entry.1.node raw f in record {
+          number_is = sym (ap (λ (r : GlyphIr). r.number) made)
+              ∙ record_number tree header.masters number entry.1.node;
+          within = slice_get_within index number entry is;
+          places_are = sym (ap (λ (r : GlyphIr). r.places) made)
+              ∙ record_places tree header.masters number entry.1.node;
+        }
+
+-- ---- a glyph that was drawn
+
+flat_record_is : (name : List ℕ) (raw : GlyphIr) (flat : FlatGlyph) → flat_of name raw ≡ Ok flat
+    → flat_record raw ≡ flat
+unfolding flat_of
+flat_record_is name raw flat e = (judged_ok (refusal_of FLAT name) None
+    (foremost (limit_failures (flat_record raw))) (flat_record raw) flat e).2
+
+flat_record_places : (raw : GlyphIr) → (flat_record raw).places ≡ raw.places
+unfolding flat_record
+flat_record_places raw = refl
+
+flat_places : (raw : GlyphIr) (index : List Entry) (flat : FlatGlyph)
+    → flat_in raw index ≡ Ok flat → flat.places ≡ raw.places
+flat_places raw index flat e = at (slice_get index raw.number) e
+  where
+    at : (entry : Option Entry) → flat_at raw entry ≡ Ok flat → flat.places ≡ raw.places
+    at None f = absurd cc
+    at (Some entry) f =
+        sym (ap (λ (g : FlatGlyph). g.places) (flat_record_is entry.0 raw flat f))
+        ∙ flat_record_places raw
+
+pub has_places : (tree : Tree) (header : Header) (index : List Entry) (number : ℕ) (raw : GlyphIr)
+    (flat : FlatGlyph) → raw_in tree header index number ≡ Ok raw → flat_in raw index ≡ Ok flat
+    → HasMastersPlaces header flat
+has_places tree header index number raw flat e f =
+    flat_places raw index flat f ∙ (raw_known tree header index number raw e).places_are
+
+pub drawn_places : (tree : Tree) (header : Header) (index : List Entry) (number : ℕ)
+    (flat : FlatGlyph)
+    → (raw_in tree header index number >>= λ raw. flat_in raw index) ≡ Ok flat
+    → HasMastersPlaces header flat
+drawn_places tree header index number flat e = by (raw_in tree header index number) refl e
+  where
+    by : (r : Result GlyphIr Refusal) → raw_in tree header index number ≡ r
+        → (r >>= λ raw. flat_in raw index) ≡ Ok flat → HasMastersPlaces header flat
+    by (Ok raw) is f = has_places tree header index number raw flat is f
+    by (Err refusal) is f = absurd cc
+
+-- ---- the numbers of a font's glyphs are those of glyphs of the index
+
+others_within : (n : ℕ) (index : List Entry) (number : ℕ)
+    → In number (map (λ glyph. glyph.0) (others_from n index)) → number < n + length index
+others_within n [] number i = absurd i
+others_within n (entry ∷ index) number i = chosen (is_other entry) (others_within (n + 1) index number) i
+  where
+    chosen : (b : Bool)
+        → (In number (map (λ (glyph : ℕ × Entry). glyph.0) (others_from (n + 1) index))
+        → number < n + 1 + length index)
+        → In number (map (λ (glyph : ℕ × Entry). glyph.0)
+        (if b then (n, entry) ∷ others_from (n + 1) index else others_from (n + 1) index))
+        → number < n + length (entry ∷ index)
+    chosen true rest h = elim h [
+      | inl e ↦ subst (λ m. m < n + length (entry ∷ index)) e (omega arith)
+      | inr j ↦ omega (arith, rest j)
+    ]
+    chosen false rest h = omega (arith, rest h)
+
+notdef_within : (n : ℕ) (index : List Entry) (number : ℕ)
+    → In number (number_of (notdef_from n index)) → number < n + length index
+notdef_within n [] number i = absurd i
+notdef_within n (entry ∷ index) number i = chosen (is_notdef entry) (notdef_within (n + 1) index number) i
+  where
+    chosen : (b : Bool) → (In number (number_of (notdef_from (n + 1) index))
+        → number < n + 1 + length index)
+        → In number (number_of (if b then Some (n, entry) else notdef_from (n + 1) index))
+        → number < n + length (entry ∷ index)
+    chosen true rest h = elim h [
+      | inl e ↦ subst (λ m. m < n + length (entry ∷ index)) e (omega arith)
+      | inr j ↦ absurd j
+    ]
+    chosen false rest h = omega (arith, rest h)
+
+pub number_within : (index : List Entry) (number : ℕ) → In number (numbers_in index)
+    → number < length index
+number_within index number i =
+    elim (In-append_cases (number_of (notdef_from 0 index))
+    (map (λ glyph. glyph.0) (others_from 0 index)) number i) [
+      | inl j ↦ omega (arith, notdef_within 0 index number j)
+      | inr j ↦ omega (arith, others_within 0 index number j)
+    ]

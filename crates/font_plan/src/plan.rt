@@ -1,0 +1,272 @@
+//! The plan of a source's jobs.
+
+ghost use Rattle.std.specs.Prelude.{◌≡◌, IsTrue, false};
+ghost use Rattle.std.specs.Arc.{arc_value};
+ghost use Rattle.access_context.specs.Read.{all_done};
+ghost use Rattle.job_graph.specs.Rounds.{IsDue};
+ghost use Rattle.font_graph.specs.Graph.{plan, spec_of, There, value_of};
+ghost use Rattle.font_graph.specs.Same.{same_id};
+ghost use Rattle.font_graph.specs.Due.{lawful, solved_by};
+ghost use Rattle.font_graph.specs.declared.ids.JobId.TheVariants as job;
+ghost use Rattle.font_plan.specs.Jobs.{parts, is_of_outlines};
+ghost use Rattle.font_plan.specs.Settling.{Comes};
+
+use crate::font_reads::{glyphs_in, parts_in, tables_in};
+use crate::items::Item;
+use crate::outcomes::{PlanOutcome, blocked};
+use crate::reads::{
+    PlanReads, flat_in, header_in, index_in, measures_in, order_in, raw_in, tree_in,
+};
+use crate::specs_of::{self, is_of_outlines};
+use crate::{font_jobs, glyph_jobs, source_jobs};
+use access_context::Spec;
+use font_graph::JobId;
+use font_ir::Tag;
+use job_graph::{Plan, Solved};
+use refusal_codes::NoMemory;
+use std::alloc::Global;
+use std::marker::Model;
+use std::sync::Arc;
+
+/// The jobs of a source, whose graph makes its font. A contract sees them as the source's bytes.
+#[derive(Debug, Drop)]
+pub struct FontPlan {
+    source: Arc<Vec<u8>>,
+}
+
+impl Model for FontPlan {
+    ghost use Rattle.std.specs.Prelude.{List, ℕ};
+    ghost use Rattle.std.specs.Arc.{arc_value};
+
+    ghost Value = { List ℕ };
+
+    ghost view = { λ plan. (arc_value plan.source).items };
+}
+
+impl FontPlan {
+    /// The jobs of this source. It takes no memory.
+    pub fn over(source: Arc<Vec<u8>>) -> FontPlan
+        ensures { result ≡ (arc_value source).items }
+    {
+        FontPlan { source }
+    }
+
+    /// The source's bytes. It takes no memory.
+    pub fn source(&self) -> &[u8]
+        ensures { result.now ≡ self.now }
+    {
+        self.source.as_slice()
+    }
+
+    /// Reads the source's property list.
+    fn run_tree(&self, alloc: Global, _reads: &PlanReads) -> Result<PlanOutcome, NoMemory>
+        ensures { Comes result
+            ((plan (parts self.now) same_id).outcome job.Tree _reads.now) }
+    {
+        source_jobs::run_tree(alloc, self.source())
+    }
+
+    /// Reads the source's header.
+    fn run_header(&self, alloc: Global, reads: &PlanReads) -> Result<PlanOutcome, NoMemory>
+        requires due { IsDue same_id (plan (parts self.now) same_id) job.Header reads.now }
+        requires done { IsTrue (all_done reads.now) }
+        ensures { Comes result
+            ((plan (parts self.now) same_id).outcome job.Header reads.now) }
+    {
+        source_jobs::run_header(alloc, tree_in(reads).get())
+    }
+
+    /// Reads the source's index of glyphs.
+    fn run_index(&self, alloc: Global, reads: &PlanReads) -> Result<PlanOutcome, NoMemory>
+        requires due { IsDue same_id (plan (parts self.now) same_id) job.Index reads.now }
+        requires done { IsTrue (all_done reads.now) }
+        ensures { Comes result
+            ((plan (parts self.now) same_id).outcome job.Index reads.now) }
+    {
+        source_jobs::run_index(alloc, tree_in(reads).get())
+    }
+
+    /// Reads the layers of a glyph.
+    fn run_raw(&self, alloc: Global, glyph: u32, reads: &PlanReads) -> Result<PlanOutcome, NoMemory>
+        requires due { IsDue same_id (plan (parts self.now) same_id) (job.Raw glyph) reads.now }
+        requires done { IsTrue (all_done reads.now) }
+        ensures { Comes result
+            ((plan (parts self.now) same_id).outcome (job.Raw glyph) reads.now) }
+    {
+        let tree = tree_in(reads).get();
+        let header = header_in(reads).get();
+        let index = index_in(reads).get();
+        glyph_jobs::run_raw(alloc, tree, header, index, glyph)
+    }
+
+    /// Draws the contours of a glyph.
+    fn run_flat(
+        &self,
+        alloc: Global,
+        glyph: u32,
+        reads: &PlanReads,
+    ) -> Result<PlanOutcome, NoMemory>
+        requires due { IsDue same_id (plan (parts self.now) same_id) (job.Flat glyph) reads.now }
+        requires done { IsTrue (all_done reads.now) }
+        ensures { Comes result
+            ((plan (parts self.now) same_id).outcome (job.Flat glyph) reads.now) }
+    {
+        let raw = raw_in(reads, glyph).get();
+        let index = index_in(reads).get();
+        glyph_jobs::run_flat(alloc, raw, index, glyph)
+    }
+
+    /// Writes the data of a glyph.
+    fn run_simple(
+        &self,
+        alloc: Global,
+        glyph: u32,
+        reads: &PlanReads,
+    ) -> Result<PlanOutcome, NoMemory>
+        requires due { IsDue same_id (plan (parts self.now) same_id) (job.Simple glyph) reads.now }
+        requires done { IsTrue (all_done reads.now) }
+        ensures { Comes result
+            ((plan (parts self.now) same_id).outcome (job.Simple glyph) reads.now) }
+    {
+        let header = header_in(reads).get();
+        let flat = flat_in(reads, glyph).get().get();
+        glyph_jobs::run_simple(alloc, header, flat)
+    }
+
+    /// Orders the font's glyphs.
+    fn run_order(&self, alloc: Global, reads: &PlanReads) -> Result<PlanOutcome, NoMemory>
+        requires due { IsDue same_id (plan (parts self.now) same_id) job.Order reads.now }
+        requires done { IsTrue (all_done reads.now) }
+        ensures { Comes result
+            ((plan (parts self.now) same_id).outcome job.Order reads.now) }
+    {
+        font_jobs::run_order(alloc, index_in(reads).get())
+    }
+
+    /// Measures the font's glyphs.
+    fn run_advances(&self, alloc: Global, reads: &PlanReads) -> Result<PlanOutcome, NoMemory>
+        requires due { IsDue same_id (plan (parts self.now) same_id) job.Advances reads.now }
+        requires done { IsTrue (all_done reads.now) }
+        ensures { Comes result
+            ((plan (parts self.now) same_id).outcome job.Advances reads.now) }
+    {
+        let header = header_in(reads).get();
+        let order = order_in(reads);
+        let glyphs = glyphs_in(alloc, header, order, reads)?;
+        font_jobs::run_advances(alloc, header, order, glyphs.as_slice())
+    }
+
+    /// Writes a table.
+    fn run_table(&self, alloc: Global, tag: Tag, reads: &PlanReads) -> Result<PlanOutcome, NoMemory>
+        requires due { IsDue same_id (plan (parts self.now) same_id) (job.Table tag) reads.now }
+        requires done { IsTrue (all_done reads.now) }
+        ensures { Comes result
+            ((plan (parts self.now) same_id).outcome (job.Table tag) reads.now) }
+    {
+        if is_of_outlines(tag) {
+            self.run_outlines(alloc, tag, reads)
+        } else {
+            self.run_metrics(alloc, tag, reads)
+        }
+    }
+
+    /// Writes a table that is made of the glyphs' data.
+    fn run_outlines(
+        &self,
+        alloc: Global,
+        tag: Tag,
+        reads: &PlanReads,
+    ) -> Result<PlanOutcome, NoMemory>
+        requires outlines { IsTrue (is_of_outlines tag) }
+        requires due { IsDue same_id (plan (parts self.now) same_id) (job.Table tag) reads.now }
+        requires done { IsTrue (all_done reads.now) }
+        ensures { Comes result
+            ((plan (parts self.now) same_id).outcome (job.Table tag) reads.now) }
+    {
+        let header = header_in(reads).get();
+        let order = order_in(reads);
+        let parts = parts_in(alloc, header, order, reads)?;
+        font_jobs::run_outlines(alloc, tag, parts.as_slice())
+    }
+
+    /// Writes a table of metrics.
+    fn run_metrics(
+        &self,
+        alloc: Global,
+        tag: Tag,
+        reads: &PlanReads,
+    ) -> Result<PlanOutcome, NoMemory>
+        requires metrics { is_of_outlines tag ≡ false }
+        requires due { IsDue same_id (plan (parts self.now) same_id) (job.Table tag) reads.now }
+        requires done { IsTrue (all_done reads.now) }
+        ensures { Comes result
+            ((plan (parts self.now) same_id).outcome (job.Table tag) reads.now) }
+    {
+        let header = header_in(reads).get();
+        let measures = measures_in(reads).get();
+        font_jobs::run_metrics(alloc, tag, header, measures)
+    }
+
+    /// Puts the tables together.
+    fn run_font(&self, alloc: Global, reads: &PlanReads) -> Result<PlanOutcome, NoMemory>
+        requires due { IsDue same_id (plan (parts self.now) same_id) job.Font reads.now }
+        requires done { IsTrue (all_done reads.now) }
+        ensures { Comes result
+            ((plan (parts self.now) same_id).outcome job.Font reads.now) }
+    {
+        let tables = tables_in(alloc, reads)?;
+        font_jobs::run_font(alloc, tables.as_slice())
+    }
+}
+
+impl Plan for FontPlan {
+    type Id = JobId;
+
+    type Value = Item;
+
+    ghost meaning = { λ source. plan (parts source) same_id };
+
+    fn opening(&self, alloc: Global) -> Result<Vec<Spec<JobId>>, NoMemory> {
+        specs_of::opening(alloc)
+    }
+
+    fn stratum(&self, id: &JobId) -> u8 {
+        id.kind().stratum
+    }
+
+    fn run(&self, alloc: Global, id: &JobId, reads: &PlanReads) -> Result<PlanOutcome, NoMemory> {
+        match *id {
+            JobId::Tree => self.run_tree(alloc, reads),
+            JobId::Header => self.run_header(alloc, reads),
+            JobId::Index => self.run_index(alloc, reads),
+            JobId::Raw(glyph) => self.run_raw(alloc, glyph, reads),
+            JobId::Flat(glyph) => self.run_flat(alloc, glyph, reads),
+            JobId::Simple(glyph) => self.run_simple(alloc, glyph, reads),
+            JobId::Order => self.run_order(alloc, reads),
+            JobId::Advances => self.run_advances(alloc, reads),
+            JobId::Table(tag) => self.run_table(alloc, tag, reads),
+            JobId::Font => self.run_font(alloc, reads),
+            // No job adds these yet.
+            JobId::Composite(_)
+            | JobId::Variations(_)
+            | JobId::FeatureParse
+            | JobId::Kern
+            | JobId::Marks
+            | JobId::Rules
+            | JobId::Lookup(_)
+            | JobId::Store => Ok(blocked(alloc)),
+        }
+    }
+
+    ghost lawful = { λ source. lawful (parts source) };
+}
+
+impl Solved for FontPlan {
+    ghost spec_of = { λ source. spec_of (parts source) same_id };
+
+    ghost is_there = { λ source. There (parts source) same_id };
+
+    ghost value_of = { λ source. value_of (parts source) same_id };
+
+    ghost solution = { λ source. solved_by (parts source) };
+}

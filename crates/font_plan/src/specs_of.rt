@@ -1,0 +1,203 @@
+//! The jobs of a source: what each reads, and which each adds.
+
+ghost use Rattle.std.specs.Prelude.{◌≡◌, ◌++◌, [], map, OnOk, IfOk};
+ghost use Rattle.font_graph.specs.Kinds.{awaited_by};
+ghost use Rattle.font_graph.specs.Graph.{spec_with, after_index, after_order, plan};
+ghost use Rattle.font_graph.specs.Same.{same_id};
+ghost use Rattle.font_graph.specs.declared.ids.JobId.TheVariants as job;
+ghost use Rattle.font_plan.specs.Jobs.{parts, is_of_outlines, table_tags};
+
+use access_context::{Access, Spec};
+use font_graph::JobId;
+use font_ir::Tag;
+use plain_lists::Sequence;
+use refusal_codes::NoMemory;
+use std::alloc::Global;
+
+/// The tags of the tables, in the order in which they stand in a font (OpenType 1.9).
+pub const TABLE_TAGS: [Tag; 6] = [
+    Tag(*b"glyf"),
+    Tag(*b"head"),
+    Tag(*b"hhea"),
+    Tag(*b"hmtx"),
+    Tag(*b"loca"),
+    Tag(*b"maxp"),
+];
+
+/// Whether a table is made of the glyphs' data.
+pub fn is_of_outlines(tag: Tag) -> bool
+    ensures { result ≡ is_of_outlines tag }
+{
+    tag.0 == *b"glyf" || tag.0 == *b"loca"
+}
+
+/// The job with this id, where it reads these items.
+fn spec(id: JobId, reads: Vec<JobId>) -> Spec<JobId>
+    ensures { result
+        ≡ record { id = id; access = record { reads = reads.items; awaits = awaited_by id } } }
+{
+    Spec {
+        id,
+        access: Access {
+            reads: Sequence::from_vec(reads),
+            awaits: id.awaits(),
+        },
+    }
+}
+
+/// The same of few items.
+fn small(alloc: Global, id: JobId, reads: &[JobId]) -> Result<Spec<JobId>, NoMemory>
+    ensures { IfOk result (λ s. s
+        ≡ record { id = id; access = record { reads = reads.now; awaits = awaited_by id } }) }
+{
+    Ok(spec(id, Vec::from_slice(alloc, reads)?))
+}
+
+/// Adds the flat glyphs with these numbers.
+fn push_flats(reads: &mut Vec<JobId>, glyphs: &[u32]) -> Result<(), NoMemory>
+    ensures { OnOk result (reads.new.items ≡ reads.old.items ++ map job.Flat glyphs.now) }
+{
+    for glyph in glyphs {
+        reads.push(JobId::Flat(*glyph))?;
+    }
+    Ok(())
+}
+
+/// Adds the data of the glyphs with these numbers.
+fn push_data(reads: &mut Vec<JobId>, glyphs: &[u32]) -> Result<(), NoMemory>
+    ensures { OnOk result (reads.new.items ≡ reads.old.items ++ map job.Simple glyphs.now) }
+{
+    for glyph in glyphs {
+        reads.push(JobId::Simple(*glyph))?;
+    }
+    Ok(())
+}
+
+/// The job of the font's order.
+fn order(alloc: Global, glyphs: &[u32]) -> Result<Spec<JobId>, NoMemory>
+    ensures { IfOk result (λ s. s ≡ spec_with (parts []) same_id glyphs.now job.Order) }
+{
+    let mut reads = Vec::from_slice(alloc, &[JobId::Header, JobId::Index])?;
+    push_flats(&mut reads, glyphs)?;
+    Ok(spec(JobId::Order, reads))
+}
+
+/// The job that measures the glyphs.
+fn advances(alloc: Global, glyphs: &[u32]) -> Result<Spec<JobId>, NoMemory>
+    ensures { IfOk result (λ s. s ≡ spec_with (parts []) same_id glyphs.now job.Advances) }
+{
+    let mut reads = Vec::from_slice(alloc, &[JobId::Header, JobId::Index, JobId::Order])?;
+    push_flats(&mut reads, glyphs)?;
+    Ok(spec(JobId::Advances, reads))
+}
+
+/// The job of a table.
+fn table(alloc: Global, glyphs: &[u32], tag: Tag) -> Result<Spec<JobId>, NoMemory>
+    ensures { IfOk result (λ s. s ≡ spec_with (parts []) same_id glyphs.now (job.Table tag)) }
+{
+    let mut reads = Vec::from_slice(alloc, &[JobId::Header, JobId::Index, JobId::Order])?;
+    if is_of_outlines(tag) {
+        push_data(&mut reads, glyphs)?;
+    } else {
+        reads.push(JobId::Advances)?;
+    }
+    Ok(spec(JobId::Table(tag), reads))
+}
+
+/// The job of the font.
+fn font(alloc: Global) -> Result<Spec<JobId>, NoMemory>
+    ensures { IfOk result (λ s. s ≡ spec_with (parts []) same_id [] job.Font) }
+{
+    let mut reads = Vec::with_capacity(alloc, TABLE_TAGS.len())?;
+    for tag in TABLE_TAGS {
+        reads.push(JobId::Table(tag))?;
+    }
+    Ok(spec(JobId::Font, reads))
+}
+
+/// The job that reads a glyph.
+pub fn raw(alloc: Global, glyph: u32) -> Result<Spec<JobId>, NoMemory>
+    ensures { IfOk result (λ s. s ≡ spec_with (parts []) same_id [] (job.Raw glyph)) }
+{
+    small(
+        alloc,
+        JobId::Raw(glyph),
+        &[JobId::Tree, JobId::Header, JobId::Index],
+    )
+}
+
+/// The job that draws a glyph.
+pub fn flat(alloc: Global, glyph: u32) -> Result<Spec<JobId>, NoMemory>
+    ensures { IfOk result (λ s. s ≡ spec_with (parts []) same_id [] (job.Flat glyph)) }
+{
+    small(
+        alloc,
+        JobId::Flat(glyph),
+        &[JobId::Raw(glyph), JobId::Index],
+    )
+}
+
+/// The job that writes a simple glyph's data.
+pub fn simple(alloc: Global, glyph: u32) -> Result<Spec<JobId>, NoMemory>
+    ensures { IfOk result (λ s. s ≡ spec_with (parts []) same_id [] (job.Simple glyph)) }
+{
+    small(
+        alloc,
+        JobId::Simple(glyph),
+        &[JobId::Header, JobId::Flat(glyph)],
+    )
+}
+
+/// The jobs that are there from the start.
+pub fn opening(alloc: Global) -> Result<Vec<Spec<JobId>>, NoMemory>
+    ensures { IfOk result (λ jobs. jobs.items ≡ (plan (parts []) same_id).opening) }
+{
+    let mut jobs = Vec::with_capacity(alloc, 3)?;
+    jobs.push(small(alloc, JobId::Tree, &[])?)?;
+    jobs.push(small(alloc, JobId::Header, &[JobId::Tree])?)?;
+    jobs.push(small(alloc, JobId::Index, &[JobId::Tree])?)?;
+    Ok(jobs)
+}
+
+/// The jobs that the index adds: those that read the exported glyphs, and the order's.
+pub fn after_index(alloc: Global, glyphs: &[u32]) -> Result<Vec<Spec<JobId>>, NoMemory>
+    ensures { IfOk result (λ jobs. jobs.items ≡ after_index (parts []) same_id glyphs.now) }
+{
+    let mut jobs = Vec::new(alloc);
+    push_raws(alloc, &mut jobs, glyphs)?;
+    jobs.push(order(alloc, glyphs)?)?;
+    Ok(jobs)
+}
+
+/// Adds the jobs that read these glyphs.
+fn push_raws(alloc: Global, jobs: &mut Vec<Spec<JobId>>, glyphs: &[u32]) -> Result<(), NoMemory>
+    ensures { OnOk result (jobs.new.items ≡ jobs.old.items
+        ++ map (λ glyph. spec_with (parts []) same_id [] (job.Raw glyph)) glyphs.now) }
+{
+    for glyph in glyphs {
+        jobs.push(raw(alloc, *glyph)?)?;
+    }
+    Ok(())
+}
+
+/// The jobs that the order adds: what measures the glyphs, the font, and its tables.
+pub fn after_order(alloc: Global, glyphs: &[u32]) -> Result<Vec<Spec<JobId>>, NoMemory>
+    ensures { IfOk result (λ jobs. jobs.items ≡ after_order (parts []) same_id glyphs.now) }
+{
+    let mut jobs = Vec::new(alloc);
+    jobs.push(advances(alloc, glyphs)?)?;
+    jobs.push(font(alloc)?)?;
+    push_tables(alloc, &mut jobs, glyphs)?;
+    Ok(jobs)
+}
+
+/// Adds the jobs of the tables.
+fn push_tables(alloc: Global, jobs: &mut Vec<Spec<JobId>>, glyphs: &[u32]) -> Result<(), NoMemory>
+    ensures { OnOk result (jobs.new.items ≡ jobs.old.items
+        ++ map (λ tag. spec_with (parts []) same_id glyphs.now (job.Table tag)) table_tags) }
+{
+    for tag in TABLE_TAGS {
+        jobs.push(table(alloc, glyphs, tag)?)?;
+    }
+    Ok(())
+}
