@@ -1,0 +1,13 @@
+//! Fonts that are read back from their bytes, whatever the bytes are: the tables and the forms that
+//! this compiler writes, and of a glyph's outlines and deltas all forms of OpenType 1.9.
+//!
+//! Each call answers a value or the first fault on the way to it, by its kind and its place. No
+//! call takes memory.
+#![tactic(auto)]
+
+mod directory;
+mod faults;
+mod fields;
+
+pub use directory::FontView;
+pub use faults::{FaultKind, FontFault};
