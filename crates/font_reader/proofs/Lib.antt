@@ -1,2 +1,3 @@
-pub mod SearchLaws
-pub mod Triangle
+pub mod Fonts
+pub mod Rows
+pub mod Turns

@@ -1,5 +1,5 @@
--- The directory of a font (OpenType 1.9, "OpenType Font File", "Table Directory"): after 12 bytes an
--- entry of 16 bytes for each table. And what of it is at fault.
+-- The directory of a font (OpenType 1.9, "OpenType Font File", "Table Directory"): after 12 bytes
+-- an entry of 16 bytes for each table. And what of it is at fault.
 use Rattle.std.specs.Prelude.{◌≡◌, ℕ, ◌+◌, ◌-◌, ◌*◌, ◌/◌, Bool, ◌&&◌, List, length, min, nat_le}
 use Rattle.std.specs.Prelude.{nat_eq, nat_lt, if◌then◌else◌, Option, Some, None, Result, Ok, Err}
 use Rattle.std.specs.Prelude.{position, is_none, [], ◌∷◌}
@@ -36,8 +36,8 @@ entry_table bytes i = record {
 abbrev pub is_within : List ℕ → Table → Bool
 is_within bytes table = nat_le (table.offset + table.length) (length bytes)
 
--- ---- the table of a tag: that of the first entry which has the tag, and whose table lies within the
--- file
+-- ---- the table of a tag: that of the first entry which has the tag, and whose table lies within
+-- the file
 
 unfoldable pub table_in_entry : List ℕ → ℕ → ℕ → Option Table
 table_in_entry bytes tag i = if nat_eq (entry_tag bytes i) tag

@@ -2,7 +2,7 @@
 -- `bytes` are those of the whole file, and a place in it counts from 0.
 use Rattle.std.specs.Prelude.{ℕ, ℤ, ◌+◌, ◌*◌, ◌≤◌, List, length, Result, Ok, Err, slice_index_or}
 use Rattle.std.specs.Prelude.{nat_le, if◌then◌else◌}
-use Rattle.std.specs.Int.{w16, cast_signed}
+use Rattle.std.specs.Int.{w8, w16, cast_signed}
 use Rattle.font_reader.specs.declared.faults.FontFault.{FontFault}
 use Rattle.font_reader.specs.declared.faults.FaultKind.{FaultKind}
 use Rattle.font_reader.specs.declared.faults.FaultKind.TheVariants.{OutOfTable}
@@ -46,6 +46,10 @@ read width value bytes table at =
 
 unfoldable pub read_byte : List ℕ → Table → ℕ → Result ℕ FontFault
 read_byte bytes table at = read 1 byte_at bytes table at
+
+-- a byte with a sign
+unfoldable pub read_i8 : List ℕ → Table → ℕ → Result ℤ FontFault
+read_i8 bytes table at = read 1 (λ all place. cast_signed w8 (byte_at all place)) bytes table at
 
 unfoldable pub read_u16 : List ℕ → Table → ℕ → Result ℕ FontFault
 read_u16 bytes table at = read 2 u16_at bytes table at

@@ -1,3 +1,9 @@
+pub mod Advances
+pub mod Cmap
 pub mod Directory
 pub mod Fields
+pub mod Fold
+pub mod Names
 pub mod Search
+pub mod Stores
+pub mod Versions

@@ -23,6 +23,14 @@ pub const LOCA: u32 = 0x6c6f_6361;
 
 pub const GLYF: u32 = 0x676c_7966;
 
+pub const FVAR: u32 = 0x6676_6172;
+
+pub const CMAP: u32 = 0x636d_6170;
+
+pub const POST: u32 = 0x706f_7374;
+
+pub const HVAR: u32 = 0x4856_4152;
+
 /// A font that is read: the bytes of its file.
 ///
 /// Its directory and all of its tables lie within the file, and it has `head`, `maxp`, `hhea`,
@@ -161,7 +169,7 @@ fn cut_table(bytes: &[u8], i: usize) -> Option<FontFault>
 }
 
 /// The fault of the first table that isn't within the file.
-#[tactic(auto, using(crate::proofs::SearchLaws::some_turn, crate::proofs::SearchLaws::some_hit, crate::proofs::SearchLaws::some_none))]
+#[tactic(auto, using(crate::proofs::Turns::some))]
 fn first_cut_table(bytes: &[u8], count: usize) -> Option<FontFault>
     requires { 16 * count ≤ length bytes.now - 12 }
     ensures { result ≡ first_some (cut_table bytes.now) 0 count }
@@ -191,7 +199,7 @@ fn table_in_entry(bytes: &[u8], tag: u32, i: usize) -> Option<Table>
 
 /// The table of a tag: that of the first entry which has the tag and whose table lies within the
 /// file.
-#[tactic(auto, using(crate::proofs::SearchLaws::some_turn, crate::proofs::SearchLaws::some_hit, crate::proofs::SearchLaws::some_none), unfolding(crate::specs::Directory::table_of))]
+#[tactic(auto, using(crate::proofs::Turns::some), unfolding(crate::specs::Directory::table_of))]
 pub fn table_of(bytes: &[u8], tag: u32) -> Option<Table>
     ensures value { result ≡ table_of bytes.now tag }
     ensures within { IfSome result (IsWithin bytes.now) }

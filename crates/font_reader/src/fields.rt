@@ -1,6 +1,6 @@
 ghost use Rattle.std.specs.Prelude.{◌≡◌, ◌+◌, ◌^◌, ◌<◌, ◌≤◌, length};
 ghost use Rattle.font_reader.specs.Fields.{IsWithin, u16_at, u32_at};
-ghost use Rattle.font_reader.specs.Fields.{read_byte, read_i16, read_u16, read_u32};
+ghost use Rattle.font_reader.specs.Fields.{read_byte, read_i16, read_i8, read_u16, read_u32};
 
 use crate::faults::{FaultKind, FontFault};
 
@@ -94,6 +94,21 @@ pub fn read_u32(bytes: &[u8], table: Table, at: usize) -> Result<u32, FontFault>
     let place = table.offset as usize + at;
     if at + 4 <= table.length as usize {
         Ok(u32_at(bytes, place))
+    } else {
+        Err(out_of_table(place))
+    }
+}
+
+/// The byte with a sign at a place of a table.
+#[tactic(auto, unfolding(crate::specs::Fields::read_i8))]
+pub fn read_i8(bytes: &[u8], table: Table, at: usize) -> Result<i8, FontFault>
+    requires within { IsWithin bytes.now table }
+    requires near { at < 2 ^ 56 }
+    ensures { result ≡ read_i8 bytes.now table at }
+{
+    let place = table.offset as usize + at;
+    if at < table.length as usize {
+        Ok(bytes[place].cast_signed())
     } else {
         Err(out_of_table(place))
     }

@@ -5,9 +5,14 @@
 //! call takes memory.
 #![tactic(auto)]
 
+mod advances;
+mod cmap;
 mod directory;
 mod faults;
 mod fields;
+mod names;
+mod stores;
+mod versions;
 
 pub use directory::FontView;
 pub use faults::{FaultKind, FontFault};

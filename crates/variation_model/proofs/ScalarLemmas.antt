@@ -117,3 +117,9 @@ scalar_more sides place i before on now total h k f e g =
       sym (step_both (scalar_from before) sides place i zero_side zero_number h k)
           ∙ f.1,
     )
+
+-- a scalar times that of one more axis
+pub with_axis : (before on : ℤ) (side : F2Dot14 × F2Dot14 × F2Dot14) (v : F2Dot14)
+    → IsScalar before → on ≡ axis_scalar side v → IsScalar (product before on)
+with_axis before on side v f e = rw e
+    (product_IsScalar before (axis_scalar side v) f (axis_scalar-IsScalar side v))

@@ -12,4 +12,4 @@ mod supports;
 pub use errors::DeltaError;
 pub use font_ir::Region;
 pub use model::Model;
-pub use scalars::scalar;
+pub use scalars::{scalar, scalar_with_axis};

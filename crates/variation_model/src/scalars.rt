@@ -1,4 +1,5 @@
 ghost use Rattle.std.specs.Prelude.{◌≡◌, ◌-ℤ◌, ◌≤ℤ◌, pos, length};
+ghost use Rattle.fixed_math.specs.FixedPoint.{product};
 ghost use Rattle.variation_model.specs.Scalar.{axis_scalar, scalar_of};
 
 use fixed_math::{F2Dot14, Fixed, mul, ratio};
@@ -21,7 +22,19 @@ pub fn scalar(region: &Region, at: &[F2Dot14]) -> Fixed
     product
 }
 
-/// The same on one axis, with its start, peak and end.
+/// The scalar of a region so far, times that of one more axis with its start, peak and end. So it
+/// is found where a region's numbers are read one by one.
+pub fn scalar_with_axis(before: Fixed, side: (F2Dot14, F2Dot14, F2Dot14), v: F2Dot14) -> Fixed
+    requires low { pos 0 ≤ℤ before.0 }
+    requires high { before.0 ≤ℤ pos 65536 }
+    ensures value { result.0 ≡ product before.0 (axis_scalar side v) }
+    ensures low { pos 0 ≤ℤ result.0 }
+    ensures high { result.0 ≤ℤ pos 65536 }
+{
+    mul(before, axis_scalar(side, v))
+}
+
+/// The scalar on one axis, with its start, peak and end.
 fn axis_scalar(side: (F2Dot14, F2Dot14, F2Dot14), v: F2Dot14) -> Fixed
     ensures { result.0 ≡ axis_scalar side v }
 {

@@ -1,7 +1,8 @@
--- One turn of a search: what the rest of it finds is what all of it finds.
-use Rattle.std.proofs.Common.{◌≡◌, ℕ, zero, suc, ◌+◌, ◌-◌, ◌<◌, ◌≤◌, Option, Some, None, Result, Ok}
-use Rattle.std.proofs.Common.{Err, refl, sym, ap, ◌∙◌, subst, arith}
+-- One turn of a search and of a fold: what the rest of it gives is what all of it gives.
+use Rattle.std.proofs.Common.{◌≡◌, ℕ, suc, ◌+◌, ◌-◌, ◌<◌, ◌≤◌, Option, Some, None, Result, Ok}
+use Rattle.std.proofs.Common.{Err, arith}
 use Rattle.font_reader.specs.declared.faults.FontFault.{FontFault}
+use Rattle.font_reader.specs.Fold.{folded}
 use Rattle.font_reader.specs.Search.{first_some, first_found}
 
 some_next : {X : Type 0} (f : ℕ → Option X) (i left : ℕ) (all : Option X) → f i ≡ None
@@ -71,3 +72,38 @@ pub found_none : {X : Type 0} (f : ℕ → Result (Option X) FontFault) (i end :
 found_none f i end all le h =
     let none : end - i ≡ 0 = omega arith in
     rw none at h
+
+pub ruleset some = (some_turn, some_hit, some_none)
+
+pub ruleset found = (found_turn, found_hit, fault_hit, found_none)
+
+fold_next : {S : Type 0} (f : ℕ → S → Result S FontFault) (i left : ℕ) (s t : S)
+    (all : Result S FontFault) → f i s ≡ Ok t → folded f i (suc left) s ≡ all
+    → folded f (i + 1) left t ≡ all
+fold_next f i left s t all e h = rw (folded, e) at h
+
+pub fold_turn : {S : Type 0} (f : ℕ → S → Result S FontFault) (i end : ℕ) (s t : S)
+    (all : Result S FontFault) → i < end → f i s ≡ Ok t → folded f i (end - i) s ≡ all
+    → folded f (i + 1) (end - (i + 1)) t ≡ all
+fold_turn f i end s t all lt e h =
+    let more : end - i ≡ suc (end - (i + 1)) = omega arith in
+    fold_next f i (end - (i + 1)) s t all e (rw more at h)
+
+fold_here : {S : Type 0} (f : ℕ → S → Result S FontFault) (i left : ℕ) (s : S) (x : FontFault)
+    (all : Result S FontFault) → f i s ≡ Err x → folded f i (suc left) s ≡ all → Err x ≡ all
+fold_here f i left s x all e h = rw (folded, e) at h
+
+pub fold_hit : {S : Type 0} (f : ℕ → S → Result S FontFault) (i end : ℕ) (s : S) (x : FontFault)
+    (all : Result S FontFault) → i < end → f i s ≡ Err x → folded f i (end - i) s ≡ all
+    → Err x ≡ all
+fold_hit f i end s x all lt e h =
+    let more : end - i ≡ suc (end - (i + 1)) = omega arith in
+    fold_here f i (end - (i + 1)) s x all e (rw more at h)
+
+pub fold_end : {S : Type 0} (f : ℕ → S → Result S FontFault) (i end : ℕ) (s : S)
+    (all : Result S FontFault) → end ≤ i → folded f i (end - i) s ≡ all → Ok s ≡ all
+fold_end f i end s all le h =
+    let none : end - i ≡ 0 = omega arith in
+    rw none at h
+
+pub ruleset fold = (fold_turn, fold_hit, fold_end)
