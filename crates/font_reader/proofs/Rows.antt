@@ -19,7 +19,12 @@ use Rattle.font_reader.specs.Stores.{region_side, with_axis, region_scalar, row_
 use Rattle.font_reader.specs.Stores.{with_region, known_regions, row_sum, row_value, store_value}
 use Rattle.font_reader.specs.Versions.{expect_u16, expect_u32, required, glyph_count, glyph_among}
 use Rattle.font_reader.specs.Versions.{axes_in, axis_count, axes_for}
-use Rattle.font_reader.proofs.Fonts.{triangle, varying_triangle}
+use Rattle.font_reader.specs.Metrics.{metric_field, metric_tag, stored_metric, value_in_record}
+use Rattle.font_reader.specs.Metrics.{metric_delta_in, metric_delta, metric_at}
+use Rattle.font_reader.specs.Shapes.{glyph_data, points_to, simple_points, last_component}
+use Rattle.font_reader.specs.Shapes.{component_count, simple_shape, composite_shape, shape_at}
+use Rattle.font_reader.specs.Shapes.{shape_in, shape_of, own_points, room_for}
+use Rattle.font_reader.proofs.Fonts.{triangle, varying_triangle, composite, x_heights}
 
 abbrev weight : ℤ → List F2Dot14
 weight number = record { 0 = number } ∷ []
@@ -40,6 +45,10 @@ pub record Rows : Type 0 where
       (weight (pos 0) ∷ weight (pos 4096) ∷ weight (pos 8192) ∷ weight (pos 16384) ∷ [] ∷ [])
       ≡ Ok (pos 32768000) ∷ Ok (pos 33095680) ∷ Ok (pos 33423360) ∷ Ok (pos 34078720)
       ∷ Err (fault CoordCount 1) ∷ []
+  pub rooms : map (room_for triangle) (0 ∷ 1 ∷ 2 ∷ []) ≡ Ok 4 ∷ Ok 7 ∷ Err (fault NoPoint 2) ∷ []
+  pub components : map (room_for composite) (1 ∷ 2 ∷ []) ≡ Ok 7 ∷ Ok 5 ∷ []
+  pub x_height : metric_delta_in x_heights (record { offset = 0; length = 52 }) 2020108148
+      (weight (pos 16384)) ≡ Ok (pos 655360)
 
 pub rows : Rows
 unfolding metric_count stored_advance advance_delta_in advance_delta advance_at subtable_in
@@ -49,10 +58,16 @@ unfolding metric_count stored_advance advance_delta_in advance_delta advance_at 
     after_name name_span name_after name_in name_place region_side with_axis region_scalar
     row_delta row_region with_region known_regions row_sum row_value store_value expect_u16
     expect_u32 required glyph_count glyph_among axes_in axis_count axes_for
+    metric_field metric_tag stored_metric value_in_record metric_delta_in metric_delta metric_at
+    glyph_data points_to simple_points last_component component_count simple_shape
+    composite_shape shape_at shape_in shape_of own_points room_for
 rows = record {
   whole = refl;
   prefixes = refl;
   codes_read = refl;
   names_read = refl;
   advances_read = refl;
+  rooms = refl;
+  components = refl;
+  x_height = refl;
 }

@@ -3,7 +3,9 @@ pub mod Cmap
 pub mod Directory
 pub mod Fields
 pub mod Fold
+pub mod Metrics
 pub mod Names
 pub mod Search
+pub mod Shapes
 pub mod Stores
 pub mod Versions

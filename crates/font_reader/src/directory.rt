@@ -31,6 +31,12 @@ pub const POST: u32 = 0x706f_7374;
 
 pub const HVAR: u32 = 0x4856_4152;
 
+pub const MVAR: u32 = 0x4d56_4152;
+
+pub const OS2: u32 = 0x4f53_2f32;
+
+pub const GVAR: u32 = 0x6776_6172;
+
 /// A font that is read: the bytes of its file.
 ///
 /// Its directory and all of its tables lie within the file, and it has `head`, `maxp`, `hhea`,

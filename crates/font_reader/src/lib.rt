@@ -10,9 +10,12 @@ mod cmap;
 mod directory;
 mod faults;
 mod fields;
+mod metrics;
 mod names;
+mod shapes;
 mod stores;
 mod versions;
 
 pub use directory::FontView;
 pub use faults::{FaultKind, FontFault};
+pub use metrics::Metric;
