@@ -1,7 +1,6 @@
 -- Stores worked by hand.
 use Rattle.std.proofs.Common.{◌≡◌, ℕ, List, [], ◌∷◌, refl}
 use Rattle.std.specs.Prelude.{ℤ, pos, negsuc}
-use Rattle.fixed_math.specs.declared.F2Dot14.{F2Dot14}
 use Rattle.font_ir.specs.declared.variation.Region.{Region}
 use Rattle.table_tree.specs.Layouts.{layout_of, bytes_of}
 use Rattle.region_store.specs.Stores.{store_tree}

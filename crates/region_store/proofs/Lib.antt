@@ -1,3 +1,4 @@
 mod ListLemmas
 mod RowLemmas
 mod Examples
+pub mod OffsetLemmas

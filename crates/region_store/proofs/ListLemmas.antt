@@ -1,7 +1,7 @@
 -- Lists and the images of their elements: the first place that passes a test, and what is told of
 -- all.
 use Rattle.std.proofs.Common.{◌≡◌, ℕ, zero, suc, ◌+◌, Bool, true, false, cond, not, ◌||◌, List, []}
-use Rattle.std.proofs.Common.{◌∷◌, ◌++◌, length, map, is_some, get_or, Option, Some, None, ltb}
+use Rattle.std.proofs.Common.{◌∷◌, ◌++◌, length, map, is_some, Option, Some, None, ltb}
 use Rattle.std.proofs.Common.{refl, ap, sym, ◌∙◌, arith}
 use Rattle.std.specs.Prelude.{slice_get}
 use Rattle.std.specs.List.{position, position_or_len, prefix_len, list_any, flat_map}

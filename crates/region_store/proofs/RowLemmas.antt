@@ -1,8 +1,8 @@
 -- What a row's place among others says of adding it.
-use Rattle.std.proofs.Common.{◌≡◌, ℕ, ◌<◌, Bool, true, false, List, [], ◌∷◌, ◌++◌, length, map}
-use Rattle.std.proofs.Common.{is_some, get_or, Option, Some, None, refl, ap, sym, ◌∙◌, subst}
+use Rattle.std.proofs.Common.{◌≡◌, ℕ, ◌<◌, Bool, false, List, [], ◌∷◌, ◌++◌, length}
+use Rattle.std.proofs.Common.{is_some, get_or, Option, Some, None, ap, sym, ◌∙◌, subst}
 use Rattle.std.proofs.Common.{length-append, arith}
-use Rattle.std.specs.Prelude.{ℤ, Vec, Ok, Err, slice_get, if◌then◌else◌, nat_eq}
+use Rattle.std.specs.Prelude.{ℤ, Vec, Ok, slice_get, if◌then◌else◌, nat_eq}
 use Rattle.std.specs.declared.alloc.Global.{Global}
 use Rattle.std.specs.List.{All, IsDistinct, position, list_any, flat_map}
 use Rattle.std.specs.Option.{unwrap_or}

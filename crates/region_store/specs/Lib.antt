@@ -1,4 +1,5 @@
 pub mod Stores
+pub mod Written
 pub mod Builders
 -- what serves the code alone
 pub mod Views

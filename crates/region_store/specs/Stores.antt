@@ -3,8 +3,6 @@
 -- delta for each region and all deltas are words.
 use Rattle.std.specs.Prelude.{◌≡◌, ◌≤◌, ℕ, ℤ, List, ◌++◌, length, nat_eq, if◌then◌else◌}
 use Rattle.std.specs.List.{All, flat_map, range_with_len}
-use Rattle.std.specs.Coded.{Coded, code_by, coded×, coded_ℕ, coded_ℤ, coded_list}
-use Rattle.std.proofs.Common.{refl}
 use Rattle.fixed_math.specs.declared.F2Dot14.{F2Dot14}
 use Rattle.font_ir.specs.declared.variation.Region.{Region}
 use Rattle.table_bytes.specs.DataTypes.{uint16, int16}

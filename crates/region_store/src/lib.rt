@@ -9,4 +9,4 @@ mod stores;
 pub use builder::StoreBuilder;
 pub use errors::StoreError;
 pub use font_ir::Region;
-pub use stores::plain_store;
+pub use stores::{plain_store, store_bytes};

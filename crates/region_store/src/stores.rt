@@ -5,6 +5,8 @@ ghost use Rattle.table_tree.specs.Trees.{end, bytes, number, near, two, four};
 ghost use Rattle.region_store.specs.Stores.{IsStore, region_axis_coordinates, variation_region};
 ghost use Rattle.region_store.specs.Stores.{variation_region_list, item_variation_data_head};
 ghost use Rattle.region_store.specs.Stores.{item_variation_data, delta_set, store_tree};
+ghost use Rattle.region_store.specs.Written.{store_bytes};
+ghost use Rattle.refusal_codes.specs.declared.limits.TheConstants.{AXES};
 
 use fixed_math::F2Dot14;
 use font_ir::Region;
@@ -12,7 +14,7 @@ use plain_lists::Sequence;
 use refusal_codes::NoMemory;
 use std::alloc::Global;
 use table_bytes::{push_int16, push_uint16};
-use table_tree::{Field, Node};
+use table_tree::{Field, LayoutError, Node, layout};
 
 /// The format of an item variation store.
 const FORMAT: u16 = 1;
@@ -157,4 +159,25 @@ fn bytes_node(alloc: Global, content: Vec<u8>) -> Result<Node, NoMemory>
     let mut fields = Vec::with_capacity(alloc, 1)?;
     fields.push(Field::Bytes(Sequence::from_vec(content)))?;
     Ok(Node::new(fields))
+}
+
+/// The bytes of the store of these rows in their order, equal ones each by itself, over these
+/// regions of a font with at most eight axes. Memory can run out.
+pub fn store_bytes(
+    alloc: Global,
+    axes: u16,
+    regions: &[Region],
+    rows: &[Sequence<i16>],
+) -> Result<Vec<u8>, NoMemory>
+    requires few_axes { axes ≤ AXES }
+    requires store { IsStore (record { axes = axes; regions = regions.now; rows = rows.now }) }
+    ensures { IfOk result (λ bytes. bytes.items ≡ store_bytes
+        (record { axes = axes; regions = regions.now; rows = rows.now })) }
+{
+    let store = plain_store(alloc, axes, regions, rows)?;
+    match layout(alloc, &store) {
+        Ok(bytes) => Ok(bytes),
+        Err(LayoutError::Offset(_)) => unreachable!(),
+        Err(LayoutError::NoMemory) => Err(NoMemory),
+    }
 }

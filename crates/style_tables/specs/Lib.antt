@@ -1,0 +1,4 @@
+pub mod AxisValues
+pub mod Stat
+pub mod Metrics
+pub mod Mvar
