@@ -1,0 +1,13 @@
+-- the tokens so far, with those of the rest, are the text's
+use Rattle.std.proofs.Common.{length, drop, ◌-◌, ◌≡◌, ◌≤◌, ◌++◌}
+use Rattle.feature_parser.specs.Tokens.{tokens_in}
+use Rattle.feature_parser.proofs.tokens.tokenize.Given as goal
+
+abbrev pub invariant-loop-place : goal.invariant-loop-place
+invariant-loop-place l = record {
+  within : l.place ≤ length l.bytes;
+  so_far : l.found ++ tokens_in 0 l.place (drop l.place l.bytes) ≡ tokens_in 0 0 l.bytes;
+}
+
+abbrev pub decreases-loop-place : goal.decreases-loop-place
+decreases-loop-place l = length l.bytes - l.place
