@@ -1,4 +1,4 @@
-//! Reads a path whole, and writes one whole, over any files.
+//! Reads a path whole, and writes one whole, over any files; prints lines whole on any console.
 #![tactic(auto)]
 
 ghost use Rattle.std.specs.Prelude.{◌≡◌, ◌≢◌, ◌⊎◌, ℕ, ◌<◌, ◌≤◌, ◌^◌, ◌+◌, take, drop, length};
@@ -10,7 +10,10 @@ ghost use Rattle.whole_files.specs.Transfers.{BeginsWith};
 ghost use Rattle.whole_files.specs.Requests.{Since, least_room, AreRoomyReads, AreWholeOffers};
 ghost use Rattle.whole_files.specs.declared.ReadWholeError.TheVariants as whole_errors;
 
+mod printing;
+
 use outside_io::{Failed, Files};
+pub use printing::print_whole;
 use std::alloc::{AllocError, Global};
 
 /// How many bytes a read offers room for.
@@ -153,7 +156,7 @@ pub fn write_whole<F: Files>(files: &mut F, path: &str, bytes: &[u8]) -> Result<
 }
 
 /// The bytes behind the first `count` ones.
-fn behind(bytes: &[u8], count: usize) -> &[u8]
+pub(crate) fn behind(bytes: &[u8], count: usize) -> &[u8]
     requires { count ≤ length bytes.now }
     ensures { result.now ≡ drop count bytes.now }
 {

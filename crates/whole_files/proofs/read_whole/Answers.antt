@@ -1,4 +1,4 @@
-use Rattle.std.proofs.Common.{◌<◌, length, vec_len, rules, arith, refl}
+use Rattle.std.proofs.Common.{rules, refl}
 use Rattle.outside_io.specs.Files.{told_bytes}
 use Rattle.whole_files.proofs.Asked.{no_reads_yet}
 use Rattle.whole_files.proofs.Fronts.{nothing_read}

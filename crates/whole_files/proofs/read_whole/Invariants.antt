@@ -1,5 +1,5 @@
 -- what was read are first bytes of what the path holds
-use Rattle.std.proofs.Common.{◌≡◌, ◌≤◌, ◌<◌, ◌+◌, ◌-◌, length, vec_len}
+use Rattle.std.proofs.Common.{◌≤◌, ◌+◌, ◌-◌, vec_len}
 use Rattle.outside_io.specs.Counts.{NoneRises}
 use Rattle.outside_io.specs.Files.{LeavesAll}
 use Rattle.whole_files.specs.Requests.{Since, least_room, AreRoomyReads}

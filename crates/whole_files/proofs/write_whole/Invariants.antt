@@ -1,5 +1,5 @@
 -- the path holds all of the bytes but the rest
-use Rattle.std.proofs.Common.{◌≡◌, length}
+use Rattle.std.proofs.Common.{length}
 use Rattle.outside_io.specs.Counts.{NoneRises}
 use Rattle.outside_io.specs.Files.{LeavesOthers}
 use Rattle.whole_files.specs.Requests.{Since, OfferAll}
