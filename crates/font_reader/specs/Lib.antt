@@ -8,4 +8,5 @@ pub mod Names
 pub mod Search
 pub mod Shapes
 pub mod Stores
+pub mod Texts
 pub mod Versions

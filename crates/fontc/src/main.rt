@@ -9,8 +9,8 @@ use std::{env, io};
 fn main(rt: HostRuntime) -> ExitCode {
     match words(&rt) {
         Ok(words) => run_words(&rt, words.as_slice()),
-        // A word that isn't UTF-8 is of no command.
-        Err(error) if error.kind() != io::ErrorKind::OutOfMemory => Status::Usage.exit(),
+        // A word that isn't UTF-8 is of no command: that is told as for no words.
+        Err(error) if error.kind() != io::ErrorKind::OutOfMemory => run_words(&rt, &[]),
         Err(_) => Status::NoMemory.exit(),
     }
 }

@@ -1,7 +1,8 @@
-//! The commands of fontc: their words, and what each reads, compiles and writes.
+//! The commands of fontc: their words, what each reads, compiles and writes, and what it prints.
 #![tactic(auto)]
 
 mod command;
+mod lines;
 mod runs;
 mod status;
 

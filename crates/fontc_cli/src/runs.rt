@@ -1,13 +1,14 @@
-ghost use Rattle.std.specs.Prelude.{◌≡◌, ◌≤◌, map, length, IfSome};
+ghost use Rattle.std.specs.Prelude.{◌≡◌, ◌≤◌, map, length, IfSome, Ok};
 ghost use Rattle.std.specs.String.{string_bytes};
 ghost use Rattle.outside_io.specs.Files.{told_bytes};
 ghost use Rattle.refusal_codes.specs.declared.limits.TheConstants.{SOURCE_BYTES};
 ghost use Rattle.fontc_cli.specs.Commands.{command_of};
-ghost use Rattle.fontc_cli.specs.Runs.{BuildEnds, RunEnds, IsComplete, Between};
+ghost use Rattle.fontc_cli.specs.Runs.{BuildEnds, RunEnds, IsComplete, HoldsFontOf, Between};
 ghost use Rattle.fontc_cli.specs.Statuses.{ExitsBy};
 ghost use Rattle.fontc_cli.specs.Words.{shown};
 
 use crate::command::{BuildCommand, read_command};
+use crate::lines::{READ_FAULT, USAGE, WRITE_FAULT, refuse, tell, wrote_line};
 use crate::status::{Report, Status};
 use font_plan::{compile_one, source_too_large};
 use outside_io::{Console, Files, Gate};
@@ -15,14 +16,18 @@ use refusal_codes::CompileError;
 use refusal_codes::limits::SOURCE_BYTES;
 use std::alloc::Global;
 use std::process::ExitCode;
-use whole_files::{ReadWholeError, read_whole, write_whole};
+use whole_files::{ReadWholeError, print_whole, read_whole, write_whole};
 
 /// Runs the command that the words are, over these files and this console.
 ///
 /// The words are those behind the program's name: `build IN OUT`. The report says how the run
 /// ended: the font of what IN held stands in OUT; or the words are no command, the source is
 /// refused, a read of IN or a write of OUT failed, or memory ran out. Only a font that is whole in
-/// memory is begun to be written. Nothing is printed yet.
+/// memory, with the line that tells of it, is begun to be written.
+///
+/// The console takes one line, which says the same; where memory ran out it takes none. A console
+/// that fails takes first bytes of it, and changes how the run ended only where it would else be
+/// `Done`.
 pub fn run<F: Files, C: Console, G: Gate + Sync>(
     alloc: Global,
     words: &[String],
@@ -30,11 +35,12 @@ pub fn run<F: Files, C: Console, G: Gate + Sync>(
     console: &mut C,
     _gate: &G,
 ) -> Report
-    ensures ends { Between (RunEnds (command_of (map string_bytes words.now)) result.status) F.holds
-        F.failed_reads F.failed_writes files.old files.new }
+    ensures ends { Between (RunEnds (command_of (map string_bytes words.now)) result.status)
+        F.holds F.failed_reads F.failed_writes C.took C.failed_writes files.old files.new
+        console.old console.new }
     ensures complete { Between (IsComplete (command_of (map string_bytes words.now)) result.status)
-        F.holds F.failed_reads F.failed_writes files.old files.new }
-    ensures silent { console.new ≡ console.old }
+        F.holds F.failed_reads F.failed_writes C.took C.failed_writes files.old files.new
+        console.old console.new }
 {
     run_alone(alloc, words, files, console)
 }
@@ -50,11 +56,12 @@ pub fn run_program<F: Files, C: Console, G: Gate + Sync>(
 ) -> ExitCode
     ensures ends { ExitsBy (λ status. Between
         (RunEnds (command_of (map string_bytes words.now)) status)
-        F.holds F.failed_reads F.failed_writes files.old files.new) result }
+        F.holds F.failed_reads F.failed_writes C.took C.failed_writes files.old files.new
+        console.old console.new) result }
     ensures complete { ExitsBy (λ status. Between
         (IsComplete (command_of (map string_bytes words.now)) status)
-        F.holds F.failed_reads F.failed_writes files.old files.new) result }
-    ensures silent { console.new ≡ console.old }
+        F.holds F.failed_reads F.failed_writes C.took C.failed_writes files.old files.new
+        console.old console.new) result }
 {
     run(alloc, words, files, console, gate).status.exit()
 }
@@ -64,53 +71,104 @@ pub fn run_alone<F: Files, C: Console>(
     alloc: Global,
     words: &[String],
     files: &mut F,
-    _console: &mut C,
+    console: &mut C,
 ) -> Report
-    ensures ends { Between (RunEnds (command_of (map string_bytes words.now)) result.status) F.holds
-        F.failed_reads F.failed_writes files.old files.new }
+    ensures ends { Between (RunEnds (command_of (map string_bytes words.now)) result.status)
+        F.holds F.failed_reads F.failed_writes C.took C.failed_writes files.old files.new
+        console.old console.new }
     ensures complete { Between (IsComplete (command_of (map string_bytes words.now)) result.status)
-        F.holds F.failed_reads F.failed_writes files.old files.new }
-    ensures silent { _console.new ≡ _console.old }
+        F.holds F.failed_reads F.failed_writes C.took C.failed_writes files.old files.new
+        console.old console.new }
 {
-    let status = match read_command(words) {
-        None => Status::Usage,
-        Some(command) => build(alloc, command, files),
-    };
+    let status = run_words(alloc, words, files, console);
     Report { status }
 }
 
+/// Runs the command that the words are, and answers how that ended.
+fn run_words<F: Files, C: Console>(
+    alloc: Global,
+    words: &[String],
+    files: &mut F,
+    console: &mut C,
+) -> Status
+    ensures { Between (RunEnds (command_of (map string_bytes words.now)) result)
+        F.holds F.failed_reads F.failed_writes C.took C.failed_writes files.old files.new
+        console.old console.new }
+{
+    match read_command(words) {
+        None => {
+            tell(console, USAGE);
+            Status::Usage
+        }
+        Some(command) => build(alloc, command, files, console),
+    }
+}
+
 /// Compiles the source at one path and writes its font to another.
-fn build<F: Files>(alloc: Global, command: BuildCommand<'_>, files: &mut F) -> Status
+fn build<F: Files, C: Console>(
+    alloc: Global,
+    command: BuildCommand<'_>,
+    files: &mut F,
+    console: &mut C,
+) -> Status
     ensures { Between (BuildEnds (shown command.entry) result) F.holds F.failed_reads
-        F.failed_writes files.old files.new }
+        F.failed_writes C.took C.failed_writes files.old files.new console.old console.new }
 {
     match read_whole(alloc, files, command.source, SOURCE_BYTES) {
-        Ok(source) => build_source(alloc, command, files, source.as_slice()),
-        Err(ReadWholeError::TooLong) => Status::Refused(source_too_large(alloc)),
-        Err(ReadWholeError::Failed) => Status::ReadFault,
+        Ok(source) => build_source(alloc, command, files, console, source.as_slice()),
+        Err(ReadWholeError::TooLong) => refuse(alloc, console, source_too_large(alloc)),
+        Err(ReadWholeError::Failed) => {
+            tell(console, READ_FAULT);
+            Status::ReadFault
+        }
         Err(ReadWholeError::NoMemory) => Status::NoMemory,
     }
 }
 
 /// Compiles a source that was read, and writes its font.
-fn build_source<F: Files>(
+fn build_source<F: Files, C: Console>(
     alloc: Global,
     command: BuildCommand<'_>,
     files: &mut F,
+    console: &mut C,
     source: &[u8],
 ) -> Status
     requires fits { length source.now ≤ SOURCE_BYTES }
     requires read { IfSome (told_bytes (F.holds files.old command.source.now))
         (λ bytes. source.now ≡ bytes) }
     ensures { Between (BuildEnds (shown command.entry) result) F.holds F.failed_reads
-        F.failed_writes files.old files.new }
+        F.failed_writes C.took C.failed_writes files.old files.new console.old console.new }
 {
     match compile_one(alloc, source) {
-        Ok(built) => match write_whole(files, command.output, built.font.as_slice()) {
-            Ok(()) => Status::Done,
-            Err(_) => Status::WriteFault,
-        },
-        Err(CompileError::Refused(refusal)) => Status::Refused(refusal),
+        Ok(built) => write_font(alloc, command, files, console, built.font.as_slice()),
+        Err(CompileError::Refused(refusal)) => refuse(alloc, console, refusal),
         Err(CompileError::NoMemory) => Status::NoMemory,
+    }
+}
+
+/// Writes the font of a source that was read, once the line that tells of it stands in memory too.
+fn write_font<F: Files, C: Console>(
+    alloc: Global,
+    command: BuildCommand<'_>,
+    files: &mut F,
+    console: &mut C,
+    font: &[u8],
+) -> Status
+    requires { HoldsFontOf (F.holds files.old command.source.now) font.now }
+    ensures { Between (BuildEnds (shown command.entry) result) F.holds F.failed_reads
+        F.failed_writes C.took C.failed_writes files.old files.new console.old console.new }
+{
+    let Ok(line) = wrote_line(alloc, font.len()) else {
+        return Status::NoMemory;
+    };
+    match write_whole(files, command.output, font) {
+        Ok(()) => match print_whole(console, line.as_bytes()) {
+            Ok(()) => Status::Done,
+            Err(_) => Status::ConsoleFault,
+        },
+        Err(_) => {
+            tell(console, WRITE_FAULT);
+            Status::WriteFault
+        }
     }
 }

@@ -2,22 +2,28 @@ ghost use Rattle.std.specs.Prelude.{◌≡◌};
 ghost use Rattle.std.specs.Process.{exit_status};
 ghost use Rattle.fontc_cli.specs.Statuses.{exit_code};
 
+use font_reader::FontFault;
 use refusal_codes::Refusal;
 use std::process::ExitCode;
 
 /// How a run ended.
 #[derive(Debug, Drop)]
 pub enum Status {
-    /// The font was written.
+    /// The font was written, and the console took the line that says so.
     Done,
     /// The words are no command.
     Usage,
     /// The source fails a rule.
     Refused(Refusal),
+    /// A font that was to be inspected can't be read. It never comes before there is a command that
+    /// inspects one.
+    BadFont(FontFault),
     /// The source could not be read.
     ReadFault,
     /// The font could not be written.
     WriteFault,
+    /// The font was written, and the console failed the line that says so.
+    ConsoleFault,
     /// Memory ran out.
     NoMemory,
 }
@@ -38,8 +44,10 @@ impl Status {
             Status::Done => 0,
             Status::Usage => 1,
             Status::Refused(_) => 2,
+            Status::BadFont(_) => 3,
             Status::ReadFault => 4,
             Status::WriteFault => 5,
+            Status::ConsoleFault => 6,
             Status::NoMemory => 7,
         }
     }

@@ -1,0 +1,133 @@
+-- How a build ends once its source is read, and where that is refused; and why a run that ends so
+-- is complete.
+use Rattle.std.proofs.Common.{◌≡◌, ℕ, List, length, take, Option, Some, None, IfSome, Ok, Err}
+use Rattle.std.proofs.Common.{refl, sym, subst, ◌∙◌, inl, inr, ◌⊎◌}
+use Rattle.outside_io.specs.Counts.{HasRisen}
+use Rattle.outside_io.specs.Files.{Holding, replaced_by, Leaves}
+use Rattle.whole_files.specs.Printing.{Printed, PrintsAll, PrintsPart, Prints}
+use Rattle.refusal_codes.specs.declared.refusal.Refusal.{Refusal}
+use Rattle.font_plan.specs.Font.{font_of}
+use Rattle.fontc_cli.specs.Commands.{Build}
+use Rattle.fontc_cli.specs.Lines.{lines_of, wrote}
+use Rattle.fontc_cli.specs.Runs.{Outside, HoldsFontOf, IsRefused, IsBuilt, IsPartlyBuilt, IsUnread}
+use Rattle.fontc_cli.specs.Runs.{LeavesFiles, BuildEnds, RunEnds, IsComplete, IsTold}
+use Rattle.fontc_cli.specs.declared.status.Status.{Status}
+use Rattle.fontc_cli.specs.declared.status.Status.TheVariants.{Done, Usage, Refused, BadFont}
+use Rattle.fontc_cli.specs.declared.status.Status.TheVariants.{ReadFault, WriteFault, ConsoleFault}
+use Rattle.fontc_cli.specs.declared.status.Status.TheVariants.{NoMemory}
+
+-- A build of which a read of its source comes first, with no fault, ends as the rest of it does:
+-- the read changes nothing.
+
+built_after : (command : Build) (font : List ℕ) (old read new : Outside) → LeavesFiles old read
+    → IsBuilt command font read new → IsBuilt command font old new
+built_after command font old read new same built = record {
+  font_is = subst (λ (held : Holding). HoldsFontOf held font) (same.paths command.source)
+      built.font_is;
+  output = subst (λ (held : Holding). Leaves (replaced_by font held) (new.holds command.output))
+      (same.paths command.output) built.output;
+  others = λ path differs. subst (λ (held : Holding). Leaves held (new.holds path))
+      (same.paths path) (built.others path differs);
+  reads = λ path. built.reads path ∙ same.reads path;
+  writes = λ path. built.writes path ∙ same.writes path;
+}
+
+partly_built_after : (command : Build) (old read new : Outside) → LeavesFiles old read
+    → IsPartlyBuilt command read new → IsPartlyBuilt command old new
+partly_built_after command old read new same built = record {
+  font = built.font;
+  font_is = subst (λ (held : Holding). HoldsFontOf held built.font) (same.paths command.source)
+      built.font_is;
+  output = subst (λ (held : Holding). Leaves held (new.holds command.output)
+      ⊎ ((n : ℕ) × Leaves (replaced_by (take n built.font) held) (new.holds command.output)))
+      (same.paths command.output) built.output;
+  others = λ path differs. subst (λ (held : Holding). Leaves held (new.holds path))
+      (same.paths path) (built.others path differs);
+  reads = λ path. built.reads path ∙ same.reads path;
+  writes = subst (λ (count : ℕ). HasRisen count (new.failed_writes command.output))
+      (same.writes command.output) built.writes;
+}
+
+unread_after : (command : Build) (old read new : Outside) → LeavesFiles old read
+    → IsUnread command read new → IsUnread command old new
+unread_after command old read new same unread = record {
+  paths = λ path. unread.paths path ∙ same.paths path;
+  reads = subst (λ (count : ℕ). HasRisen count (new.failed_reads command.source))
+      (same.reads command.source) unread.reads;
+  writes = λ path. unread.writes path ∙ same.writes path;
+}
+
+left_after : (old read new : Outside) → LeavesFiles old read → LeavesFiles read new
+    → LeavesFiles old new
+left_after old read new same left = record {
+  paths = λ path. left.paths path ∙ same.paths path;
+  reads = λ path. left.reads path ∙ same.reads path;
+  writes = λ path. left.writes path ∙ same.writes path;
+}
+
+pub ends_after : (command : Build) (status : Status) (old read new : Outside)
+    → LeavesFiles old read → read.console ≡ old.console → BuildEnds command status read new
+    → BuildEnds command status old new
+ends_after command Done old read new same silent ends = (
+  ends.0,
+  built_after command ends.0 old read new same ends.1,
+  subst (λ (first : Printed). PrintsAll (wrote (length ends.0)) first new.console) silent ends.2,
+)
+ends_after command ConsoleFault old read new same silent ends = (
+  ends.0,
+  built_after command ends.0 old read new same ends.1,
+  subst (λ (first : Printed). PrintsPart (wrote (length ends.0)) first new.console) silent ends.2,
+)
+ends_after command Usage old read new same silent ends = absurd ends
+ends_after command (BadFont fault) old read new same silent ends = absurd ends
+ends_after command (Refused r) old read new same silent ends = (
+  left_after old read new same ends.0,
+  subst (λ (held : Holding). IsRefused held r) (same.paths command.source) ends.1,
+  subst (λ (first : Printed). Prints (lines_of 0 (Refused r)) first new.console) silent ends.2,
+)
+ends_after command ReadFault old read new same silent ends = (
+  unread_after command old read new same ends.0,
+  subst (λ (first : Printed). Prints (lines_of 0 ReadFault) first new.console) silent ends.1,
+)
+ends_after command WriteFault old read new same silent ends = (
+  partly_built_after command old read new same ends.0,
+  subst (λ (first : Printed). Prints (lines_of 0 WriteFault) first new.console) silent ends.1,
+)
+ends_after command NoMemory old read new same silent ends
+    = (left_after old read new same ends.0, ends.1 ∙ silent)
+
+-- a refusal that is printed, or for which memory runs out, ends a build
+pub refused_ends : (command : Build) (r : Refusal) (status : Status) (old new : Outside)
+    → LeavesFiles old new → IsRefused (old.holds command.source) r
+    → IsTold r status old.console new.console → BuildEnds command status old new
+refused_ends command r status old new files refused (inl told) =
+    subst (λ (s : Status). BuildEnds command s old new) (sym told.0) (files, refused, told.1)
+refused_ends command r status old new files refused (inr ran_out) =
+    subst (λ (s : Status). BuildEnds command s old new) (sym ran_out.0) (files, ran_out.1)
+
+-- no source is refused and accepted
+not_both : (told : Option (List ℕ)) (r : Refusal) (bytes font : List ℕ)
+    → IfSome told (λ source. font_of source ≡ Err r) → told ≡ Some bytes → font_of bytes ≡ Ok font
+    → ⊥
+not_both told r bytes font refused is_told accepted =
+    let refuses : font_of bytes ≡ Err r
+    = subst (λ (t : Option (List ℕ)). IfSome t (λ source. font_of source ≡ Err r)) is_told refused
+    in
+    let clash : Ok font ≡ Err r = sym accepted ∙ refuses in cc
+
+-- a run that ends as it may is complete
+pub completes : (command : Option Build) (status : Status) (old new : Outside)
+    → RunEnds command status old new → IsComplete command status old new
+completes None status old new ends = tt
+completes (Some command) Done old new ends = λ accepted reads writes prints. inl refl
+completes (Some command) NoMemory old new ends = λ accepted reads writes prints. inr refl
+completes (Some command) Usage old new ends = λ accepted reads writes prints. absurd ends
+completes (Some command) (BadFont fault) old new ends = λ accepted reads writes prints. absurd ends
+completes (Some command) (Refused r) old new ends = λ accepted reads writes prints.
+    absurd (not_both _ r accepted.0 accepted.1 ends.1 accepted.2 accepted.3)
+completes (Some command) ReadFault old new ends = λ accepted reads writes prints.
+    absurd (reads ends.0.reads)
+completes (Some command) WriteFault old new ends = λ accepted reads writes prints.
+    absurd (writes ends.0.writes)
+completes (Some command) ConsoleFault old new ends = λ accepted reads writes prints.
+    absurd (prints ends.2.1)
