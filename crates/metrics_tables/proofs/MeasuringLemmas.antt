@@ -1,8 +1,9 @@
 -- The glyphs that are measured, behind their references.
-use Rattle.std.proofs.Common.{◌≡◌, ℕ, ◌<◌, List, [], length, map, get_or, unsigned_abs, sym, ap}
+use Rattle.std.proofs.Common.{◌≡◌, ℕ, ℤ, ◌<◌, List, [], length, map, get_or, unsigned_abs, sym, ap}
 use Rattle.std.proofs.Common.{◌∙◌, subst, arith}
 use Rattle.std.proofs.Math.ListN.{get_or-map}
 use Rattle.std.proofs.lemmas.List.{length-map}
+use Rattle.std.proofs.lemmas.List.Elements.{All-map, All-same}
 use Rattle.std.proofs.lemmas.Simd.{map-map}
 use Rattle.std.specs.Arc.{arc_value}
 use Rattle.std.specs.List.{All}
@@ -14,6 +15,7 @@ use Rattle.font_ir.specs.declared.glyph.FlatGlyph.{FlatGlyph}
 use Rattle.metrics_tables.specs.declared.measures.Measures.{Measures}
 use Rattle.metrics_tables.specs.Comparisons.{greatest_count}
 use Rattle.font_ir.specs.FlatGlyphs.{glyphs_of}
+use Rattle.metrics_tables.specs.Hvar.{AreMeasuresFor}
 use Rattle.metrics_tables.specs.Measuring.{measures_of, width_at, IsMeasurable, HasMastersPlaces}
 use Rattle.font_ir.specs.Outlines.{contours_at, points_at, bounds_of}
 
@@ -78,3 +80,26 @@ measures_are header glyphs measures advances bounds regions rows maxima =
       depth = 0;
     }) in
     λ i. record { advances = a i; bounds = b i; regions = regions i; rows = r i; maxima = m i }
+
+abbrev no_changes : Arc FlatGlyph Global → List ℤ
+no_changes glyph = []
+
+-- and they fit a header without axes: no region, and a row without changes for each glyph
+pub measures_fit : (header : Header) (glyphs : List (Arc FlatGlyph Global)) (measures : Measures)
+    → measures.advances ≡ map (λ glyph. unsigned_abs (width_at header.origin glyph.value)) glyphs
+    → measures.regions ≡ [] → measures.rows ≡ map (λ glyph. []) glyphs
+    → AreMeasuresFor header measures
+measures_fit header glyphs measures advances regions rows =
+    let none = ap length regions in
+    let width : Arc FlatGlyph Global → ℕ
+    = λ glyph. unsigned_abs (width_at header.origin glyph.value) in
+    record {
+      few_regions = omega (arith, none);
+      sides = λ k d within. absurd (omega (arith, none, within));
+      one_row = ap length rows ∙ length-map glyphs no_changes
+          ∙ sym (ap length advances ∙ length-map glyphs width);
+      deltas = All-same (λ row. length row ≡ length measures.regions) measures.rows
+          (map no_changes glyphs) rows
+          (All-map (λ row. length row ≡ length measures.regions) no_changes glyphs
+          (λ k d within. sym none));
+    }

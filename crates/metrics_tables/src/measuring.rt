@@ -6,6 +6,7 @@ ghost use Rattle.metrics_tables.specs.Measuring.{measures_of, maxima_of, width_a
 ghost use Rattle.metrics_tables.specs.Measuring.{IsMeasurable, HasMastersPlaces, Measured};
 ghost use Rattle.font_ir.specs.Outlines.{contours_at, points_at, bounds_of};
 ghost use Rattle.metrics_tables.specs.Tables.{AreMeasures};
+ghost use Rattle.metrics_tables.specs.Hvar.{AreMeasuresFor};
 ghost use Rattle.font_ir.specs.FlatGlyphs.{IsFlatGlyph};
 ghost use Rattle.font_ir.specs.Headers.{IsHeader};
 
@@ -140,6 +141,7 @@ pub fn measure(
     requires one_glyph { length glyphs.now ≡ length order.now.names }
     ensures measured { Measured result (measures_of header.now (glyphs_of glyphs.now)) }
     ensures measures { IfOk result AreMeasures }
+    ensures for_header { IfOk result (AreMeasuresFor header.now) }
 {
     let _count = order.len();
     Ok(measures_at(alloc, glyphs, header.origin)?)

@@ -1,4 +1,4 @@
-use Rattle.metrics_tables.proofs.MeasuringLemmas.{measurable, measures_are}
+use Rattle.metrics_tables.proofs.MeasuringLemmas.{measurable, measures_are, measures_fit}
 use Rattle.metrics_tables.proofs.measuring.measure.Goals as goal
 
 pub measures_at-requires : goal.measures_at-requires
@@ -9,3 +9,8 @@ pub returns-clause-measured : goal.returns-clause-measured
 returns-clause-measured c =
     let e = c.in_ok-measures_at.ensures in
     measures_are c.args.header.now c.args.glyphs.now _ e.advances e.bounds e.regions e.rows e.maxima
+
+pub returns-clause-for_header : goal.returns-clause-for_header
+returns-clause-for_header c =
+    let e = c.in_ok-measures_at.ensures in
+    measures_fit c.args.header.now c.args.glyphs.now _ e.advances e.regions e.rows
