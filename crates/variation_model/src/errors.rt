@@ -1,3 +1,4 @@
+use refusal_codes::NoMemory;
 use std::alloc::{AllocError, AllocFailed};
 use thiserror::Error;
 
@@ -11,6 +12,17 @@ pub enum DeltaError {
     /// Memory ran out.
     #[error("memory ran out")]
     NoMemory,
+}
+
+impl From<NoMemory> for DeltaError {
+    ghost use Rattle.std.specs.Prelude.{◌≡◌};
+    ghost use Rattle.variation_model.specs.declared.errors.DeltaError.TheVariants as delta_errors;
+
+    ghost from_gives = { λ _ e. e ≡ delta_errors.NoMemory };
+
+    fn from(_e: NoMemory) -> DeltaError {
+        DeltaError::NoMemory
+    }
 }
 
 impl From<AllocError> for DeltaError {

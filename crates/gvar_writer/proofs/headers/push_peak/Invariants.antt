@@ -1,0 +1,7 @@
+use Rattle.std.proofs.Common.{◌≡◌, ◌++◌, take}
+use Rattle.gvar_writer.specs.TupleHeaders.{peak_tuple}
+use Rattle.gvar_writer.proofs.headers.push_peak.Given as goal
+
+abbrev pub invariant-loop-side : goal.invariant-loop-side
+invariant-loop-side l =
+    l.bytes.items ≡ l.fn.bytes.items ++ peak_tuple (take l.side-index l.sides)

@@ -1,0 +1,9 @@
+pub mod Runs
+pub mod PackedDeltas
+pub mod PackedPoints
+pub mod GlyphPoints
+pub mod RowAnswers
+pub mod TupleData
+pub mod TupleHeaders
+pub mod GlyphVariations
+pub mod Gvar

@@ -1,0 +1,14 @@
+//! The table "gvar" (OpenType 1.9): how far the points of each glyph move from one master of a
+//! font to another.
+#![tactic(auto)]
+
+mod glyph;
+mod headers;
+mod named;
+mod packed;
+mod positions;
+mod rows;
+mod tuples;
+
+pub use glyph::glyph_variations;
+pub use positions::{Coordinate, Position};
