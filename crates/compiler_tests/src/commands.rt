@@ -1,6 +1,6 @@
 use fixtures::{FONT, SOURCE, cubic_source};
 use fontc_cli::{Status, run, run_alone};
-use outside_io::{MemFiles, OpenGate, SureConsole};
+use outside_io::{MemConsole, MemFiles, OpenGate, SureConsole};
 use refusal_codes::Rule;
 use std::alloc::Global;
 use std::test::Fail;
@@ -117,5 +117,31 @@ fn a_failed_append_leaves_first_bytes(rt: HostRuntime) -> Result<(), Fail> {
     assert!(rt; is_failed(rt.alloc(), 9, 0, font.as_slice())?);
     font.truncate(200);
     assert!(rt; is_failed(rt.alloc(), 8, 5, font.as_slice())?);
+    Ok(())
+}
+
+/// Whether a build of the triangle over this console ends with this exit status, and leaves its
+/// font whole.
+fn is_built_with(alloc: Global, console: &mut MemConsole, code: u8) -> Result<bool, Fail> {
+    let font = hex::decode(alloc, FONT)?;
+    let mut files = files_with(alloc, SOURCE)?;
+    let words = owned(alloc, &["build", "in", "out"])?;
+    let report = run_alone(alloc, words.as_slice(), &mut files, console);
+    Ok(report.status.code() == code && files.held("out") == Some(font.as_slice()))
+}
+
+#[test]
+fn a_font_is_told_by_its_bytes(rt: HostRuntime) -> Result<(), Fail> {
+    let mut console = MemConsole::with_room(rt.alloc(), 100)?;
+    assert!(rt; is_built_with(rt.alloc(), &mut console, 0)?);
+    assert!(rt; console.held() == b"wrote 280 bytes\n".as_slice());
+    Ok(())
+}
+
+#[test]
+fn a_console_that_fails_leaves_the_font(rt: HostRuntime) -> Result<(), Fail> {
+    let mut console = MemConsole::with_room(rt.alloc(), 100)?;
+    console.fail(rt.alloc(), 1)?;
+    assert!(rt; is_built_with(rt.alloc(), &mut console, 6)? && console.held().is_empty());
     Ok(())
 }
