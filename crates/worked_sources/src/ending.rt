@@ -44,8 +44,6 @@ fn font(rt: &HostRuntime, name: &str) -> Result<Vec<u8>> {
 pub struct Ended {
     /// The exit status.
     pub status: u8,
-    /// The text of the refusal; empty where there is none.
-    pub told: String,
     /// What the output holds.
     pub output: Vec<u8>,
     /// Whether the source's path holds what it must: the source, or what was written over it.
@@ -55,16 +53,12 @@ pub struct Ended {
 }
 
 impl Ended {
-    /// How it ended, in a few words.
+    /// How it ended, in a few words: the exit status, and the console's line.
     pub fn summary(&self, alloc: Global) -> Result<String, AllocError> {
         let status = self.status;
-        if !self.told.is_empty() {
-            return self.told.clone();
+        match self.printed.trim() {
+            "" => format!(in alloc; "status {status}, nothing printed"),
+            line => format!(in alloc; "status {status}, {line}"),
         }
-        if status == 0 {
-            let count = self.output.len();
-            return format!(in alloc; "{count} bytes");
-        }
-        format!(in alloc; "status {status}")
     }
 }

@@ -18,12 +18,16 @@ pub struct Row<'a> {
     pub step: Option<usize>,
     /// The call to the files that fails, where one does; they are counted from 1.
     pub fail: Option<u64>,
+    /// How many bytes the console takes, where that is limited.
+    pub console_room: Option<usize>,
+    /// The write to the console that fails, where one does; they are counted from 1.
+    pub print_fail: Option<u64>,
     /// Whether it is run over the files of the system too.
     pub is_real: bool,
     /// The exit status that is wanted.
     pub status: u8,
-    /// The text of the refusal that is wanted; empty where none is.
-    pub told: &'a str,
+    /// What the console must have taken.
+    pub printed: String,
     /// What the output must hold afterwards.
     pub left: Left<'a>,
     /// A text that a line `new` is to take the place of.
@@ -49,9 +53,11 @@ impl<'a> Row<'a> {
             words: USUAL_WORDS,
             step: None,
             fail: None,
+            console_room: None,
+            print_fail: None,
             is_real: false,
             status: 0,
-            told: "",
+            printed: String::new(alloc),
             left: Left::AsBefore,
             old: None,
         }
@@ -67,7 +73,11 @@ impl<'a> Row<'a> {
             "fail" => self.fail = Some(rest.parse::<u64>()?),
             "real" => self.is_real = true,
             "status" => self.status = rest.parse::<u8>()?,
-            "refused" => self.want_refusal(rest),
+            "refused" => self.want_refusal(rest)?,
+            "prints" => self.want_line(rest)?,
+            "begins" => self.printed.push_str(rest)?,
+            "console" => self.console_room = Some(rest.parse::<usize>()?),
+            "fail-print" => self.print_fail = Some(rest.parse::<u64>()?),
             "font" => self.left = Left::Font(rest),
             "bytes" => self.left = Left::Count(rest.parse::<usize>()?),
             "first" => self.want_first(rest)?,
@@ -93,9 +103,15 @@ impl<'a> Row<'a> {
         Ok(())
     }
 
-    fn want_refusal(&mut self, told: &'a str) {
+    fn want_refusal(&mut self, line: &str) -> Result<()> {
         self.status = 2;
-        self.told = told;
+        self.want_line(line)
+    }
+
+    fn want_line(&mut self, line: &str) -> Result<()> {
+        self.printed.push_str(line)?;
+        self.printed.push_str("\n")?;
+        Ok(())
     }
 
     fn want_first(&mut self, rest: &'a str) -> Result<()> {

@@ -2,7 +2,7 @@ use crate::ending::{BEFORE, Ended};
 use crate::row::Row;
 use crate::table::Table;
 use anyhow::{Result, bail};
-use fontc_cli::{Status, run};
+use fontc_cli::run;
 use outside_io::{Files, MemConsole, MemFiles, OpenGate, RealFiles};
 use std::alloc::{AllocError, Global};
 use std::fs;
@@ -10,7 +10,7 @@ use std::fs;
 /// How many bytes the appends of one run may add.
 const ROOM: usize = 1_000_000;
 
-/// How many bytes the console of one run may take.
+/// How many bytes the console of one run may take, where its row doesn't say.
 const CONSOLE_ROOM: usize = 10_000;
 
 /// Runs a row over memory, and where it asks for that over the files of the system, and adds it to
@@ -42,12 +42,12 @@ fn add(
 /// What differs between how a row's run ended and how it must end.
 fn difference(rt: &HostRuntime, row: &Row<'_>, ended: &Ended) -> Result<Option<String>> {
     let alloc = rt.alloc();
-    let (status, told) = (ended.status, ended.told.as_str());
-    if status != row.status || told != row.told {
-        let text = format!(in alloc;
-            "status {status} {told}, wanted {} {}",
-            row.status, row.told
-        )?;
+    if ended.status != row.status {
+        let text = format!(in alloc; "status {}, wanted {}", ended.status, row.status)?;
+        return Ok(Some(text));
+    }
+    if ended.printed.as_str() != row.printed.as_str() {
+        let text = format!(in alloc; "it printed {:?}, wanted {:?}", ended.printed, row.printed)?;
         return Ok(Some(text));
     }
     if !row.left.is(rt, ended.output.as_slice())? {
@@ -58,21 +58,17 @@ fn difference(rt: &HostRuntime, row: &Row<'_>, ended: &Ended) -> Result<Option<S
     if !ended.source_kept {
         return Ok(Some(String::from_str(alloc, "the source has changed")?));
     }
-    if !ended.printed.is_empty() {
-        return Ok(Some(format!(in alloc; "it printed {}", ended.printed)?));
-    }
     Ok(None)
 }
 
 /// Runs a row over files in memory, of which `in` holds its source and `out` something else.
 fn run_in_memory(alloc: Global, row: &Row<'_>) -> Result<Ended> {
     let mut files = memory_of(alloc, row)?;
-    let (status, told, printed) = run_words(alloc, row.words, &mut files)?;
+    let (status, printed) = run_words(alloc, row, &mut files)?;
     let output = Vec::from_slice(alloc, files.held("out").unwrap_or(&[]))?;
     let source_kept = files.held("in") == Some(row.source.as_slice());
     Ok(Ended {
         status,
-        told,
         output,
         source_kept,
         printed,
@@ -111,30 +107,40 @@ fn run_on_disk(rt: &HostRuntime, row: &Row<'_>) -> Result<Ended> {
     let Ok(mut files) = RealFiles::new(rt, alloc) else {
         bail!("no memory for files")
     };
-    let (status, told, printed) = run_words(alloc, row.words, &mut files)?;
+    let (status, printed) = run_words(alloc, row, &mut files)?;
     let output = fs::read(rt, "out")?;
     let source = fs::read(rt, "in")?;
     let source_kept = source.as_slice() == row.source.as_slice();
     Ok(Ended {
         status,
-        told,
         output,
         source_kept,
         printed,
     })
 }
 
-/// Runs a command over files and a console in memory, and answers its exit status, its refusal's
-/// text and what it printed.
-fn run_words<F: Files>(alloc: Global, words: &str, files: &mut F) -> Result<(u8, String, String)> {
-    let words = owned(alloc, words)?;
-    let Ok(mut console) = MemConsole::with_room(alloc, CONSOLE_ROOM) else {
+/// Runs a row's command over files and a console in memory, and answers its exit status and what
+/// the console took.
+fn run_words<F: Files>(alloc: Global, row: &Row<'_>, files: &mut F) -> Result<(u8, String)> {
+    let words = owned(alloc, row.words)?;
+    let mut console = console_of(alloc, row)?;
+    let report = run(alloc, words.as_slice(), files, &mut console, &OpenGate);
+    let printed = String::from_utf8(Vec::from_slice(alloc, console.held())?)?;
+    Ok((report.status.code(), printed))
+}
+
+/// A console in memory, which fails where the row wants it to.
+fn console_of(alloc: Global, row: &Row<'_>) -> Result<MemConsole> {
+    let room = row.console_room.unwrap_or(CONSOLE_ROOM);
+    let Ok(mut console) = MemConsole::with_room(alloc, room) else {
         bail!("no memory for a console")
     };
-    let report = run(alloc, words.as_slice(), files, &mut console, &OpenGate);
-    let told = told(alloc, &report.status)?;
-    let printed = String::from_utf8(Vec::from_slice(alloc, console.held())?)?;
-    Ok((report.status.code(), told, printed))
+    if let Some(write) = row.print_fail
+        && console.fail(alloc, write).is_err()
+    {
+        bail!("no memory for a console")
+    }
+    Ok(console)
 }
 
 /// The words between spaces, each by itself.
@@ -144,15 +150,4 @@ fn owned(alloc: Global, words: &str) -> Result<Vec<String>, AllocError> {
         all.push(String::from_str(alloc, word)?)?;
     }
     Ok(all)
-}
-
-/// The text of a refusal; nothing where there is none.
-fn told(alloc: Global, status: &Status) -> Result<String> {
-    match status {
-        Status::Refused(refusal) => match refusal.text(alloc) {
-            Ok(text) => Ok(text),
-            Err(_) => bail!("no memory for a refusal's text"),
-        },
-        _ => Ok(String::new(alloc)),
-    }
 }
