@@ -33,7 +33,7 @@ multiple() {
 
 write_source 3 >"$room/large.glyphs"
 write_source 2 >"$room/refused.glyphs"
-"$top/fontc" build "$room/large.glyphs" "$room/font.ttf"
+"$top/fontc" build "$room/large.glyphs" "$room/font.ttf" >/dev/null
 echo "$glyphs glyphs, $(stat -c %s "$room/large.glyphs") bytes in, $(stat -c %s "$room/font.ttf") bytes out"
 echo "to build: $(multiple "$room/large.glyphs") times the source's size"
 echo "to read:  $(multiple "$room/refused.glyphs") times the source's size"

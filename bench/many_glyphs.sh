@@ -30,9 +30,9 @@ least_time() {
 }
 
 copied() { cat "$room/many.glyphs" >"$room/copy"; }
-compiled() { "$top/fontc" build "$room/many.glyphs" "$room/many.ttf"; }
+compiled() { "$top/fontc" build "$room/many.glyphs" "$room/many.ttf" >/dev/null; }
 
-"$top/fontc" build "$room/many.glyphs" "$room/many.ttf"
+"$top/fontc" build "$room/many.glyphs" "$room/many.ttf" >/dev/null
 fontc_time="$(least_time compiled)"
 cat_time="$(least_time copied)"
 echo "$glyphs glyphs, $(stat -c %s "$room/many.glyphs") bytes in, $(stat -c %s "$room/many.ttf") bytes out"
