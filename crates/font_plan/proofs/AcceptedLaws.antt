@@ -1,135 +1,47 @@
 -- A source is accepted exactly where each of its parts is.
-use Rattle.std.proofs.Common.{◌≡◌, ℕ, ◌≤◌, Bool, true, false, List, length, Option, Some, None}
-use Rattle.std.proofs.Common.{Result, Ok, Err, nat_lt, ap, refl, sym, ◌∙◌, arith}
-use Rattle.std.specs.Prelude.{min, codes, if◌then◌else◌}
-use Rattle.std.proofs.lemmas.Bool.Decides.{nat_tests}
-use Rattle.refusal_codes.specs.declared.refusal.Refusal.{Refusal}
-use Rattle.refusal_codes.specs.Gives.{◌>>=◌}
+use Rattle.std.proofs.Common.{◌≡◌, ℕ, List, Ok}
 use Rattle.plist_reader.specs.declared.tree.Tree.{Tree}
 use Rattle.plist_reader.specs.Grammar.{HasTree}
 use Rattle.plist_reader.specs.Reading.{read_of}
-use Rattle.glyphs_source.specs.HeaderReading.{header_of}
-use Rattle.glyphs_source.specs.IndexReading.{index_of}
-use Rattle.table_bytes.specs.Tables.{over_limit}
-use Rattle.table_bytes.specs.LimitLaws.{is_within}
-use Rattle.glyf_writer.specs.Tables as outlines
-use Rattle.font_assembly.specs.File.{Table, file, file_len}
 use Rattle.font_plan.specs.Accepted.{IsFontOf}
-use Rattle.font_plan.specs.Direct.{source_too_large, too_many_glyphs, table_too_large, font_too_large}
-use Rattle.font_plan.specs.Direct.{glyphs_in, parts_of, tables_of, unless_too_large, filed, written}
-use Rattle.font_plan.specs.Direct.{glyphs_font, tree_font, direct_font}
-
--- what was passed on, and what came of it
-record Passed {A B : Type 0} (given : Result A Refusal) (next : A → Result B Refusal) (made : B)
-    : Type 0 where
-  value : A
-  is : given ≡ Ok value
-  rest : next value ≡ Ok made
-
-passed : {A B : Type 0} (given : Result A Refusal) (next : A → Result B Refusal) (made : B)
-    → (given >>= next) ≡ Ok made → Passed given next made
-passed (Err r) next made e = absurd cc
-passed (Ok value) next made e = record { value = value; is = refl; rest = e }
-
--- a limit that wasn't passed
-within : {B : Type 0} (limit n : ℕ) (refusal : Refusal) (otherwise : Result B Refusal) (made : B)
-    → (if nat_lt limit n then Err refusal else otherwise) ≡ Ok made
-    → (n ≤ limit) × (otherwise ≡ Ok made)
-within limit n refusal otherwise made e = chosen (nat_lt limit n) refl e
-  where
-    chosen : (b : Bool) → nat_lt limit n ≡ b → (if b then Err refusal else otherwise) ≡ Ok made
-        → (n ≤ limit) × (otherwise ≡ Ok made)
-    chosen true is f = absurd cc
-    chosen false is f = (grind (arith, nat_tests), f)
-
-unless : (refused : ℕ → Refusal) (too_large : Option ℕ) (answer : Result (List ℕ) Refusal)
-    (font : List ℕ) → unless_too_large refused too_large answer ≡ Ok font
-    → (too_large ≡ None) × (answer ≡ Ok font)
-unless refused (Some n) answer font e = absurd cc
-unless refused None answer font e = (refl, e)
-
--- a length that isn't over the limit
-small : (n : ℕ) → over_limit n ≡ None → n ≤ 4294967295
-small n e = chosen (nat_lt 4294967295 n) refl e
-  where
-    chosen : (b : Bool) → nat_lt 4294967295 n ≡ b
-        → (if b then Some (min n 18446744073709551615) else None) ≡ None → n ≤ 4294967295
-    chosen true is f = absurd cc
-    chosen false is f = grind (arith, nat_tests)
-
-same_file : (made font : List ℕ) (answer : Result (List ℕ) Refusal) → answer ≡ Ok made
-    → answer ≡ Ok font → font ≡ made
-same_file made font answer e f = let same : font ≡ made = cc in same
-
-fitting : (tables : List Table) (font : List ℕ) → filed tables ≡ Ok font
-    → (file_len tables ≤ 4294967295) × (font ≡ file tables)
-fitting tables font e =
-    let fits = unless font_too_large (over_limit (file_len tables)) (Ok (file tables)) font e in
-    (small (file_len tables) fits.0, same_file (file tables) font (Ok (file tables)) refl fits.1)
+use Rattle.font_plan.specs.Direct.{direct_font}
+use Rattle.font_plan.proofs.DirectMade.{direct_made, made_direct}
 
 pub accepted_font : (tree_of_computed : (source : List ℕ) (t : Tree) → read_of source ≡ Ok t
     → HasTree source t) (source font : List ℕ) → direct_font source ≡ Ok font → IsFontOf source font
-unfolding direct_font tree_font written
 accepted_font tree_of_computed source font e =
-    let whole = within 67108864 (length source) source_too_large (read_of source >>= tree_font) font
-    e in
-    let tree = passed (read_of source) tree_font font whole.1 in
-    let header = passed (header_of tree.value)
-    (λ header. (index_of tree.value >>= λ index.
-    (glyphs_in tree.value header index >>= glyphs_font header))) font tree.rest in
-    let index = passed (index_of tree.value)
-    (λ index. (glyphs_in tree.value header.value index >>= glyphs_font header.value)) font
-    header.rest in
-    let glyphs = passed (glyphs_in tree.value header.value index.value) (glyphs_font header.value)
-    font index.rest in
-    let few = within 65535 (length glyphs.value) (too_many_glyphs (length glyphs.value))
-    (written header.value glyphs.value) font glyphs.rest in
-    let tables = unless (table_too_large (codes "glyf"))
-    (outlines.too_large (parts_of header.value glyphs.value))
-    (filed (tables_of header.value glyphs.value)) font few.1 in
-    let fits = fitting (tables_of header.value glyphs.value) font tables.1 in
+    let made = direct_made source font e in
     record {
-      tree = tree.value;
-      header = header.value;
-      index = index.value;
-      glyphs = glyphs.value;
-      few_bytes = whole.0;
-      read = tree_of_computed source tree.value tree.is;
-      header_read = header.is;
-      index_read = index.is;
-      drawn = glyphs.is;
-      few_glyphs = few.0;
-      tables_fit = tables.0;
-      file_fits = fits.0;
-      is_file = fits.1;
+      tree = made.tree;
+      header = made.header;
+      index = made.index;
+      glyphs = made.glyphs;
+      few_bytes = made.few_bytes;
+      read = tree_of_computed source made.tree made.read;
+      header_read = made.header_read;
+      index_read = made.index_read;
+      drawn = made.drawn;
+      few_glyphs = made.few_glyphs;
+      tables_fit = made.tables_fit;
+      file_fits = made.file_fits;
+      is_file = made.is_file;
     }
-
-below : {B : Type 0} (limit n : ℕ) (refusal : Refusal) (otherwise : Result B Refusal) → n ≤ limit
-    → (if nat_lt limit n then Err refusal else otherwise) ≡ otherwise
-below limit n refusal otherwise few =
-    let is : nat_lt limit n ≡ false = grind (arith, nat_tests) in
-    ap (λ (b : Bool). if b then Err refusal else otherwise) is
-
-fits : (n : ℕ) → n ≤ 4294967295 → over_limit n ≡ None
-fits n few = is_within n (min n 18446744073709551615) refl (omega arith)
 
 pub font_accepted : (tree_computed : (source : List ℕ) (t : Tree) → HasTree source t
     → read_of source ≡ Ok t) (source font : List ℕ) → IsFontOf source font
     → direct_font source ≡ Ok font
-unfolding direct_font tree_font written
-font_accepted tree_computed source font f =
-    below 67108864 (length source) source_too_large (read_of source >>= tree_font) f.few_bytes
-    ∙ ap (λ tree. tree >>= tree_font) (tree_computed source f.tree f.read)
-    ∙ ap (λ header. header >>= λ header. (index_of f.tree >>= λ index.
-    (glyphs_in f.tree header index >>= glyphs_font header))) f.header_read
-    ∙ ap (λ index. index >>= λ index. (glyphs_in f.tree f.header index >>= glyphs_font f.header))
-    f.index_read
-    ∙ ap (λ glyphs. glyphs >>= glyphs_font f.header) f.drawn
-    ∙ below 65535 (length f.glyphs) (too_many_glyphs (length f.glyphs)) (written f.header f.glyphs)
-    f.few_glyphs
-    ∙ ap (λ too_large. unless_too_large (table_too_large (codes "glyf")) too_large
-    (filed (tables_of f.header f.glyphs))) f.tables_fit
-    ∙ ap (λ too_large. unless_too_large font_too_large too_large
-    (Ok (file (tables_of f.header f.glyphs))))
-    (fits (file_len (tables_of f.header f.glyphs)) f.file_fits)
-    ∙ ap Ok (sym f.is_file)
+font_accepted tree_computed source font f = made_direct source font (record {
+  tree = f.tree;
+  header = f.header;
+  index = f.index;
+  glyphs = f.glyphs;
+  few_bytes = f.few_bytes;
+  read = tree_computed source f.tree f.read;
+  header_read = f.header_read;
+  index_read = f.index_read;
+  drawn = f.drawn;
+  few_glyphs = f.few_glyphs;
+  tables_fit = f.tables_fit;
+  file_fits = f.file_fits;
+  is_file = f.is_file;
+})

@@ -1,25 +1,14 @@
--- How many glyphs a font has, and what the made `.notdef` fulfils.
-use Rattle.std.proofs.Common.{◌≡◌, ℕ, suc, List, [], ◌∷◌, ◌++◌, map, length, Result, Ok, Err, ap}
-use Rattle.std.proofs.Common.{refl, sym, ◌∙◌, subst}
-use Rattle.std.specs.List.{All}
-use Rattle.std.proofs.lemmas.List.{length-map, map-append}
-use Rattle.std.specs.declared.alloc.Global.{Global}
-use Rattle.std.specs.declared.sync.Arc.{Arc}
-use Rattle.std.specs.Arc.{arc_value}
-use Rattle.std.proofs.lemmas.List.Elements.{All-push}
-use Rattle.font_ir.specs.FlatGlyphs.{glyphs_of}
+-- A font has as many glyphs as names.
+use Rattle.std.proofs.Common.{◌≡◌, ℕ, suc, List, [], ◌∷◌, map, length, Result, Ok, Err, ap}
+use Rattle.std.proofs.Common.{refl, sym, ◌∙◌}
+use Rattle.std.proofs.lemmas.List.{length-map}
 use Rattle.refusal_codes.specs.declared.refusal.Refusal.{Refusal}
 use Rattle.refusal_codes.specs.Gives.{◌>>=◌}
 use Rattle.plist_reader.specs.declared.tree.Tree.{Tree}
 use Rattle.font_ir.specs.declared.header.Header.{Header}
 use Rattle.font_ir.specs.declared.glyph.FlatGlyph.{FlatGlyph}
-use Rattle.font_ir.specs.FlatGlyphs.{IsFlatGlyph}
-use Rattle.font_ir.specs.Notdef.{made_notdef_of}
-use Rattle.font_plan.specs.Drawn.{IsDrawn}
-use Rattle.font_plan.specs.Direct.{Entry, others_from, drawn_of, all_drawn, followed_by, notdef_from}
-use Rattle.font_plan.specs.Direct.{notdef_of, glyphs_in, order_in}
-
--- ---- as many glyphs as names
+use Rattle.font_plan.specs.Direct.{Entry, others_from, drawn_of, all_drawn, followed_by}
+use Rattle.font_plan.specs.Direct.{notdef_from, notdef_of, glyphs_in, order_in}
 
 one_more : (flat : FlatGlyph) (others : Result (List FlatGlyph) Refusal) (flats : List FlatGlyph)
     (n : ℕ) → ((more : List FlatGlyph) → others ≡ Ok more → length more ≡ n)
@@ -56,22 +45,3 @@ one_glyph_a_name t h index flats e = first (notdef_of t h (notdef_from 0 index))
     first (Ok notdef) f = one_more notdef (all_drawn t h (others_from 0 index)) flats
         (length (names_of index)) (λ more g. all_drawn_length t h (others_from 0 index) more g
         ∙ sym (length-map (others_from 0 index) (λ (glyph : ℕ × Entry). glyph.1.0))) f
-
--- ---- one glyph more
-
-pub drawn_push : (h : Header) (glyphs : List (Arc FlatGlyph Global)) (one : Arc FlatGlyph Global)
-    → All (IsDrawn h) (glyphs_of glyphs) → IsDrawn h (arc_value one)
-    → All (IsDrawn h) (glyphs_of (glyphs ++ one ∷ []))
-drawn_push h glyphs one all here = subst (λ (flats : List FlatGlyph). All (IsDrawn h) flats)
-    (sym (map-append arc_value glyphs (one ∷ [])))
-    (All-push (IsDrawn h) (glyphs_of glyphs) (arc_value one) all here)
-
--- ---- the made `.notdef`
-
-pub made_notdef_drawn : (h : Header) (glyph : FlatGlyph) → glyph ≡ made_notdef_of h
-    → IsFlatGlyph glyph → IsDrawn h glyph
-made_notdef_drawn h glyph made flat = record {
-  flat = flat;
-  simple = ap (λ (g : FlatGlyph). g.kept) made;
-  places = ap (λ (g : FlatGlyph). g.places) made;
-}

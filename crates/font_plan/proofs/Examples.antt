@@ -15,7 +15,7 @@ use Rattle.refusal_codes.specs.declared.rule.Rule.TheVariants.{OutOfRange, Dupli
 use Rattle.refusal_codes.specs.declared.rule.Rule.TheVariants.{WrongVersion, NoMaster, AxisCount}
 use Rattle.refusal_codes.specs.declared.rule.Rule.TheVariants.{MissingLayer, CubicNode, OpenContour}
 use Rattle.refusal_codes.specs.declared.rule.Rule.TheVariants.{CoordinateTooLarge, DuplicateUnicode}
-use Rattle.font_plan.specs.Direct.{direct_font}
+use Rattle.font_plan.specs.Font.{font_of}
 use Rattle.font_plan.proofs.OnLiterals.{font_on_literals}
 
 abbrev lines : List (List ℕ) → List ℕ
@@ -114,7 +114,7 @@ triangle_font =
 -- zero. With keys that mean nothing here, a fourth value in a node and a layer of no master. With a
 -- `.notdef` behind the letter that is as the made one, and is exported whatever it says of that.
 -- And with a glyph that isn't exported, whose contour may be any.
-pub accepted : map direct_font (
+pub accepted : map font_of (
     triangle_source
     ∷ take 258 triangle_source
     ∷ thousand (letter_with (codes "1") (codes "(500.0,0,l)") (codes "(250,700,l)")
@@ -133,7 +133,7 @@ accepted = refl
 
 -- rows of a source and of what becomes of it
 abbrev are_fonts : List (List ℕ × Result (List ℕ) Refusal) → Type 0
-are_fonts rows = map (λ row. direct_font row.0) rows ≡ map (λ row. row.1) rows
+are_fonts rows = map (λ row. font_of row.0) rows ≡ map (λ row. row.1) rows
 
 abbrev refused : Job → List ℕ → Rule → ℕ → Result (List ℕ) Refusal
 refused job name rule place = Err (refusal_of job name (record { rule = rule; place = place }))
@@ -238,8 +238,35 @@ unfolding font_on_literals
 glyphs_refused = refl
 
 -- the greatest coordinate
-pub greatest_accepted : is_ok (direct_font (thousand
+pub greatest_accepted : is_ok (font_of (thousand
     (letter_with (codes "1") (codes "(16383,0,l)") (codes "(250,700,l)")
     (codes "width = 500;" ∷ [])))) ≡ true
 unfolding font_on_literals
 greatest_accepted = refl
+
+-- ---- of two failures the least is told
+
+-- the letter behind a glyph "B" with a cubic node, and itself with an open contour: the lesser name
+abbrev both_glyphs : List ℕ
+both_glyphs = thousand (glyph (codes "B") (codes "1") (codes "(500,0,l)") (codes "(250,700,c)")
+    (codes "width = 500;" ∷ []) (codes "unicode = 66;") ++ codes ","
+    ∷ letter_with (codes "0") (codes "(500,0,l)") (codes "(250,700,l)")
+    (codes "width = 500;" ∷ []))
+
+-- an em of 15 units, and a name that stands twice: the header. A code that stands twice, and a
+-- cubic node: the index. Two glyphs, of which the second has the lesser name: that one, although it
+-- stands behind the other.
+pub least_told : are_fonts ((
+  source (behind_letter (triangle (codes "A") (codes "unicode = 66;")))
+      (codes "unitsPerEm = 15;" ∷ []),
+  refused HEADER [] OutOfRange 406,
+)
+    ∷ (
+      thousand (letter_with (codes "1") (codes "(500,0,l)") (codes "(250,700,c)")
+          (codes "width = 500;" ∷ []) ++ codes "," ∷ triangle (codes "B") (codes "unicode = 65;")),
+      refused INDEX [] DuplicateUnicode 237,
+    )
+    ∷ (both_glyphs, of_letter OpenContour 292)
+    ∷ [])
+unfolding font_on_literals
+least_told = refl

@@ -1,5 +1,11 @@
 pub mod AcceptedLaws
+pub mod DirectMade
 pub mod DrawnLaws
+pub mod Examples
+pub mod Faces
+pub mod FacesGlyphs
+pub mod FacesTables
+pub mod FontLaws
 pub mod Found
 pub mod Judgement
 pub mod Loops
@@ -9,7 +15,5 @@ pub mod OnLiterals
 pub mod Orders
 pub mod Runs
 pub mod Steps
-pub mod TableLaws
 pub mod Tabled
 pub mod TooLarge
-pub mod Examples

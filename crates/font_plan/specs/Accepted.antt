@@ -1,6 +1,7 @@
 -- What it means that a source has a font: the grammar of property lists gives it a tree, each of
 -- its parts is read, the limits are kept, and the font is the file of their tables. fontc's own.
 use Rattle.std.specs.Prelude.{◌≡◌, ◌≤◌, ℕ, List, length, None, Ok}
+use Rattle.refusal_codes.specs.declared.refusal.Refusal.{Refusal}
 use Rattle.refusal_codes.specs.declared.limits.TheConstants.{SOURCE_BYTES, GLYPHS, TABLE_BYTES}
 use Rattle.plist_reader.specs.declared.tree.Tree.{Tree}
 use Rattle.plist_reader.specs.Grammar.{HasTree}
@@ -10,7 +11,9 @@ use Rattle.glyphs_source.specs.HeaderReading.{header_of}
 use Rattle.glyphs_source.specs.IndexReading.{index_of}
 use Rattle.glyf_writer.specs.Tables as outlines
 use Rattle.font_assembly.specs.File.{file, file_len}
+use Rattle.font_graph.specs.Fails.{IsLeastFailure}
 use Rattle.font_plan.specs.Direct.{Entry, glyphs_in, parts_of, tables_of}
+use Rattle.font_plan.specs.Jobs.{parts}
 
 pub record IsFontOf (source font : List ℕ) : Type 0 where
   pub tree : Tree
@@ -26,3 +29,7 @@ pub record IsFontOf (source font : List ℕ) : Type 0 where
   pub tables_fit : outlines.too_large (parts_of header glyphs) ≡ None
   pub file_fits : file_len (tables_of header glyphs) ≤ TABLE_BYTES
   pub is_file : font ≡ file (tables_of header glyphs)
+
+-- some job of a source fails by this refusal, and none by a lesser one
+abbrev pub IsRefusedBy : List ℕ → Refusal → Type 0
+IsRefusedBy source r = IsLeastFailure (parts source) r

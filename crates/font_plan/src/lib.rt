@@ -8,6 +8,7 @@ mod font_reads;
 mod glyph_jobs;
 mod items;
 mod known;
+mod laws;
 mod order;
 mod outcomes;
 mod plan;
@@ -19,6 +20,10 @@ mod telling;
 pub use compile::{Built, compile_one};
 pub use items::{DrawnGlyph, Item};
 pub use known::{Fact, Known};
+pub use laws::{
+    a_refused_text_refuses_its_source, a_source_is_accepted_with_its_parts,
+    a_source_is_refused_by_its_least_failure, jobs_make_the_direct_font,
+};
 pub use plan::FontPlan;
 pub use source_jobs::source_too_large;
 pub use telling::verdict;

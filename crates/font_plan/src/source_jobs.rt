@@ -1,6 +1,6 @@
 //! The jobs of the whole source: its property list, its header and its index of glyphs.
 
-ghost use Rattle.std.specs.Prelude.{◌≡◌, [], Ok, IfOk};
+ghost use Rattle.std.specs.Prelude.{◌≡◌, ◌<◌, ℕ, List, [], length, Ok, Err, IfOk};
 ghost use Rattle.refusal_codes.specs.Gives.{Gives};
 ghost use Rattle.refusal_codes.specs.declared.limits.TheConstants.{SOURCE_BYTES};
 ghost use Rattle.plist_reader.specs.Tree.{IsTree};
@@ -10,6 +10,7 @@ ghost use Rattle.font_graph.specs.Graph.{after_index};
 ghost use Rattle.font_graph.specs.Same.{same_id};
 ghost use Rattle.font_graph.specs.declared.items.Item.TheVariants as an;
 ghost use Rattle.font_plan.specs.Direct.{source_too_large};
+ghost use Rattle.font_plan.specs.Font.{font_of};
 ghost use Rattle.font_plan.specs.Jobs.{parts, tree_of, numbers_in};
 ghost use Rattle.font_plan.specs.Known.{IsIndex};
 ghost use Rattle.font_plan.specs.Settling.{Comes, made_by, none};
@@ -27,8 +28,11 @@ use refusal_codes::{Failure, NoMemory, ReadError, Refusal, Rule, job};
 use std::alloc::Global;
 
 /// The refusal of a source that has more than 67,108,864 bytes. It takes no memory.
+#[tactic(auto, using(crate::proofs::TooLarge::too_large_refused))]
 pub fn source_too_large(alloc: Global) -> Refusal
-    ensures { result ≡ source_too_large }
+    ensures refusal { result ≡ source_too_large }
+    ensures refuses { (source : List ℕ) → SOURCE_BYTES < length source
+        → font_of source ≡ Err result }
 {
     let failure = Failure {
         rule: Rule::TooLarge,

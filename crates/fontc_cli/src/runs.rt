@@ -1,7 +1,8 @@
-ghost use Rattle.std.specs.Prelude.{◌≡◌, ◌≤◌, map, length, IfSome, Ok};
+ghost use Rattle.std.specs.Prelude.{◌≡◌, ◌≤◌, map, length, IfSome, Some, Ok};
 ghost use Rattle.std.specs.String.{string_bytes};
 ghost use Rattle.outside_io.specs.Files.{told_bytes};
 ghost use Rattle.refusal_codes.specs.declared.limits.TheConstants.{SOURCE_BYTES};
+ghost use Rattle.fontc_cli.specs.Boards.{HasBoard, MayBegin};
 ghost use Rattle.fontc_cli.specs.Commands.{command_of};
 ghost use Rattle.fontc_cli.specs.Runs.{BuildEnds, RunEnds, IsComplete, HoldsFontOf, Between};
 ghost use Rattle.fontc_cli.specs.Statuses.{ExitsBy};
@@ -41,6 +42,9 @@ pub fn run<F: Files, C: Console, G: Gate + Sync>(
     ensures complete { Between (IsComplete (command_of (map string_bytes words.now)) result.status)
         F.holds F.failed_reads F.failed_writes C.took C.failed_writes files.old files.new
         console.old console.new }
+    ensures board { Between (HasBoard (command_of (map string_bytes words.now)) result.status
+        result.board) F.holds F.failed_reads F.failed_writes C.took C.failed_writes files.old
+        files.new console.old console.new }
 {
     run_alone(alloc, words, files, console)
 }
@@ -79,9 +83,11 @@ pub fn run_alone<F: Files, C: Console>(
     ensures complete { Between (IsComplete (command_of (map string_bytes words.now)) result.status)
         F.holds F.failed_reads F.failed_writes C.took C.failed_writes files.old files.new
         console.old console.new }
+    ensures board { Between (HasBoard (command_of (map string_bytes words.now)) result.status
+        result.board) F.holds F.failed_reads F.failed_writes C.took C.failed_writes files.old
+        files.new console.old console.new }
 {
-    let status = run_words(alloc, words, files, console);
-    Report { status }
+    run_words(alloc, words, files, console)
 }
 
 /// Runs the command that the words are, and answers how that ended.
@@ -90,15 +96,18 @@ fn run_words<F: Files, C: Console>(
     words: &[String],
     files: &mut F,
     console: &mut C,
-) -> Status
-    ensures { Between (RunEnds (command_of (map string_bytes words.now)) result)
+) -> Report
+    ensures ends { Between (RunEnds (command_of (map string_bytes words.now)) result.status)
         F.holds F.failed_reads F.failed_writes C.took C.failed_writes files.old files.new
         console.old console.new }
+    ensures board { Between (HasBoard (command_of (map string_bytes words.now)) result.status
+        result.board) F.holds F.failed_reads F.failed_writes C.took C.failed_writes files.old
+        files.new console.old console.new }
 {
     match read_command(words) {
         None => {
             tell(console, USAGE);
-            Status::Usage
+            Report::of(Status::Usage)
         }
         Some(command) => build(alloc, command, files, console),
     }
@@ -110,18 +119,23 @@ fn build<F: Files, C: Console>(
     command: BuildCommand<'_>,
     files: &mut F,
     console: &mut C,
-) -> Status
-    ensures { Between (BuildEnds (shown command.entry) result) F.holds F.failed_reads
+) -> Report
+    ensures ends { Between (BuildEnds (shown command.entry) result.status) F.holds F.failed_reads
         F.failed_writes C.took C.failed_writes files.old files.new console.old console.new }
+    ensures board { Between (HasBoard (Some (shown command.entry)) result.status result.board)
+        F.holds F.failed_reads F.failed_writes C.took C.failed_writes files.old files.new
+        console.old console.new }
 {
     match read_whole(alloc, files, command.source, SOURCE_BYTES) {
         Ok(source) => build_source(alloc, command, files, console, source.as_slice()),
-        Err(ReadWholeError::TooLong) => refuse(alloc, console, source_too_large(alloc)),
+        Err(ReadWholeError::TooLong) => {
+            Report::of(refuse(alloc, console, source_too_large(alloc)))
+        }
         Err(ReadWholeError::Failed) => {
             tell(console, READ_FAULT);
-            Status::ReadFault
+            Report::of(Status::ReadFault)
         }
-        Err(ReadWholeError::NoMemory) => Status::NoMemory,
+        Err(ReadWholeError::NoMemory) => Report::of(Status::NoMemory),
     }
 }
 
@@ -132,17 +146,23 @@ fn build_source<F: Files, C: Console>(
     files: &mut F,
     console: &mut C,
     source: &[u8],
-) -> Status
+) -> Report
     requires fits { length source.now ≤ SOURCE_BYTES }
     requires read { IfSome (told_bytes (F.holds files.old command.source.now))
         (λ bytes. source.now ≡ bytes) }
-    ensures { Between (BuildEnds (shown command.entry) result) F.holds F.failed_reads
+    ensures ends { Between (BuildEnds (shown command.entry) result.status) F.holds F.failed_reads
         F.failed_writes C.took C.failed_writes files.old files.new console.old console.new }
+    ensures board { Between (HasBoard (Some (shown command.entry)) result.status result.board)
+        F.holds F.failed_reads F.failed_writes C.took C.failed_writes files.old files.new
+        console.old console.new }
 {
     match compile_one(alloc, source) {
-        Ok(built) => write_font(alloc, command, files, console, built.font.as_slice()),
-        Err(CompileError::Refused(refusal)) => refuse(alloc, console, refusal),
-        Err(CompileError::NoMemory) => Status::NoMemory,
+        Ok(built) => {
+            let status = write_font(alloc, command, files, console, built.font.as_slice());
+            Report::with_board(status, built.board)
+        }
+        Err(CompileError::Refused(refusal)) => Report::of(refuse(alloc, console, refusal)),
+        Err(CompileError::NoMemory) => Report::of(Status::NoMemory),
     }
 }
 
@@ -155,8 +175,10 @@ fn write_font<F: Files, C: Console>(
     font: &[u8],
 ) -> Status
     requires { HoldsFontOf (F.holds files.old command.source.now) font.now }
-    ensures { Between (BuildEnds (shown command.entry) result) F.holds F.failed_reads
+    ensures ends { Between (BuildEnds (shown command.entry) result) F.holds F.failed_reads
         F.failed_writes C.took C.failed_writes files.old files.new console.old console.new }
+    ensures begun { MayBegin result font.now (F.holds files.old (shown command.entry).output)
+        (F.holds files.new (shown command.entry).output) }
 {
     let Ok(line) = wrote_line(alloc, font.len()) else {
         return Status::NoMemory;

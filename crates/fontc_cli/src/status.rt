@@ -1,8 +1,11 @@
-ghost use Rattle.std.specs.Prelude.{◌≡◌};
+ghost use Rattle.std.specs.Prelude.{◌≡◌, None};
 ghost use Rattle.std.specs.Process.{exit_status};
+ghost use Rattle.fontc_cli.specs.Boards.{kept_board};
 ghost use Rattle.fontc_cli.specs.Statuses.{exit_code};
 
+use font_plan::FontPlan;
 use font_reader::FontFault;
+use job_graph::Board;
 use refusal_codes::Refusal;
 use std::process::ExitCode;
 
@@ -54,7 +57,36 @@ impl Status {
 }
 
 /// What a run answers.
-#[derive(Debug, Drop)]
+#[derive(Drop)]
 pub struct Report {
+    /// How the run ended.
     pub status: Status,
+    /// The board of the compilation whose font was begun to be written.
+    pub board: Option<Board<FontPlan>>,
+}
+
+impl Report {
+    /// The report of a run in which no font was begun. It takes no memory.
+    pub(crate) fn of(status: Status) -> Report
+        ensures { result ≡ record { status = status; board = None } }
+    {
+        Report {
+            status,
+            board: None,
+        }
+    }
+
+    /// The report of a run in which this board's font was begun, unless memory ran out before.
+    pub(crate) fn with_board(status: Status, board: Board<FontPlan>) -> Report
+        ensures status { result.status ≡ status }
+        ensures board { result.board ≡ kept_board status board }
+    {
+        match status {
+            Status::NoMemory => Report::of(Status::NoMemory),
+            status => Report {
+                status,
+                board: Some(board),
+            },
+        }
+    }
 }

@@ -18,7 +18,7 @@ returns-in-Err-TooLong g c = refused_ends _ c.source_too_large.result c.refuse.r
       reads = c.in-Err-TooLong.ensures.reads_ok (λ e. absurd cc);
       writes = c.in-Err-TooLong.ensures.writes;
     })
-    (refused_if_told _ c.source_too_large.result c.source_too_large.ensures
+    (refused_if_told _ c.source_too_large.result c.source_too_large.ensures.refuses
     (c.in-Err-TooLong.ensures.too_long search))
     c.refuse.ensures
 

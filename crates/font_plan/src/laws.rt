@@ -1,0 +1,50 @@
+//! What becomes of a source, in words that know no jobs.
+
+ghost use Rattle.std.specs.Prelude.{◌≡◌, ℕ, ◌<◌, ◌≤◌, List, length, Ok, Err};
+ghost use Rattle.refusal_codes.specs.declared.limits.TheConstants.{SOURCE_BYTES};
+ghost use Rattle.refusal_codes.specs.declared.refusal.Refusal.{Refusal};
+ghost use Rattle.plist_reader.specs.Refusals.{IsRefusal};
+ghost use Rattle.font_plan.specs.Accepted.{IsFontOf, IsRefusedBy};
+ghost use Rattle.font_plan.specs.Direct.{direct_font, source_too_large};
+ghost use Rattle.font_plan.specs.Font.{font_of};
+
+use plist_reader::sources_have_one_answer;
+
+/// The jobs of a source make its font exactly where it is defined without them, each part of those
+/// before it in the order of the text, and make the same.
+pub fn jobs_make_the_direct_font()
+    ensures direct { (source font : List ℕ) → font_of source ≡ Ok font
+        → direct_font source ≡ Ok font }
+    ensures made { (source font : List ℕ) → direct_font source ≡ Ok font
+        → font_of source ≡ Ok font }
+{}
+
+/// A source is accepted exactly where the grammar gives it a tree, each of its parts is read, and
+/// its glyphs, its tables and its font keep their limits; its font is then the file of the tables
+/// of its glyphs.
+pub fn a_source_is_accepted_with_its_parts()
+    ensures parts { (source font : List ℕ) → font_of source ≡ Ok font → IsFontOf source font }
+    ensures accepted { (source font : List ℕ) → IsFontOf source font → font_of source ≡ Ok font }
+{
+    sources_have_one_answer();
+}
+
+/// A source is refused exactly where one of its jobs fails by a rule, and then by the least of all
+/// refusals by which its jobs fail: there is one such refusal, whatever order they are run in.
+pub fn a_source_is_refused_by_its_least_failure()
+    ensures least { (source : List ℕ) (r : Refusal) → font_of source ≡ Err r
+        → IsRefusedBy source r }
+    ensures refused { (source : List ℕ) (r : Refusal) → IsRefusedBy source r
+        → font_of source ≡ Err r }
+{}
+
+/// A source that is too long is refused for that, and another whose text has no tree by the first
+/// rule that its text fails: nothing else is asked of either.
+pub fn a_refused_text_refuses_its_source()
+    ensures long { (source : List ℕ) → SOURCE_BYTES < length source
+        → font_of source ≡ Err source_too_large }
+    ensures text { (source : List ℕ) (r : Refusal) → length source ≤ SOURCE_BYTES
+        → IsRefusal source r → font_of source ≡ Err r }
+{
+    sources_have_one_answer();
+}
