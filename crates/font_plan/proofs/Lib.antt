@@ -11,6 +11,7 @@ pub mod Judgement
 pub mod Loops
 pub mod Made
 pub mod Names
+pub mod NoFailure
 pub mod OnLiterals
 pub mod Orders
 pub mod Runs

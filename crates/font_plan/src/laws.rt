@@ -1,17 +1,20 @@
-//! What becomes of a source, in words that know no jobs.
+//! What becomes of a source: by its parts, and by the rules that its jobs fail.
 
 ghost use Rattle.std.specs.Prelude.{◌≡◌, ℕ, ◌<◌, ◌≤◌, List, length, Ok, Err};
 ghost use Rattle.refusal_codes.specs.declared.limits.TheConstants.{SOURCE_BYTES};
 ghost use Rattle.refusal_codes.specs.declared.refusal.Refusal.{Refusal};
 ghost use Rattle.plist_reader.specs.Refusals.{IsRefusal};
+ghost use Rattle.font_graph.specs.Fails.{Fails};
+ghost use Rattle.font_graph.specs.declared.ids.JobId.{JobId};
 ghost use Rattle.font_plan.specs.Accepted.{IsFontOf, IsRefusedBy};
 ghost use Rattle.font_plan.specs.Direct.{direct_font, source_too_large};
 ghost use Rattle.font_plan.specs.Font.{font_of};
+ghost use Rattle.font_plan.specs.Jobs.{parts};
 
 use plist_reader::sources_have_one_answer;
 
-/// The jobs of a source make its font exactly where it is defined without them, each part of those
-/// before it in the order of the text, and make the same.
+/// The jobs of a source make a font exactly where its definition without jobs gives one, which makes
+/// each part of those that it needs, one after the other; and it is the same font.
 pub fn jobs_make_the_direct_font()
     ensures direct { (source font : List ℕ) → font_of source ≡ Ok font
         → direct_font source ≡ Ok font }
@@ -29,8 +32,17 @@ pub fn a_source_is_accepted_with_its_parts()
     sources_have_one_answer();
 }
 
-/// A source is refused exactly where one of its jobs fails by a rule, and then by the least of all
-/// refusals by which its jobs fail: there is one such refusal, whatever order they are run in.
+/// A source is accepted exactly where none of its jobs fails by a rule.
+pub fn a_source_is_accepted_where_nothing_fails()
+    ensures accepted { (source font : List ℕ) → font_of source ≡ Ok font → (id : JobId)
+        (r : Refusal) → Fails (parts source) id r → ⊥ }
+    ensures unfailed { (source : List ℕ)
+        → ((id : JobId) (r : Refusal) → Fails (parts source) id r → ⊥)
+        → (font : List ℕ) × (font_of source ≡ Ok font) }
+{}
+
+/// A source is refused by the least of all refusals by which its jobs fail, and by no other one,
+/// whatever order they are run in.
 pub fn a_source_is_refused_by_its_least_failure()
     ensures least { (source : List ℕ) (r : Refusal) → font_of source ≡ Err r
         → IsRefusedBy source r }
