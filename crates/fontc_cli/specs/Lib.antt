@@ -1,3 +1,4 @@
+pub mod Asked
 pub mod Boards
 pub mod Commands
 pub mod Lines

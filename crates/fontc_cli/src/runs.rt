@@ -1,8 +1,10 @@
 ghost use Rattle.std.specs.Prelude.{◌≡◌, ◌≤◌, map, length, IfSome, Some, Ok};
 ghost use Rattle.std.specs.String.{string_bytes};
 ghost use Rattle.outside_io.specs.Files.{told_bytes};
+ghost use Rattle.whole_files.specs.Requests.{Since};
 ghost use Rattle.refusal_codes.specs.declared.limits.TheConstants.{SOURCE_BYTES};
 ghost use Rattle.fontc_cli.specs.Boards.{HasBoard, MayBegin};
+ghost use Rattle.fontc_cli.specs.Asked.{WritingAsks, BuildAsks, RunAsks};
 ghost use Rattle.fontc_cli.specs.Commands.{command_of};
 ghost use Rattle.fontc_cli.specs.Runs.{BuildEnds, RunEnds, IsComplete, HoldsFontOf, Between};
 ghost use Rattle.fontc_cli.specs.Statuses.{ExitsBy};
@@ -23,8 +25,9 @@ use whole_files::{ReadWholeError, print_whole, read_whole, write_whole};
 ///
 /// The words are those behind the program's name: `build IN OUT`. The report says how the run
 /// ended: the font of what IN held stands in OUT; or the words are no command, the source is
-/// refused, a read of IN or a write of OUT failed, or memory ran out. Only a font that is whole in
-/// memory, with the line that tells of it, is begun to be written.
+/// refused, a read of IN or a write of OUT failed, or memory ran out. Files are asked for reads of IN
+/// first. OUT is begun once the whole font and the line that tells of it stand in memory, and then
+/// all that is left of the font is offered to it, until it stands there or a write fails.
 ///
 /// The console takes one line, which says the same; where memory ran out it takes none. A console
 /// that fails takes first bytes of it, and changes how the run ended only where it would else be
@@ -45,6 +48,8 @@ pub fn run<F: Files, C: Console, G: Gate + Sync>(
     ensures board { Between (HasBoard (command_of (map string_bytes words.now)) result.status
         result.board) F.holds F.failed_reads F.failed_writes C.took C.failed_writes files.old
         files.new console.old console.new }
+    ensures asked { Since (RunAsks (command_of (map string_bytes words.now)) result.status)
+        (F.calls files.old) (F.calls files.new) }
 {
     run_alone(alloc, words, files, console)
 }
@@ -66,6 +71,9 @@ pub fn run_program<F: Files, C: Console, G: Gate + Sync>(
         (IsComplete (command_of (map string_bytes words.now)) status)
         F.holds F.failed_reads F.failed_writes C.took C.failed_writes files.old files.new
         console.old console.new) result }
+    ensures asked { ExitsBy (λ status. Since
+        (RunAsks (command_of (map string_bytes words.now)) status)
+        (F.calls files.old) (F.calls files.new)) result }
 {
     run(alloc, words, files, console, gate).status.exit()
 }
@@ -86,6 +94,8 @@ pub fn run_alone<F: Files, C: Console>(
     ensures board { Between (HasBoard (command_of (map string_bytes words.now)) result.status
         result.board) F.holds F.failed_reads F.failed_writes C.took C.failed_writes files.old
         files.new console.old console.new }
+    ensures asked { Since (RunAsks (command_of (map string_bytes words.now)) result.status)
+        (F.calls files.old) (F.calls files.new) }
 {
     run_words(alloc, words, files, console)
 }
@@ -103,6 +113,8 @@ fn run_words<F: Files, C: Console>(
     ensures board { Between (HasBoard (command_of (map string_bytes words.now)) result.status
         result.board) F.holds F.failed_reads F.failed_writes C.took C.failed_writes files.old
         files.new console.old console.new }
+    ensures asked { Since (RunAsks (command_of (map string_bytes words.now)) result.status)
+        (F.calls files.old) (F.calls files.new) }
 {
     match read_command(words) {
         None => {
@@ -125,6 +137,8 @@ fn build<F: Files, C: Console>(
     ensures board { Between (HasBoard (Some (shown command.entry)) result.status result.board)
         F.holds F.failed_reads F.failed_writes C.took C.failed_writes files.old files.new
         console.old console.new }
+    ensures asked { Since (BuildAsks (shown command.entry) result.status)
+        (F.calls files.old) (F.calls files.new) }
 {
     match read_whole(alloc, files, command.source, SOURCE_BYTES) {
         Ok(source) => build_source(alloc, command, files, console, source.as_slice()),
@@ -155,6 +169,8 @@ fn build_source<F: Files, C: Console>(
     ensures board { Between (HasBoard (Some (shown command.entry)) result.status result.board)
         F.holds F.failed_reads F.failed_writes C.took C.failed_writes files.old files.new
         console.old console.new }
+    ensures asked { Since (WritingAsks command.entry.output.now result.status)
+        (F.calls files.old) (F.calls files.new) }
 {
     match compile_one(alloc, source) {
         Ok(built) => {
@@ -179,6 +195,8 @@ fn write_font<F: Files, C: Console>(
         F.failed_writes C.took C.failed_writes files.old files.new console.old console.new }
     ensures begun { MayBegin result font.now (F.holds files.old (shown command.entry).output)
         (F.holds files.new (shown command.entry).output) }
+    ensures asked { Since (WritingAsks command.entry.output.now result)
+        (F.calls files.old) (F.calls files.new) }
 {
     let Ok(line) = wrote_line(alloc, font.len()) else {
         return Status::NoMemory;

@@ -6,3 +6,6 @@ returns-clause-ends g c = (c.run.result.status, c.run.ensures.ends, c.exit.ensur
 
 pub returns-clause-complete : goal.returns-clause-complete
 returns-clause-complete g c = (c.run.result.status, c.run.ensures.complete, c.exit.ensures)
+
+pub returns-clause-asked : goal.returns-clause-asked
+returns-clause-asked g c = (c.run.result.status, c.run.ensures.asked, c.exit.ensures)
