@@ -1,8 +1,8 @@
 -- reading changes nothing, and a source that is too long is refused for that
 use Rattle.std.proofs.Common.{◌≡◌, ℕ, ◌<◌, List, length, Option, Some, None, IfSome, Result, Ok, Err}
 use Rattle.std.proofs.Common.{refl}
-use Rattle.whole_files.specs.declared.read.ReadWholeError.{ReadWholeError}
-use Rattle.whole_files.specs.declared.read.ReadWholeError.TheVariants.{TooLong, Failed}
+use Rattle.whole_files.specs.declared.ReadWholeError.{ReadWholeError}
+use Rattle.whole_files.specs.declared.ReadWholeError.TheVariants.{TooLong, Failed}
 use Rattle.refusal_codes.specs.declared.refusal.Refusal.{Refusal}
 use Rattle.font_plan.specs.Font.{font_of}
 use Rattle.fontc_cli.proofs.BoardLaws.{board_after, none_told}
