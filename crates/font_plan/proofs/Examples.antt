@@ -15,7 +15,9 @@ use Rattle.refusal_codes.specs.declared.rule.Rule.TheVariants.{OutOfRange, Dupli
 use Rattle.refusal_codes.specs.declared.rule.Rule.TheVariants.{WrongVersion, NoMaster, AxisCount}
 use Rattle.refusal_codes.specs.declared.rule.Rule.TheVariants.{MissingLayer, CubicNode, OpenContour}
 use Rattle.refusal_codes.specs.declared.rule.Rule.TheVariants.{CoordinateTooLarge, DuplicateUnicode}
+use Rattle.font_plan.specs.Direct.{direct_font}
 use Rattle.font_plan.specs.Font.{font_of}
+use Rattle.font_plan.proofs.FontLaws.{all_made}
 use Rattle.font_plan.proofs.OnLiterals.{font_on_literals}
 
 abbrev lines : List (List ℕ) → List ℕ
@@ -114,7 +116,8 @@ triangle_font =
 -- zero. With keys that mean nothing here, a fourth value in a node and a layer of no master. With a
 -- `.notdef` behind the letter that is as the made one, and is exported whatever it says of that.
 -- And with a glyph that isn't exported, whose contour may be any.
-pub accepted : map font_of (
+abbrev worked : List (List ℕ)
+worked =
     triangle_source
     ∷ take 258 triangle_source
     ∷ thousand (letter_with (codes "1") (codes "(500.0,0,l)") (codes "(250,700,l)")
@@ -127,9 +130,15 @@ pub accepted : map font_of (
     ∷ thousand (behind_letter (own_notdef (codes "export = 0;")))
     ∷ thousand (behind_letter (glyph (codes "B") (codes "1") (codes "(500,0,l)")
     (codes "(250,700,c)") (codes "width = 900;" ∷ []) (codes "export = 0;")))
-    ∷ []) ≡ replicate 7 (Ok triangle_font)
+    ∷ []
+
+defined : map direct_font worked ≡ replicate 7 (Ok triangle_font)
 unfolding font_on_literals
-accepted = refl
+defined = refl
+
+-- all of them have this font, which their jobs make as it is defined
+pub accepted : map font_of worked ≡ replicate 7 (Ok triangle_font)
+accepted = all_made triangle_font worked defined
 
 -- rows of a source and of what becomes of it
 abbrev are_fonts : List (List ℕ × Result (List ℕ) Refusal) → Type 0
@@ -270,3 +279,8 @@ pub least_told : are_fonts ((
     ∷ [])
 unfolding font_on_literals
 least_told = refl
+
+-- while the direct definition stops at the first that it meets
+pub first_met : direct_font both_glyphs ≡ refused RAW (codes "B") CubicNode 181
+unfolding font_on_literals
+first_met = refl

@@ -1,6 +1,7 @@
 -- What becomes of a source by the verdict of its jobs: the font that is defined directly, or the
 -- least refusal.
-use Rattle.std.proofs.Common.{◌≡◌, ℕ, List, Ok, Err, inl, refl}
+use Rattle.std.proofs.Common.{◌≡◌, ℕ, List, [], ◌∷◌, map, replicate, length, Ok, Err, inl, refl}
+use Rattle.std.proofs.Common.{ap, ◌∙◌}
 use Rattle.std.specs.Prelude.{codes}
 use Rattle.refusal_codes.specs.declared.refusal.Refusal.{Refusal}
 use Rattle.font_ir.specs.declared.tag.Tag.{Tag}
@@ -22,6 +23,17 @@ pub direct_is_font : (source font : List ℕ) → direct_font source ≡ Ok font
 unfolding font_of
 direct_is_font source font e =
     (verdict_accepts (parts source) font).1 (direct_graph source font e)
+
+-- sources that all have one font
+pub all_made : (font : List ℕ) (sources : List (List ℕ))
+    → map direct_font sources ≡ replicate (length sources) (Ok font)
+    → map font_of sources ≡ replicate (length sources) (Ok font)
+all_made font [] e = refl
+all_made font (source ∷ sources) e =
+    let first : direct_font source ≡ Ok font = cc in
+    let others : map direct_font sources ≡ replicate (length sources) (Ok font) = cc in
+    ap (λ r. r ∷ map font_of sources) (direct_is_font source font first)
+    ∙ ap (λ rs. Ok font ∷ rs) (all_made font sources others)
 
 -- the font has a table
 abbrev glyf_tag : Tag
