@@ -5,4 +5,5 @@ mod Sizes
 mod PeakSteps
 mod GlyphSteps
 mod PointLaws
+mod TableSteps
 mod Examples

@@ -3,7 +3,8 @@ use Rattle.std.proofs.Common.{◌≡◌, ℕ, suc, ◌+◌, ◌<◌, ◌≤◌, 
 use Rattle.std.proofs.Common.{List, [], ◌∷◌, ◌++◌, length, map, get_or, take, drop, refl, ap, sym}
 use Rattle.std.proofs.Common.{◌∙◌, arith, append_assoc}
 use Rattle.std.specs.List.{items_where_true, zip}
-use Rattle.std.proofs.lemmas.List.{drop_more, length-append, length-map, length-take-le, length-drop}
+use Rattle.std.proofs.lemmas.List.{drop_more, length-append, length-map, length-take-le}
+use Rattle.std.proofs.lemmas.List.{length-drop}
 use Rattle.std.proofs.lemmas.List.Sums.{sum_by-cons}
 use Rattle.delta_infer.specs.declared.moved.MovedPoint.{MovedPoint}
 use Rattle.delta_infer.specs.Moved.{moved_points}

@@ -1,5 +1,6 @@
 -- Peaks are compared axis by axis.
-use Rattle.std.proofs.Common.{◌≡◌, ◌≢◌, false, List, [], ◌∷◌, length, refl, ap, ◌∙◌, arith, ◌&&◌, Bool, true}
+use Rattle.std.proofs.Common.{◌≡◌, ◌≢◌, false, List, [], ◌∷◌, length, refl, ap, ◌∙◌, arith, ◌&&◌}
+use Rattle.std.proofs.Common.{Bool, true}
 use Rattle.std.specs.Ordering.{int_eq}
 use Rattle.gvar_writer.specs.TupleHeaders.{Side, same_peaks}
 

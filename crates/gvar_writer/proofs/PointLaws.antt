@@ -1,5 +1,6 @@
 -- How many points a glyph has at each of its places.
-use Rattle.std.proofs.Common.{◌≡◌, ℕ, zero, suc, ◌+◌, ◌<◌, ◌≤◌, ℤ, Bool, true, false, cond, List, []}
+use Rattle.std.proofs.Common.{◌≡◌, ℕ, zero, suc, ◌+◌, ◌<◌, ◌≤◌, ℤ, Bool, true, false, cond, List}
+use Rattle.std.proofs.Common.{[]}
 use Rattle.std.proofs.Common.{◌∷◌, ◌++◌, length, map, get_or, refl, ap, sym, ◌∙◌, arith, pos}
 use Rattle.std.proofs.Common.{Option, None, Vec, Global, subst}
 use Rattle.std.proofs.lemmas.List.{length-append, length-map, length-drop}

@@ -50,7 +50,8 @@ short_runs {A} flags most bytes run (x ∷ xs) short =
         → length (flat_map (run_bytes flags bytes) (runs_after flags most (x ∷ []) xs))
         ≤ 3 * (1 + length xs)
         → length (flat_map (run_bytes flags bytes)
-        (cond b (runs_after flags most (run ++ x ∷ []) xs) (run ∷ runs_after flags most (x ∷ []) xs)))
+        (cond b (runs_after flags most (run ++ x ∷ []) xs)
+        (run ∷ runs_after flags most (x ∷ []) xs)))
         ≤ 3 * (length run + length (x ∷ xs))
     by true longer next = omega (arith, longer, length-append run (x ∷ []))
     by false longer next = omega (

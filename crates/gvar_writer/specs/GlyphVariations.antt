@@ -1,6 +1,7 @@
 -- The variation data of a glyph (OpenType 1.9, "gvar", "Glyph variation data"): a tuple for each
 -- region in which a point moves.
-use Rattle.std.specs.Prelude.{◌≡◌, ℕ, ◌+◌, ◌||◌, Bool, if◌then◌else◌, ℤ, List, [], ◌∷◌, ◌++◌, length}
+use Rattle.std.specs.Prelude.{◌≡◌, ℕ, ◌+◌, ◌||◌, Bool, if◌then◌else◌, ℤ, List, [], ◌∷◌, ◌++◌}
+use Rattle.std.specs.Prelude.{length}
 use Rattle.std.specs.Prelude.{map, drop, None, Result, Ok, Err, Vec}
 use Rattle.std.specs.List.{flat_map, list_any, zip}
 use Rattle.std.specs.declared.alloc.Global.{Global}

@@ -17,8 +17,11 @@ offsets_from offset (part ∷ parts) = offset ∷ offsets_from (offset + length 
 abbrev pub offsets_bytes : List (List ℕ) → List ℕ
 offsets_bytes parts = flat_map uint32 (offsets_from 0 parts)
 
+abbrev pub shared_peaks : List Region → List ℕ
+shared_peaks shared = flat_map (λ region. peak_tuple region.sides) shared
+
 abbrev pub shared_tuples : List Region → List ℕ
-shared_tuples shared = padded (flat_map (λ region. peak_tuple region.sides) shared)
+shared_tuples shared = padded (shared_peaks shared)
 
 -- where the shared tuples begin in a table of so many glyphs
 abbrev pub shared_tuples_offset : ℕ → ℕ
@@ -38,6 +41,11 @@ unfoldable pub gvar_table : List Region → ℕ → List (List ℕ) → List ℕ
 gvar_table shared axes parts =
     gvar_head axes (length shared) (length parts) (length (shared_tuples shared))
     ++ offsets_bytes parts ++ shared_tuples shared ++ concat parts
+
+-- how many bytes that are
+abbrev pub table_length : List Region → List (List ℕ) → ℕ
+table_length shared parts = shared_tuples_offset (length parts) + length (shared_tuples shared)
+    + length (concat parts)
 
 -- the length of the table, where that is too large
 abbrev pub too_large : List Region → ℕ → List (List ℕ) → Option ℕ

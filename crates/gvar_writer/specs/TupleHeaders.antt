@@ -1,4 +1,5 @@
--- The headers of a glyph's tuples (OpenType 1.9, "Tuple variation store", "Tuple variation header").
+-- The headers of a glyph's tuples (OpenType 1.9, "Tuple variation store", "Tuple variation
+-- header").
 use Rattle.std.specs.Prelude.{ℕ, ◌+◌, Bool, true, false, not, ◌&&◌, if◌then◌else◌, pos, List, []}
 use Rattle.std.specs.Prelude.{◌∷◌, ◌++◌, Option, Some, None, position}
 use Rattle.std.specs.Int.{int_max, int_min}

@@ -1,20 +1,20 @@
 ghost use Rattle.std.specs.Prelude.{◌≡◌, ◌+◌, ◌<◌, ◌≤◌, ◌++◌, [], length, map, drop, nat_eq, IfOk};
 ghost use Rattle.std.specs.Prelude.{OnOk, if◌then◌else◌};
 ghost use Rattle.std.specs.List.{All, list_any};
-ghost use Rattle.table_bytes.specs.DataTypes.{padded};
 ghost use Rattle.font_ir.specs.FlatGlyphs.{IsFlatGlyph, point_count};
 ghost use Rattle.gvar_writer.specs.TupleData.{is_nonzero};
 ghost use Rattle.gvar_writer.specs.GlyphVariations as spec;
 
 use crate::headers::push_header;
 use crate::named::{Outline, outline_of};
+use crate::padded::pad;
 use crate::positions::{Coordinate, positions_by_place};
 use crate::rows::{column, rows_of};
 use crate::tuples::tuple_data;
 use font_ir::{Contour, FlatGlyph, Region};
 use refusal_codes::NoMemory;
 use std::alloc::Global;
-use table_bytes::{padding, push_uint16, push_zeros};
+use table_bytes::push_uint16;
 use variation_model::{DeltaError, Model};
 
 /// The tuples of a glyph, as they are written.
@@ -141,15 +141,6 @@ fn tuples_of(
         )?;
     }
     Ok(tuples)
-}
-
-/// Adds zeros up to a multiple of four bytes.
-fn pad(bytes: &mut Vec<u8>) -> Result<(), NoMemory>
-    ensures { OnOk result (bytes.new.items ≡ padded bytes.old.items) }
-{
-    let zeros = padding(bytes.len());
-    push_zeros(bytes, zeros)?;
-    Ok(())
 }
 
 /// The bytes of some tuples.

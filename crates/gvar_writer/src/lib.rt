@@ -6,9 +6,12 @@ mod glyph;
 mod headers;
 mod named;
 mod packed;
+mod padded;
 mod positions;
 mod rows;
+mod table;
 mod tuples;
 
 pub use glyph::glyph_variations;
 pub use positions::{Coordinate, Position};
+pub use table::gvar_table;

@@ -9,7 +9,8 @@ unfolding with_head
 returns c =
     let tuples = c.args.tuples.now in
     let n : ℕ = length tuples.headers.items in
-    let offset = offset_bytes (4 + c.len-data_offset.result) n (omega (arith, c.len-data_offset.ensures)) in
+    let offset = offset_bytes (4 + c.len-data_offset.result) n
+    (omega (arith, c.len-data_offset.ensures)) in
     let count = c.in_ok-push_uint16.ensures.bytes
     ∙ ap (λ bytes. bytes ++ uint16 tuples.count) c.new-bytes.ensures.items in
     let head = c.in_ok-push_uint16-2.ensures.bytes ∙ (λ i. count i ++ offset i) in

@@ -1,4 +1,5 @@
-use Rattle.std.proofs.Common.{◌++◌, ◌∷◌, [], ◌∙◌, ap, pos, arith, rules, get_or, FitsSigned, to_z-of_z}
+use Rattle.std.proofs.Common.{◌++◌, ◌∷◌, [], ◌∙◌, ap, pos, arith, rules, get_or, FitsSigned}
+use Rattle.std.proofs.Common.{to_z-of_z}
 use Rattle.std.specs.Int.{w16}
 use Rattle.gvar_writer.proofs.NamedSteps.{item_named, item_left_out}
 use Rattle.gvar_writer.proofs.named.named_deltas.Goals as goal

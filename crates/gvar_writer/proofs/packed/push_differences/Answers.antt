@@ -5,6 +5,8 @@ use Rattle.std.proofs.lemmas.Bool.Decides.{nat_tests}
 use Rattle.gvar_writer.specs.PackedPoints.{point_flags, point_bytes, packed_differences}
 use Rattle.gvar_writer.proofs.RunSteps.{told_on, told_off, told_first, told_last, room_for}
 use Rattle.gvar_writer.proofs.packed.push_differences.Goals as goal
+use Rattle.gvar_writer.proofs.packed.push_differences.Goals.{}
+use Rattle.gvar_writer.proofs.packed.push_differences.Goals.{}
 use Rattle.gvar_writer.proofs.packed.push_differences.Goals.{then-not-difference_goes_on+in_ok-push_point_run}
 use Rattle.gvar_writer.proofs.packed.push_differences.Goals.{else-not-difference_goes_on}
 
