@@ -3,3 +3,6 @@ pub mod Tokens
 pub mod Words
 pub mod Lines
 pub mod Goes
+pub mod Reading
+pub mod OnLiterals
+pub mod Grammar

@@ -1,7 +1,7 @@
 -- Reading a statement word by word: what each word makes of the words before it, None where no
 -- statement goes on so. What a whole file is stands in `Grammar`; this reads it.
-use Rattle.std.specs.Prelude.{ℕ, ℤ, pos, ◌+◌, ◌-◌, ◌≤ℤ◌, Bool, true, false, ◌&&◌, ◌||◌, not, ◌==◌}
-use Rattle.std.specs.Prelude.{nat_le, nat_lt, int_le, List, [], ◌∷◌, ◌++◌, length, codes}
+use Rattle.std.specs.Prelude.{ℕ, ℤ, pos, Bool, true, false, ◌&&◌, ◌||◌, not, ◌==◌}
+use Rattle.std.specs.Prelude.{nat_le, List, [], ◌∷◌, ◌++◌, length, codes}
 use Rattle.std.specs.Prelude.{Option, Some, None, option_map, is_none, if◌then◌else◌}
 use Rattle.feature_parser.specs.declared.file.Name.{Name}
 use Rattle.feature_parser.specs.declared.file.GlyphSet.{GlyphSet}
@@ -18,7 +18,6 @@ use Rattle.feature_parser.specs.declared.file.FlagWord.TheVariants as flags
 use Rattle.feature_parser.specs.declared.file.Flags.TheVariants as flag_forms
 use Rattle.feature_parser.specs.declared.file.Rule.{Rule}
 use Rattle.feature_parser.specs.declared.file.Rule.TheVariants as rules
-use Rattle.feature_parser.specs.declared.file.Statement.{Statement}
 use Rattle.feature_parser.specs.declared.file.Statement.TheVariants as statements
 use Rattle.feature_parser.specs.declared.file.Inherits.TheVariants as inherits
 use Rattle.feature_parser.specs.declared.file.FeatureItem.TheVariants as parts
