@@ -74,12 +74,12 @@ impl<Id: Copy + Ord> Agenda<Id> {
             return Ok(());
         }
         let job = &jobs[number];
-        if scan::is_taken(values, outs, &job.id) {
-            return Ok(());
-        }
         let reads = job.access.reads.as_slice();
         let read = scan::first_unsettled(values, reads, self.cursors[number]);
         if read >= reads.len() {
+            if scan::is_taken(values, outs, &job.id) {
+                return Ok(());
+            }
             let queue = queue_of(job.access.awaits);
             return self.queues.join(queue, job.id, number);
         }
