@@ -24,12 +24,12 @@ use std::marker::Model;
 /// events; all else follows from these.
 ///
 /// This body keeps an agenda beside its lists: a job stands in a queue once all that it reads is
-/// settled, and till then in the line of the first item that isn't. A claim tells the agenda of the
-/// jobs and values that are new. So it takes the logarithm of the jobs for each of these, for each
-/// job that they wake and for each item that the job reads which is handed out. For each stratum
-/// that is awaited a whole run goes once through the jobs. `finish` takes the logarithm of the jobs
-/// and the length of what is added, and `get` and `added_by` take the logarithm. `is_stuck` and
-/// `access_of` take one pass, and so does `result` between a finish and the next claim.
+/// settled, and till then in the line of the first item that isn't. `finish` tells the agenda of
+/// the jobs and values that are new. That takes the logarithm of the jobs for each of these and for
+/// each job that they wake. A claim takes the logarithm for each item that the job reads which is
+/// handed out. For each stratum that is awaited a whole run goes once through the jobs. `get`,
+/// `added_by` and `result` take the logarithm. `is_stuck` and `access_of` take one pass, and so
+/// does `result` before the first claim or where memory ran out since.
 ///
 /// The ready job with the least id is handed out; no contract speaks of that, nor of the agenda.
 #[derive(Drop)]
@@ -148,7 +148,34 @@ impl<P: Plan> Board<P> {
     /// come back.
     pub fn finish(
         &mut self,
-        _alloc: Global,
+        alloc: Global,
+        worker: u32,
+        ticket: Ticket<P::Id>,
+        outcome: Outcome<P::Value, P::Id>,
+    ) -> Result<(), Unfinished<P>>
+        requires out { out_at self.old.workers self.old.events worker ≡ Some (Some ticket) }
+        requires outcome { IsOutcomeOf P.Id.eq (P.meaning self.old.plan) ticket
+            (plain_outcome outcome) }
+        ensures ok { OnOk result (self.new ≡ record self.old
+            { events = self.old.events ++ event.Finish worker ticket ∷ [] }) }
+        ensures free { OnOk result (NowHas self.old self.new worker None) }
+        ensures err { OnErr result (self.new ≡ self.old) }
+        ensures back { IfErr result (λ u. (u.ticket ≡ ticket) × (u.outcome ≡ outcome)) }
+        ensures history { IsHistory P.Id.eq (P.meaning self.new.plan) self.new.workers
+            self.new.events }
+    {
+        match self.settle(worker, ticket, outcome) {
+            Ok(()) => {
+                self.catch_up(alloc);
+                Ok(())
+            }
+            Err(unfinished) => Err(unfinished),
+        }
+    }
+
+    /// Gives a job what came of it, of which the agenda isn't told yet.
+    fn settle(
+        &mut self,
         worker: u32,
         ticket: Ticket<P::Id>,
         outcome: Outcome<P::Value, P::Id>,
@@ -191,6 +218,21 @@ impl<P: Plan> Board<P> {
                 self.outs[worker as usize] = None;
                 Ok(())
             }
+        }
+    }
+
+    /// Tells the agenda of all jobs and values. Where memory runs out, the next claim does that.
+    fn catch_up(&mut self, alloc: Global)
+        ensures { self.new ≡ self.old }
+    {
+        if self.any_halted {
+            return;
+        }
+        let jobs = self.jobs.as_slice();
+        let outs = self.outs.as_slice();
+        if self.agenda.take_in(alloc, jobs, &self.values, outs).is_ok() {
+            let queues = &self.agenda.queues;
+            strata::look(&mut self.passed, queues, &self.plan, jobs, &self.values);
         }
     }
 

@@ -10,7 +10,7 @@ use Rattle.job_graph.proofs.Boards.{view_push}
 use Rattle.job_graph.proofs.Kept.{history_of}
 use Rattle.job_graph.proofs.Halts.{now_has}
 use Rattle.job_graph.proofs.Ranges.{ranges_after, ranges_same}
-use Rattle.job_graph.proofs.board.Board.finish.Goals as goal
+use Rattle.job_graph.proofs.board.Board.settle.Goals as goal
 
 pub invariant_of-self : goal.invariant_of-self
 invariant_of-self g c = record {
