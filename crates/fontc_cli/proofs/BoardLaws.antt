@@ -1,6 +1,6 @@
 -- Why a run has the board that it has.
 use Rattle.std.proofs.Common.{◌≡◌, ◌⊎◌, ℕ, List, take, Option, Some, None, Ok, IfSome, inl, inr}
-use Rattle.std.proofs.Common.{subst, sym}
+use Rattle.std.proofs.Common.{subst, sym, ◌∙◌}
 use Rattle.outside_io.specs.Files.{Holding, replaced_by, Leaves}
 use Rattle.whole_files.specs.Printing.{Printed}
 use Rattle.refusal_codes.specs.declared.refusal.Refusal.{Refusal}
@@ -49,3 +49,20 @@ board_after command status (Some board) old read new same has = (
   begun_after status has.0 (old.holds command.output) (read.holds command.output)
       (new.holds command.output) (same.paths command.output) has.2,
 )
+
+-- what was read is what the board is over
+pub over_told : (told : Option (List ℕ)) (plan source : List ℕ) → plan ≡ source
+    → IfSome told (λ bytes. source ≡ bytes) → IfSome told (λ bytes. plan ≡ bytes)
+over_told None plan source e is = tt
+over_told (Some bytes) plan source e is = e ∙ is
+
+-- a report of a compilation whose font was begun, or for which memory ran out before
+pub board_reported : (command : Build) (status : Status) (font : List ℕ) (board : SourceBoard)
+    (old new : Outside) (told : Status) (kept : Option SourceBoard) → told ≡ status
+    → kept ≡ kept_board status board → IsBoardOf (old.holds command.source) font board
+    → MayBegin status font (old.holds command.output) (new.holds command.output)
+    → HasBoard (Some command) told kept old new
+board_reported command status font board old new told kept same is of begun =
+    subst (λ (s : Status). HasBoard (Some command) s kept old new) (sym same)
+    (subst (λ (b : Option SourceBoard). HasBoard (Some command) status b old new) (sym is)
+    (board_kept command status font board old new of begun))

@@ -32,6 +32,9 @@ use whole_files::{ReadWholeError, print_whole, read_whole, write_whole};
 /// The console takes one line, which says the same; where memory ran out it takes none. A console
 /// that fails takes first bytes of it, and changes how the run ended only where it would else be
 /// `Done`.
+///
+/// The report has a board exactly where the font was begun to be written: the board of its
+/// compilation.
 pub fn run<F: Files, C: Console, G: Gate + Sync>(
     alloc: Global,
     words: &[String],

@@ -76,7 +76,8 @@ impl Report {
         }
     }
 
-    /// The report of a run in which this board's font was begun, unless memory ran out before.
+    /// The report of a run whose font was compiled on this board: it keeps the board, unless memory
+    /// ran out before the font was begun.
     pub(crate) fn with_board(status: Status, board: Board<FontPlan>) -> Report
         ensures status { result.status ≡ status }
         ensures board { result.board ≡ kept_board status board }

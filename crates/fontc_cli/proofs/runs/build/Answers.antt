@@ -19,15 +19,17 @@ refused_if_told (Some bytes) r refused long = refused bytes long
 ok_is_no_fault : {A : Type 0} (a : A) → ◌≡◌ {A = Result A ReadWholeError} (Ok a) (Err Failed) → ⊥
 ok_is_no_fault a e = cc
 
-long_is_no_fault : {A : Type 0} → ◌≡◌ {A = Result A ReadWholeError} (Err TooLong) (Err Failed) → ⊥
-long_is_no_fault e = cc
+long_is_no_fault : {A : Type 0} (fault : ReadWholeError) → fault ≡ TooLong
+    → ◌≡◌ {A = Result A ReadWholeError} (Err fault) (Err Failed) → ⊥
+long_is_no_fault fault is e = cc
 
 pub returns-in-Err-TooLong-clause-ends : goal.returns-in-Err-TooLong-clause-ends
 returns-in-Err-TooLong-clause-ends g c = rw c.of.ensures
     (refused_ends _ c.source_too_large.result c.refuse.result _ _
     (record {
       paths = c.in-Err-TooLong.ensures.paths;
-      reads = c.in-Err-TooLong.ensures.reads_ok long_is_no_fault;
+      reads = c.in-Err-TooLong.ensures.reads_ok
+          (long_is_no_fault _ c.in-Err-TooLong.field-0-is);
       writes = c.in-Err-TooLong.ensures.writes;
     })
     (refused_if_told _ c.source_too_large.result c.source_too_large.ensures.refuses
