@@ -67,7 +67,7 @@ module _ (p : Parts) (font : p.File) (f : IsFontOf p font) where
   table_done = valued_done p same_id identity f.tree (tree_is p s) f.header f.index
       (header_is p s) (index_is p s) job.Table an.Table p.tags f.tables (tables_are p s d o w t)
 
-  -- A FONT THAT IS MADE LEAVES NO JOB WITHOUT A VALUE
+  -- a font that is made leaves no job without a value
   pub all_done : (id : JobId) → In id (plan p same_id).universe
       → is_done (value_of p same_id id) ≡ true
   all_done = each_job p HasValue

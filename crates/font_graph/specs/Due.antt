@@ -1,15 +1,13 @@
 -- What a job of a source's graph reads where it is run: the values that the graph tells. And the
 -- laws of its plan. For the plans of crates above. fontc's own.
-use Rattle.std.proofs.Common.{◌≡◌, List, map, Some, sym, ap, ◌∙◌, subst, unwrap_or, is_some, true}
+use Rattle.std.proofs.Common.{◌≡◌, List, map, Some, ap, ◌∙◌, subst, unwrap_or, is_some, true}
 use Rattle.std.proofs.Common.{Option, None, refl}
-use Rattle.std.specs.Prelude.{Contains}
-use Rattle.std.specs.List.{list_all}
 use Rattle.access_context.specs.Plain.{Plain, Blocked}
 use Rattle.job_graph.specs.Rounds.{value_in, is_settled, item_in, limit, IsDue}
 use Rattle.job_graph.specs.Laws.{IsLawful}
 use Rattle.job_graph.specs.Solutions.{IsSolution, IsSolved}
 use Rattle.job_graph.specs.Solved.{solution_lawful, solution_solved}
-use Rattle.job_graph.specs.Members.{In, list_all-In, map_agree}
+use Rattle.job_graph.specs.Members.{list_all-In, map_agree}
 use Rattle.font_graph.specs.Parts.{Parts}
 use Rattle.font_graph.specs.Graph.{Item, value_of, spec_of, There, plan}
 use Rattle.font_graph.specs.Outcomes.{items, with_value}

@@ -46,7 +46,7 @@ module _ (p : Parts) where
 
   -- ---- which jobs have a value there, and which
 
-  -- JUST THOSE THAT ARE THERE AND COME TO A VALUE, AND EACH ITS OWN
+  -- just those that are there and come to a value, and each its own
   pub ended_is : (id : JobId) → (ended_value id ≡ Some (value_of p same_id id))
       ↔ (There p same_id id × IsFounded p id)
   ended_is id = (
@@ -58,7 +58,7 @@ module _ (p : Parts) where
       → There p same_id id × IsFounded p id × (x ≡ value_of p same_id id)
   ended_own id x e = let f = (solved p).values id x e in (founded_there p id f.0, f.0, f.1)
 
-  -- A JOB FAILS EXACTLY WHERE ITS REFUSAL IS FOUND THERE
+  -- a job fails exactly where its refusal is found there
   pub fails_ended : (id : JobId) (r : Refusal) → Fails p id r
       ↔ (ended_value id ≡ Some (Refused r))
   fails_ended id r = (
@@ -147,7 +147,7 @@ module _ (p : Parts) where
         (complete.finishes id ∙ ap (λ b. cond b 1 0) settled)
 
     module _ (tag : Tag) (tag_there : In tag p.tags) where
-      -- THE LEAST THAT THE EVENTS TELL IS THE LEAST OF ALL
+      -- the least that the events tell is the least of all
       pub ended_least : least (flat_map told events) ≡ least (refusals p)
       ended_least = least_alike (flat_map told events) (refusals p) (λ r. (
         λ i. let m = In-flat_map told events r i in
@@ -158,7 +158,7 @@ module _ (p : Parts) where
             flat_map-In told events e.0 r e.1 (finish_tells e.0 m.0 r e.2 is),
       ))
 
-      -- AND WHERE THEY TELL NONE THE FONT IS MADE, AND FOUND THERE
+      -- and where they tell none the font is made, and found there
       pub ended_font : least (flat_map told events) ≡ None
           → (font : p.File) × IsFontOf p font × (ended_value job.Font ≡ Some (Done (an.Font font)))
       ended_font e =
@@ -170,7 +170,7 @@ module _ (p : Parts) where
                 ∙ ap Some (made_font p same_id identity m.0 m.1),
           )
 
-      -- SO THE VERDICT IS READ OFF THE BOARD
+      -- so the verdict is read off the board
       pub ended_verdict : verdict p ≡ judge p (least (flat_map told events)) ended_file
       ended_verdict = by (least (flat_map told events)) refl
         where

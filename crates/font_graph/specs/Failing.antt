@@ -116,16 +116,16 @@ module _ (p : Parts) where
     refused_is_there : (id : JobId) → In id (plan p same_id).universe → IsThere id
     refused_is_there = each_job IsThere (λ r e. tt) (λ r e. tt) (λ r e. tt)
         (λ r e. refused_reads job.Order r e job.Index (inr (inl refl)))
-        (λ r e. refused_reads job.Advances r e job.Order (inr (inr (inl refl))))
+        (λ r e. refused_reads job.Advances r e job.Order (inr (inl refl)))
         (λ r e. part_done p same_id identity (job.Table tag)
         (refused_reads job.Font r e (job.Table tag) (map-In job.Table p.tags tag tag_there))
-        job.Order (inr (inr (inl refl))))
-        (λ other i r e. (i, refused_reads (job.Table other) r e job.Order (inr (inr (inl refl)))))
+        job.Order (inr (inl refl)))
+        (λ other i r e. (i, refused_reads (job.Table other) r e job.Order (inr (inl refl))))
         (λ glyph i r e. i)
         (λ glyph i r e. (i, refused_reads (job.Flat glyph) r e (job.Raw glyph) (inl refl)))
         (λ glyph i r e. (i, refused_reads (job.Simple glyph) r e (job.Flat glyph) (inr (inl refl))))
 
-    -- A REFUSAL IS TOLD EXACTLY WHERE A JOB FAILS BY IT
+    -- a refusal is told exactly where a job fails by it
     pub refused_there : (r : Refusal) → In r (refusals p) ↔ ((id : JobId) × Fails p id r)
     refused_there r = (
       λ i. let m = job_refused r i in

@@ -81,8 +81,8 @@ module _ (p : Parts) (same : JobId → JobId → Bool) where
   reads_with numbers (job.Flat glyph) = job.Raw glyph ∷ job.Index ∷ []
   reads_with numbers (job.Simple glyph) = job.Header ∷ job.Flat glyph ∷ []
   reads_with numbers job.Order = job.Header ∷ job.Index ∷ map job.Flat numbers
-  reads_with numbers job.Advances = job.Header ∷ job.Index ∷ job.Order ∷ map job.Flat numbers
-  reads_with numbers (job.Table tag) = job.Header ∷ job.Index ∷ job.Order
+  reads_with numbers job.Advances = job.Header ∷ job.Order ∷ map job.Flat numbers
+  reads_with numbers (job.Table tag) = job.Header ∷ job.Order
       ∷ (if p.is_of_outlines tag then map job.Simple numbers else job.Advances ∷ [])
   reads_with numbers job.Font = map job.Table p.tags
   reads_with numbers _ = []
@@ -147,18 +147,16 @@ module _ (p : Parts) (same : JobId → JobId → Bool) where
       on (read_all (as_flat p) reads (map job.Flat (p.numbers index))) (λ flats.
       settle an.Order (λ order. after_order (p.numbers index)) (p.order header index flats))))
   outcome job.Advances reads = on (read_as (as_header p) reads job.Header) (λ header.
-      on (read_as (as_index p) reads job.Index) (λ index.
       on (read_as (as_order p) reads job.Order) (λ order.
-      on (read_all (as_flat p) reads (map job.Flat (p.numbers index))) (λ flats.
-      settle an.Advances none (p.measures header order flats)))))
+      on (read_all (as_flat p) reads (map job.Flat (p.ordered order))) (λ flats.
+      settle an.Advances none (p.measures header order flats))))
   outcome (job.Table tag) reads = on (read_as (as_header p) reads job.Header) (λ header.
-      on (read_as (as_index p) reads job.Index) (λ index.
       on (read_as (as_order p) reads job.Order) (λ order.
       if p.is_of_outlines tag then
-      on (read_all (as_data p) reads (map job.Simple (p.numbers index))) (λ parts.
+      on (read_all (as_data p) reads (map job.Simple (p.ordered order))) (λ parts.
       settle an.Table none (p.outline_table tag header order parts))
       else on (read_as (as_measures p) reads job.Advances) (λ measures.
-      settle an.Table none (p.metrics_table tag header order measures)))))
+      settle an.Table none (p.metrics_table tag header order measures))))
   outcome job.Font reads = on (read_all (as_table p) reads (map job.Table p.tags)) (λ tables.
       settle an.Font none (p.font tables))
   outcome _ reads = blocked
@@ -206,11 +204,11 @@ module _ (p : Parts) (same : JobId → JobId → Bool) where
       ((job.Header, header_value) ∷ (job.Index, index_value) ∷ flat_items)).value
 
   abbrev pub advances_value : Plain (Item p)
-  advances_value = (settled job.Advances ((job.Header, header_value) ∷ (job.Index, index_value)
-      ∷ (job.Order, order_value) ∷ flat_items)).value
+  advances_value = (settled job.Advances
+      ((job.Header, header_value) ∷ (job.Order, order_value) ∷ flat_items)).value
 
   abbrev pub table_items : Tag → List (JobId × Plain (Item p))
-  table_items tag = (job.Header, header_value) ∷ (job.Index, index_value) ∷ (job.Order, order_value)
+  table_items tag = (job.Header, header_value) ∷ (job.Order, order_value)
       ∷ (if p.is_of_outlines tag then map (λ glyph. (job.Simple glyph, simple_value glyph)) numbers
       else (job.Advances, advances_value) ∷ [])
 

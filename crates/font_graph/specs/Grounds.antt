@@ -151,7 +151,7 @@ module _ (p : Parts) where
 
     advances_founded : IsFounded job.Advances
     advances_founded = founded_by job.Advances done
-        (founded_header, (founded_index, (order_founded, flats_founded)))
+        (founded_header, (order_founded, flats_founded))
         (λ stratum other e there low. founded_below other there
         (let two = awaited_is 2 stratum e in omega arith))
 
@@ -170,7 +170,7 @@ module _ (p : Parts) where
 
     table_founded : (tag : Tag) → In tag p.tags → IsFounded (job.Table tag)
     table_founded tag i = founded_by (job.Table tag) (i, done)
-        (founded_header, (founded_index, (order_founded, by_kind (p.is_of_outlines tag))))
+        (founded_header, (order_founded, by_kind (p.is_of_outlines tag)))
         (λ stratum other e there low. founded_to_advances other there
         (let three = awaited_is 3 stratum e in omega arith))
       where
@@ -198,7 +198,7 @@ module _ (p : Parts) where
         (λ stratum other e there low. founded_to_tables other there
         (let four = awaited_is 4 stratum e in omega arith))
 
-  -- A JOB THAT IS THERE AND WHOSE READS HAVE VALUES COMES TO ONE
+  -- a job that is there and whose reads have values comes to one
   pub grounded : (id : JobId) → There p same_id id
       → ((read : JobId) → In read (reads_with p same_id (numbers p same_id) id)
       → is_done (value_of p same_id read) ≡ true) → IsFounded id

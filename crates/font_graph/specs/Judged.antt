@@ -77,7 +77,7 @@ module _ (p : Parts) where
           subst (IsFontOf p) (same_font j.font font (sym j.accepted ∙ accepted)) j.is_font
       by (Some r) e = absurd (ok≢err font r (sym accepted ∙ verdict_by (Some r) e))
 
-  -- A SOURCE IS ACCEPTED EXACTLY WHERE ITS FONT IS MADE, AND WITH THIS FONT
+  -- a source is accepted exactly where its font is made, and with this font
   pub verdict_accepts : (font : p.File) → (verdict p ≡ Ok font) ↔ IsFontOf p font
   verdict_accepts font = (accepted_made font, made_accepted font)
 
@@ -89,7 +89,7 @@ module _ (p : Parts) where
       by (Some s) e = (least_is (refusals p) r).0 (e ∙ ap Some
           (same_refusal s r (sym (verdict_by (Some s) e) ∙ refused)))
 
-  -- AND REFUSED EXACTLY BY THE LEAST REFUSAL OF ALL ITS JOBS
+  -- and refused exactly by the least refusal of all its jobs
   pub verdict_refuses : (r : Refusal) → (verdict p ≡ Err r) ↔ IsLeast r (refusals p)
   verdict_refuses r = (
     refused_least r,

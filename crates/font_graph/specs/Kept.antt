@@ -38,7 +38,7 @@ kept_of : (r : Refusal) (rs : List Refusal) → kept_least (Some r) rs ≡ least
 kept_of r [] = refl
 kept_of r (s ∷ rs) = kept_of (lesser s (Some r)) rs ∙ two_met s r rs
 
--- WHAT IS KEPT OF ALL IS THEIR LEAST
+-- what is kept of all is their least
 pub kept_is_least : (rs : List Refusal) → kept_least None rs ≡ least rs
 kept_is_least [] = refl
 kept_is_least (r ∷ rs) = kept_of r rs

@@ -99,7 +99,7 @@ least_one r s rs a b = same r s (up_to r s (a.none_less s b.there))
 of_some : (r s : Refusal) → Some r ≡ Some s → r ≡ s
 of_some r s e = cc
 
--- WHAT IS COMPUTED AS THE LEAST IS THE LEAST
+-- what is computed as the least is the least
 pub least_is : (rs : List Refusal) (r : Refusal) → (least rs ≡ Some r) ↔ IsLeast r rs
 least_is [] r = (λ e. absurd cc, λ l. absurd l.there)
 least_is (s ∷ rs) r = (
@@ -123,7 +123,7 @@ least_among r rs ss alike l = record {
   none_less = λ other i. l.none_less other ((alike other).1 i);
 }
 
--- LISTS WITH THE SAME MEMBERS HAVE THE SAME LEAST ONE
+-- lists with the same members have the same least one
 pub least_alike : (rs ss : List Refusal) → ((r : Refusal) → In r rs ↔ In r ss)
     → least rs ≡ least ss
 least_alike [] ss alike = sym ((least_none ss).1 (nothing_in ss (λ r i. (alike r).1 i)))

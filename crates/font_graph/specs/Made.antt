@@ -1,16 +1,15 @@
 -- A graph has a font exactly where each part answers and the font is made of their answers. For the
 -- plans of crates above. fontc's own.
 use Rattle.std.proofs.Common.{◌≡◌, ℕ, Bool, true, false, cond, inl, inr, List, [], ◌∷◌, map, Option}
-use Rattle.std.proofs.Common.{Some, None, Result, Ok, Err, refl, sym, ap, ◌∙◌, subst}
+use Rattle.std.proofs.Common.{Some, Result, Ok, Err, refl, sym, ap, ◌∙◌, subst}
 use Rattle.std.specs.Prelude.{◌↔◌, IsTrue, option_and_then}
-use Rattle.std.specs.List.{list_all}
-use Rattle.std.proofs.lemmas.Bool.{false≢true, cases_Bool, and_from}
+use Rattle.std.proofs.lemmas.Bool.{false≢true, and_from}
 use Rattle.refusal_codes.specs.declared.refusal.Refusal.{Refusal}
 use Rattle.access_context.specs.Plain.{Plain, Done, PlainOutcome, is_done, done_value}
-use Rattle.access_context.specs.Read.{read_of, value_read, all_done}
+use Rattle.access_context.specs.Read.{all_done}
 use Rattle.font_ir.specs.declared.tag.Tag.{Tag}
 use Rattle.job_graph.specs.Rounds.{blocked}
-use Rattle.job_graph.specs.Members.{In, list_all-In, list_all-from}
+use Rattle.job_graph.specs.Members.{In, list_all-In}
 use Rattle.font_graph.specs.Parts.{Parts}
 use Rattle.font_graph.specs.Fonts.{AllMade, drawn, table, IsFontOf}
 use Rattle.refusal_codes.specs.Gives.{◌>>=◌}
@@ -53,10 +52,17 @@ module _ (p : Parts) (same : JobId → JobId → Bool)
   answered item (Err r) v e d = absurd (false≢true (ap is_done (sym e) ∙ d))
 
   -- and an answer has its value
-  pub of_answer : {A : Type 0} (item : A → Item p) (r : Result A Refusal) (v : Plain (Item p)) (a : A)
-      → v ≡ plain_of item r → r ≡ Ok a → v ≡ Done (item a)
+  pub of_answer : {A : Type 0} (item : A → Item p) (r : Result A Refusal) (v : Plain (Item p))
+      (a : A) → v ≡ plain_of item r → r ≡ Ok a → v ≡ Done (item a)
   unfolding settle plain_of
   of_answer item r v a e f = e ∙ ap (plain_of item) f
+
+  same_order : (made order : p.Order) → ◌≡◌ {A = Plain (Item p)} (Done (an.Order made))
+      (Done (an.Order order)) → made ≡ order
+  same_order made order e = some_same (ap (λ v. option_and_then (as_order p) (done_value v)) e)
+    where
+      some_same : Some made ≡ Some order → made ≡ order
+      some_same e = cc
 
   settled_is : (id : JobId) (reads : List (JobId × Plain (Item p))) → all_done reads ≡ true
       → (settled p same id reads).value ≡ (outcome p same id reads).value
@@ -144,7 +150,8 @@ module _ (p : Parts) (same : JobId → JobId → Bool)
           (is_done_by (header_value p same) (an.Header header) header_is)
           (is_done_by (index_value p same) (an.Index index) index_is))
 
-      pub raw_by : (glyph : ℕ) → raw_value p same glyph ≡ plain_of an.Raw (p.raw tree header index glyph)
+      pub raw_by : (glyph : ℕ)
+          → raw_value p same glyph ≡ plain_of an.Raw (p.raw tree header index glyph)
       raw_by glyph = by_outcome (job.Raw glyph) source_done
           ∙ ap (λ o. o.value) (on_some _ _ tree (tree_read (job.Raw glyph) (inl refl)))
           ∙ ap (λ o. o.value) (on_some _ _ header (header_read (job.Raw glyph) (inr (inl refl))))
@@ -245,8 +252,8 @@ module _ (p : Parts) (same : JobId → JobId → Bool)
             ]))
             ∙ ap (λ o. o.value) (on_some _ _ header (header_read job.Order (inl refl)))
             ∙ ap (λ o. o.value) (on_some _ _ index (index_read job.Order (inr (inl refl))))
-            ∙ ap (λ o. o.value) (on_some _ _ flats (read_all_is (as_flat p) job.Order job.Flat an.Flat
-            (λ flat. refl) (p.numbers index) flats drawn
+            ∙ ap (λ o. o.value) (on_some _ _ flats (read_all_is (as_flat p) job.Order job.Flat
+            an.Flat (λ flat. refl) (p.numbers index) flats drawn
             (λ g i. inr (inr (map-In job.Flat (numbers p same) g (in_numbers g i))))))
             ∙ settle_value an.Order _ (p.order header index flats)
 
@@ -259,25 +266,34 @@ module _ (p : Parts) (same : JobId → JobId → Bool)
           order_read id there = read_is (as_order p) (reads_with p same (numbers p same) id)
               job.Order (an.Order order) order there order_is refl
 
-          pub advances_by : advances_value p same ≡ plain_of an.Advances (p.measures header order flats)
+          -- it holds the numbers of its index
+          order_made : p.order header index flats ≡ Ok order
+          order_made =
+              let made = answered an.Order (p.order header index flats) (order_value p same)
+              order_by order_done in
+              made.1 ∙ ap Ok (same_order made.0 order (sym made.2 ∙ order_is))
+
+          ordered_are : p.ordered order ≡ p.numbers index
+          ordered_are = p.ordered_is header index flats order order_made
+
+          pub advances_by : advances_value p same
+              ≡ plain_of an.Advances (p.measures header order flats)
           advances_by = by_outcome job.Advances (all_from
-              (job.Header ∷ job.Index ∷ job.Order ∷ map job.Flat (numbers p same)) (λ id i. elim i [
+              (job.Header ∷ job.Order ∷ map job.Flat (numbers p same)) (λ id i. elim i [
                 | inl is ↦ subst IsDoneJob is header_done
                 | inr i ↦ elim i [
-                  | inl is ↦ subst IsDoneJob is index_done
-                  | inr i ↦ elim i [
-                    | inl is ↦ subst IsDoneJob is order_done
-                    | inr i ↦ flat_reads_done id i
-                  ]
+                  | inl is ↦ subst IsDoneJob is order_done
+                  | inr i ↦ flat_reads_done id i
                 ]
               ]))
               ∙ ap (λ o. o.value) (on_some _ _ header (header_read job.Advances (inl refl)))
-              ∙ ap (λ o. o.value) (on_some _ _ index (index_read job.Advances (inr (inl refl))))
-              ∙ ap (λ o. o.value)
-              (on_some _ _ order (order_read job.Advances (inr (inr (inl refl)))))
-              ∙ ap (λ o. o.value) (on_some _ _ flats (read_all_is (as_flat p) job.Advances job.Flat
-              an.Flat (λ flat. refl) (p.numbers index) flats drawn
-              (λ g i. inr (inr (inr (map-In job.Flat (numbers p same) g (in_numbers g i)))))))
+              ∙ ap (λ o. o.value) (on_some _ _ order (order_read job.Advances (inr (inl refl))))
+              ∙ ap (λ o. o.value) (on_some _ _ flats
+              (ap (λ ns. read_all p same (as_flat p) (items p same job.Advances) (map job.Flat ns))
+              ordered_are
+              ∙ read_all_is (as_flat p) job.Advances job.Flat an.Flat (λ flat. refl)
+              (p.numbers index) flats drawn
+              (λ g i. inr (inr (map-In job.Flat (numbers p same) g (in_numbers g i))))))
               ∙ settle_value an.Advances (none p same) (p.measures header order flats)
 
           module _ (measures : p.Measures)
@@ -289,8 +305,8 @@ module _ (p : Parts) (same : JobId → JobId → Bool)
 
             others_done : (b : Bool) (id : JobId) → In id (others b) → IsDoneJob id
             others_done true id i = let m = In-map job.Simple (numbers p same) id i in
-                subst IsDoneJob m.2 (valued_done job.Simple an.Simple (p.numbers index) parts written
-                m.0 (from_numbers m.0 m.1))
+                subst IsDoneJob m.2 (valued_done job.Simple an.Simple (p.numbers index) parts
+                written m.0 (from_numbers m.0 m.1))
             others_done false id i = elim i [
               | inl is ↦ subst IsDoneJob is
                   (is_done_by (advances_value p same) (an.Advances measures) measures_is)
@@ -300,7 +316,7 @@ module _ (p : Parts) (same : JobId → JobId → Bool)
             made_by : (tag : Tag) (b : Bool) → p.is_of_outlines tag ≡ b
                 → (cond b
                 (on p same (read_all p same (as_data p) (items p same (job.Table tag))
-                (map job.Simple (p.numbers index)))
+                (map job.Simple (p.ordered order)))
                 (λ parts. settle p same an.Table (none p same)
                 (p.outline_table tag header order parts)))
                 (on p same (read_as p same (as_measures p) (items p same (job.Table tag))
@@ -309,37 +325,35 @@ module _ (p : Parts) (same : JobId → JobId → Bool)
                 (p.metrics_table tag header order measures)))).value
                 ≡ plain_of an.Table (cond b (p.outline_table tag header order parts)
                 (p.metrics_table tag header order measures))
-            made_by tag true e = ap (λ o. o.value) (on_some _ _ parts (read_all_is (as_data p)
-                (job.Table tag) job.Simple an.Simple (λ bytes. refl) (p.numbers index) parts written
-                (λ g i. inr (inr (inr (subst (λ b. In (job.Simple g) (others b)) (sym e)
-                (map-In job.Simple (numbers p same) g (in_numbers g i))))))))
+            made_by tag true e = ap (λ o. o.value) (on_some _ _ parts
+                (ap (λ ns. read_all p same (as_data p) (items p same (job.Table tag))
+                (map job.Simple ns)) ordered_are
+                ∙ read_all_is (as_data p) (job.Table tag) job.Simple an.Simple (λ bytes. refl)
+                (p.numbers index) parts written
+                (λ g i. inr (inr (subst (λ b. In (job.Simple g) (others b)) (sym e)
+                (map-In job.Simple (numbers p same) g (in_numbers g i)))))))
                 ∙ settle_value an.Table (none p same) (p.outline_table tag header order parts)
             made_by tag false e = ap (λ o. o.value) (on_some _ _ measures (read_is (as_measures p)
                 (reads_with p same (numbers p same) (job.Table tag)) job.Advances
                 (an.Advances measures) measures
-                (inr (inr (inr (subst (λ b. In job.Advances (others b)) (sym e) (inl refl)))))
+                (inr (inr (subst (λ b. In job.Advances (others b)) (sym e) (inl refl))))
                 measures_is refl))
                 ∙ settle_value an.Table (none p same) (p.metrics_table tag header order measures)
 
             pub table_by : (tag : Tag) → table_value p same tag
                 ≡ plain_of an.Table (table p header order measures parts tag)
             table_by tag = by_outcome (job.Table tag) (all_from
-                (job.Header ∷ job.Index ∷ job.Order ∷ others (p.is_of_outlines tag))
+                (job.Header ∷ job.Order ∷ others (p.is_of_outlines tag))
                 (λ id i. elim i [
                   | inl is ↦ subst IsDoneJob is header_done
                   | inr i ↦ elim i [
-                    | inl is ↦ subst IsDoneJob is index_done
-                    | inr i ↦ elim i [
-                      | inl is ↦ subst IsDoneJob is order_done
-                      | inr i ↦ others_done (p.is_of_outlines tag) id i
-                    ]
+                    | inl is ↦ subst IsDoneJob is order_done
+                    | inr i ↦ others_done (p.is_of_outlines tag) id i
                   ]
                 ]))
                 ∙ ap (λ o. o.value) (on_some _ _ header (header_read (job.Table tag) (inl refl)))
                 ∙ ap (λ o. o.value)
-                (on_some _ _ index (index_read (job.Table tag) (inr (inl refl))))
-                ∙ ap (λ o. o.value)
-                (on_some _ _ order (order_read (job.Table tag) (inr (inr (inl refl)))))
+                (on_some _ _ order (order_read (job.Table tag) (inr (inl refl))))
                 ∙ made_by tag (p.is_of_outlines tag) refl
 
       pub font_by : (tables : List p.Table) → Valued job.Table an.Table p.tags tables
@@ -347,8 +361,8 @@ module _ (p : Parts) (same : JobId → JobId → Bool)
       font_by tables made = by_outcome job.Font (all_from (map job.Table p.tags) (λ id i.
           let m = In-map job.Table p.tags id i in
           subst IsDoneJob m.2 (valued_done job.Table an.Table p.tags tables made m.0 m.1)))
-          ∙ ap (λ o. o.value) (on_some _ _ tables (read_all_is (as_table p) job.Font job.Table an.Table
-          (λ bytes. refl) p.tags tables made (λ tag i. map-In job.Table p.tags tag i)))
+          ∙ ap (λ o. o.value) (on_some _ _ tables (read_all_is (as_table p) job.Font job.Table
+          an.Table (λ bytes. refl) p.tags tables made (λ tag i. map-In job.Table p.tags tag i)))
           ∙ settle_value an.Font (none p same) (p.font tables)
 
       -- ---- the parts' answers, and the values
@@ -390,8 +404,8 @@ module _ (p : Parts) (same : JobId → JobId → Bool)
       )
 
       pub all_made : (make : Tag → Result p.Table Refusal)
-          → ((tag : Tag) → table_value p same tag ≡ plain_of an.Table (make tag)) → (tags : List Tag)
-          (tables : List p.Table) → AllMade make tags tables → Valued job.Table an.Table tags tables
+          → ((tag : Tag) → table_value p same tag ≡ plain_of an.Table (make tag))
+          → (tags : List Tag) (tables : List p.Table) → AllMade make tags tables → Valued job.Table an.Table tags tables
       unfolding Valued
       all_made make by [] [] m = tt
       all_made make by [] (made ∷ tables) m = absurd m
@@ -443,8 +457,8 @@ module _ (p : Parts) (same : JobId → JobId → Bool)
         pub made_are : AllMade make tags tables
 
       pub tables_of : (make : Tag → Result p.Table Refusal)
-          → ((tag : Tag) → table_value p same tag ≡ plain_of an.Table (make tag)) → (tags : List Tag)
-          → ((tag : Tag) → In tag tags → is_done (table_value p same tag) ≡ true)
+          → ((tag : Tag) → table_value p same tag ≡ plain_of an.Table (make tag))
+          → (tags : List Tag) → ((tag : Tag) → In tag tags → is_done (table_value p same tag) ≡ true)
           → Tables make tags
       tables_of make by [] done = record { tables = []; made_are = tt }
       tables_of make by (tag ∷ tags) done =
@@ -507,18 +521,18 @@ module _ (p : Parts) (same : JobId → JobId → Bool)
       let of_metrics = table_done metrics metrics_there in
       let of_outlines = table_done outlines outlines_there in
       let header_done = part_done (job.Table metrics) of_metrics job.Header (inl refl) in
-      let index_done = part_done (job.Table metrics) of_metrics job.Index (inr (inl refl)) in
-      let order_done = part_done (job.Table metrics) of_metrics job.Order (inr (inr (inl refl))) in
+      let order_done = part_done (job.Table metrics) of_metrics job.Order (inr (inl refl)) in
+      let index_done = part_done job.Order order_done job.Index (inr (inl refl)) in
       let advances_done = part_done (job.Table metrics) of_metrics job.Advances
-      (inr (inr (inr (subst (λ b. In job.Advances
+      (inr (inr (subst (λ b. In job.Advances
       (cond b (map job.Simple (numbers p same)) (job.Advances ∷ []))) (sym is_none)
-      (inl refl))))) in
+      (inl refl)))) in
       let simple_done : (glyph : ℕ) → In glyph (numbers p same)
       → is_done (simple_value p same glyph) ≡ true
       = λ glyph i. part_done (job.Table outlines) of_outlines (job.Simple glyph)
-      (inr (inr (inr (subst (λ b. In (job.Simple glyph)
+      (inr (inr (subst (λ b. In (job.Simple glyph)
       (cond b (map job.Simple (numbers p same)) (job.Advances ∷ []))) (sym is_one)
-      (map-In job.Simple (numbers p same) glyph i))))) in
+      (map-In job.Simple (numbers p same) glyph i)))) in
       let tree_done = part_done job.Header header_done job.Tree (inl refl) in
       let tree = answered an.Tree p.tree (tree_value p same) tree_by tree_done in
       let header = answered an.Header (p.header tree.0) (header_value p same)

@@ -107,7 +107,8 @@ module _ (p : Parts) (same : JobId → JobId → Bool) where
   pub quiet : (id : JobId) (reads : List (JobId × Plain (Item p)))
       → IsQuiet (outcome p same id reads)
   quiet job.Tree reads = quiet_settle an.Tree (none p same) p.tree
-  quiet job.Header reads = quiet_on _ _ (λ tree. quiet_settle an.Header (none p same) (p.header tree))
+  quiet job.Header reads = quiet_on _ _
+      (λ tree. quiet_settle an.Header (none p same) (p.header tree))
   quiet job.Index reads = quiet_on _ _ (λ tree. quiet_settle an.Index _ (p.index tree))
   quiet (job.Raw glyph) reads = quiet_on _ _ (λ tree. quiet_on _ _ (λ header. quiet_on _ _
       (λ index. quiet_settle an.Raw _ (p.raw tree header index glyph))))
@@ -117,23 +118,23 @@ module _ (p : Parts) (same : JobId → JobId → Bool) where
       (λ flat. quiet_settle an.Simple _ (p.simple header flat)))
   quiet job.Order reads = quiet_on _ _ (λ header. quiet_on _ _ (λ index. quiet_on _ _
       (λ flats. quiet_settle an.Order _ (p.order header index flats))))
-  quiet job.Advances reads = quiet_on _ _ (λ header. quiet_on _ _ (λ index. quiet_on _ _
-      (λ order. quiet_on _ _ (λ flats. quiet_settle an.Advances _ (p.measures header order flats)))))
-  quiet (job.Table tag) reads = quiet_on _ _ (λ header. quiet_on _ _ (λ index. quiet_on _ _
-      (λ order. by_kind (p.is_of_outlines tag) header index order)))
+  quiet job.Advances reads = quiet_on _ _ (λ header. quiet_on _ _ (λ order. quiet_on _ _
+      (λ flats. quiet_settle an.Advances _ (p.measures header order flats))))
+  quiet (job.Table tag) reads = quiet_on _ _ (λ header. quiet_on _ _
+      (λ order. by_kind (p.is_of_outlines tag) header order))
     where
-      by_kind : (b : Bool) (header : p.Header) (index : p.Index) (order : p.Order) → IsQuiet
+      by_kind : (b : Bool) (header : p.Header) (order : p.Order) → IsQuiet
           (cond b
-          (on p same (read_all p same (as_data p) reads (map job.Simple (p.numbers index)))
+          (on p same (read_all p same (as_data p) reads (map job.Simple (p.ordered order)))
           (λ parts. settle p same an.Table (none p same)
           (p.outline_table tag header order parts)))
           (on p same (read_as p same (as_measures p) reads job.Advances)
           (λ measures. settle p same an.Table (none p same)
           (p.metrics_table tag header order measures))))
-      by_kind true header index order = quiet_on _ _
-          (λ parts. quiet_settle an.Table (none p same) (p.outline_table tag header order parts))
-      by_kind false header index order = quiet_on _ _
-          (λ measures. quiet_settle an.Table (none p same) (p.metrics_table tag header order measures))
+      by_kind true header order = quiet_on _ _ (λ parts. quiet_settle an.Table (none p same)
+          (p.outline_table tag header order parts))
+      by_kind false header order = quiet_on _ _ (λ measures. quiet_settle an.Table (none p same)
+          (p.metrics_table tag header order measures))
   quiet job.Font reads = quiet_on _ _ (λ tables. quiet_settle an.Font (none p same) (p.font tables))
   quiet _ reads = λ e. refl
 
@@ -160,13 +161,13 @@ module _ (p : Parts) (same : JobId → JobId → Bool) where
       ∷ (job.Index, index_value p same) ∷ items)).value)
       (map_twice job.Flat with_value (numbers p same))
   value job.Advances = ap (λ items. (settled p same job.Advances ((job.Header, header_value p same)
-      ∷ (job.Index, index_value p same) ∷ (job.Order, order_value p same) ∷ items)).value)
+      ∷ (job.Order, order_value p same) ∷ items)).value)
       (map_twice job.Flat with_value (numbers p same))
   value (job.Table tag) = by_kind (p.is_of_outlines tag)
     where
       of : List (JobId × Plain (Item p)) → Plain (Item p)
       of items = (settled p same (job.Table tag) ((job.Header, header_value p same)
-          ∷ (job.Index, index_value p same) ∷ (job.Order, order_value p same) ∷ items)).value
+          ∷ (job.Order, order_value p same) ∷ items)).value
 
       by_kind : (b : Bool)
           → of (map with_value (cond b (map job.Simple (numbers p same)) (job.Advances ∷ [])))
@@ -215,26 +216,25 @@ module _ (p : Parts) (same : JobId → JobId → Bool) where
   pub leaf_advances : (reads : List (JobId × Plain (Item p)))
       → IsLeaf (settled p same job.Advances reads)
   leaf_advances reads = leaf_if (all_done reads) _ (leaf_on _ _ (λ header.
-      leaf_on _ _ (λ index. leaf_on _ _ (λ order. leaf_on _ _ (λ flats.
-      leaf_settle an.Advances (p.measures header order flats))))))
+      leaf_on _ _ (λ order. leaf_on _ _ (λ flats.
+      leaf_settle an.Advances (p.measures header order flats)))))
 
   pub leaf_table : (tag : Tag) (reads : List (JobId × Plain (Item p)))
       → IsLeaf (settled p same (job.Table tag) reads)
   leaf_table tag reads = leaf_if (all_done reads) _ (leaf_on _ _ (λ header.
-      leaf_on _ _ (λ index. leaf_on _ _ (λ order. by_kind (p.is_of_outlines tag) header index
-      order))))
+      leaf_on _ _ (λ order. by_kind (p.is_of_outlines tag) header order)))
     where
-      by_kind : (b : Bool) (header : p.Header) (index : p.Index) (order : p.Order) → IsLeaf
+      by_kind : (b : Bool) (header : p.Header) (order : p.Order) → IsLeaf
           (cond b
-          (on p same (read_all p same (as_data p) reads (map job.Simple (p.numbers index)))
+          (on p same (read_all p same (as_data p) reads (map job.Simple (p.ordered order)))
           (λ parts. settle p same an.Table (none p same)
           (p.outline_table tag header order parts)))
           (on p same (read_as p same (as_measures p) reads job.Advances)
           (λ measures. settle p same an.Table (none p same)
           (p.metrics_table tag header order measures))))
-      by_kind true header index order = leaf_on _ _
+      by_kind true header order = leaf_on _ _
           (λ parts. leaf_settle an.Table (p.outline_table tag header order parts))
-      by_kind false header index order = leaf_on _ _
+      by_kind false header order = leaf_on _ _
           (λ measures. leaf_settle an.Table (p.metrics_table tag header order measures))
 
   pub leaf_font : (reads : List (JobId × Plain (Item p))) → IsLeaf (settled p same job.Font reads)

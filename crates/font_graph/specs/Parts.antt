@@ -1,5 +1,5 @@
 -- What the jobs of a source make, each as a function of what it reads.
-use Rattle.std.specs.Prelude.{ℕ, Bool, List, Result}
+use Rattle.std.specs.Prelude.{◌≡◌, ℕ, Bool, List, Result, Ok}
 use Rattle.font_ir.specs.declared.tag.Tag.{Tag}
 use Rattle.refusal_codes.specs.declared.refusal.Refusal.{Refusal}
 
@@ -24,6 +24,10 @@ pub record Parts : Type 1 where
   pub flat : Raw → Index → Result Flat Refusal
   pub simple : Header → Flat → Result Data Refusal
   pub order : Header → Index → List Flat → Result Order Refusal
+  -- the numbers of the glyphs that an order holds: those of its index
+  pub ordered : Order → List ℕ
+  pub ordered_is : (header : Header) (index : Index) (flats : List Flat) (made : Order)
+      → order header index flats ≡ Ok made → ordered made ≡ numbers index
   pub measures : Header → Order → List Flat → Result Measures Refusal
   -- the tags of the tables, and which of them are made of the glyphs' data
   pub tags : List Tag

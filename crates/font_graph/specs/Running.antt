@@ -1,14 +1,13 @@
 -- What a job of a source's graph finds where it is run: each item that it reads is there, and is
 -- what its part answered. And what comes of the job by its part. For the plans of crates above.
 -- fontc's own.
-use Rattle.std.proofs.Common.{◌≡◌, ℕ, Bool, true, false, cond, inl, inr, List, [], ◌∷◌, map, Option}
-use Rattle.std.proofs.Common.{Some, None, Result, Ok, Err, refl, sym, ap, ◌∙◌, subst}
-use Rattle.std.specs.Prelude.{IsSome, option_and_then}
-use Rattle.access_context.specs.declared.access.Spec.{Spec}
+use Rattle.std.proofs.Common.{◌≡◌, ℕ, true, false, cond, inl, inr, List, [], ◌∷◌, map, Option}
+use Rattle.std.proofs.Common.{Some, Ok, refl, sym, ap, ◌∙◌, subst}
+use Rattle.std.specs.Prelude.{IsSome}
 use Rattle.access_context.specs.Plain.{Plain, Done, PlainOutcome, is_done}
 use Rattle.access_context.specs.Read.{all_done}
 use Rattle.font_ir.specs.declared.tag.Tag.{Tag}
-use Rattle.job_graph.specs.Rounds.{IsDue, blocked}
+use Rattle.job_graph.specs.Rounds.{IsDue}
 use Rattle.job_graph.specs.Members.{In, list_all-In}
 use Rattle.font_graph.specs.Parts.{Parts}
 use Rattle.font_graph.specs.Fonts.{AllMade, drawn, table}
@@ -21,9 +20,9 @@ use Rattle.font_graph.specs.Graph.{after_index, after_order}
 use Rattle.font_graph.specs.Outcomes.{items, map-In, with_value, flat_next, simple_next}
 use Rattle.font_graph.specs.Solved.{numbers_are, raw_done, flats_done}
 use Rattle.font_graph.specs.Made.{on_some, answered, read_is, tree_by, header_by, index_by, raw_by}
-use Rattle.font_graph.specs.Made.{flat_by, simple_by, Valued, read_all_is, order_by, advances_by}
+use Rattle.font_graph.specs.Made.{flat_by, Valued, read_all_is, order_by, advances_by}
 use Rattle.font_graph.specs.Made.{table_by, all_drawn, all_written, all_made, drawings, writings}
-use Rattle.font_graph.specs.Made.{tables_of, part_done, in_numbers}
+use Rattle.font_graph.specs.Made.{tables_of, part_done}
 use Rattle.font_graph.specs.Same.{same_id, identity}
 use Rattle.font_graph.specs.Due.{due}
 use Rattle.font_graph.specs.declared.ids.JobId.{JobId}
@@ -120,18 +119,17 @@ module _ (p : Parts) where
   order_runs reads header index flats a b c = on_some p same_id identity _ _ header a
       ∙ on_some p same_id identity _ _ index b ∙ on_some p same_id identity _ _ flats c
 
-  pub advances_runs : (reads : Reads) (header : p.Header) (index : p.Index) (order : p.Order)
-      (flats : List p.Flat) → header_read reads ≡ Some header → index_read reads ≡ Some index
-      → order_read reads ≡ Some order → flats_read (p.numbers index) reads ≡ Some flats
+  pub advances_runs : (reads : Reads) (header : p.Header) (order : p.Order) (flats : List p.Flat)
+      → header_read reads ≡ Some header → order_read reads ≡ Some order
+      → flats_read (p.ordered order) reads ≡ Some flats
       → outcome p same_id job.Advances reads
       ≡ settle p same_id an.Advances (none p same_id) (p.measures header order flats)
-  advances_runs reads header index order flats a b c d = on_some p same_id identity _ _ header a
-      ∙ on_some p same_id identity _ _ index b ∙ on_some p same_id identity _ _ order c
-      ∙ on_some p same_id identity _ _ flats d
+  advances_runs reads header order flats a b c = on_some p same_id identity _ _ header a
+      ∙ on_some p same_id identity _ _ order b ∙ on_some p same_id identity _ _ flats c
 
-  abbrev outlines_made : Tag → Reads → p.Header → p.Index → p.Order → PlainOutcome (Item p) JobId
-  outlines_made tag reads header index order =
-      on p same_id (data_read (p.numbers index) reads)
+  abbrev outlines_made : Tag → Reads → p.Header → p.Order → PlainOutcome (Item p) JobId
+  outlines_made tag reads header order =
+      on p same_id (data_read (p.ordered order) reads)
       (λ parts. settle p same_id an.Table (none p same_id) (p.outline_table tag header order parts))
 
   abbrev metrics_made : Tag → Reads → p.Header → p.Order → PlainOutcome (Item p) JobId
@@ -140,31 +138,27 @@ module _ (p : Parts) where
       (λ measures. settle p same_id an.Table (none p same_id)
       (p.metrics_table tag header order measures))
 
-  pub outline_runs : (tag : Tag) (reads : Reads) (header : p.Header) (index : p.Index)
-      (order : p.Order) (parts : List p.Data) → p.is_of_outlines tag ≡ true
-      → header_read reads ≡ Some header → index_read reads ≡ Some index
-      → order_read reads ≡ Some order → data_read (p.numbers index) reads ≡ Some parts
+  pub outline_runs : (tag : Tag) (reads : Reads) (header : p.Header) (order : p.Order)
+      (parts : List p.Data) → p.is_of_outlines tag ≡ true → header_read reads ≡ Some header
+      → order_read reads ≡ Some order → data_read (p.ordered order) reads ≡ Some parts
       → outcome p same_id (job.Table tag) reads
       ≡ settle p same_id an.Table (none p same_id) (p.outline_table tag header order parts)
-  outline_runs tag reads header index order parts e a b c d =
-      on_some p same_id identity _ _ header a ∙ on_some p same_id identity _ _ index b
-      ∙ on_some p same_id identity _ _ order c
-      ∙ ap (λ b. cond b (outlines_made tag reads header index order)
+  outline_runs tag reads header order parts e a b c =
+      on_some p same_id identity _ _ header a ∙ on_some p same_id identity _ _ order b
+      ∙ ap (λ b. cond b (outlines_made tag reads header order)
       (metrics_made tag reads header order)) e
-      ∙ on_some p same_id identity _ _ parts d
+      ∙ on_some p same_id identity _ _ parts c
 
-  pub metrics_runs : (tag : Tag) (reads : Reads) (header : p.Header) (index : p.Index)
-      (order : p.Order) (measures : p.Measures) → p.is_of_outlines tag ≡ false
-      → header_read reads ≡ Some header → index_read reads ≡ Some index
+  pub metrics_runs : (tag : Tag) (reads : Reads) (header : p.Header) (order : p.Order)
+      (measures : p.Measures) → p.is_of_outlines tag ≡ false → header_read reads ≡ Some header
       → order_read reads ≡ Some order → measures_read reads ≡ Some measures
       → outcome p same_id (job.Table tag) reads
       ≡ settle p same_id an.Table (none p same_id) (p.metrics_table tag header order measures)
-  metrics_runs tag reads header index order measures e a b c d =
-      on_some p same_id identity _ _ header a ∙ on_some p same_id identity _ _ index b
-      ∙ on_some p same_id identity _ _ order c
-      ∙ ap (λ b. cond b (outlines_made tag reads header index order)
+  metrics_runs tag reads header order measures e a b c =
+      on_some p same_id identity _ _ header a ∙ on_some p same_id identity _ _ order b
+      ∙ ap (λ b. cond b (outlines_made tag reads header order)
       (metrics_made tag reads header order)) e
-      ∙ on_some p same_id identity _ _ measures d
+      ∙ on_some p same_id identity _ _ measures c
 
   pub font_runs : (reads : Reads) (tables : List p.Table) → tables_read reads ≡ Some tables
       → outcome p same_id job.Font reads
@@ -448,8 +442,8 @@ module _ (p : Parts) where
   glyphs : (s : Source) → ((glyph : ℕ) → In glyph (numbers p same_id)
       → is_done (flat_value p same_id glyph) ≡ true) → Glyphs s
   glyphs s done =
-      let made = drawings p same_id identity s.tree s.tree_is s.header s.index s.header_is s.index_is
-      (p.numbers s.index) (λ g i. done g (into_numbers s g i)) in
+      let made = drawings p same_id identity s.tree s.tree_is s.header s.index s.header_is
+      s.index_is (p.numbers s.index) (λ g i. done g (into_numbers s g i)) in
       record {
         flats = made.flats;
         drawn_are = made.drawn_are;
@@ -525,6 +519,10 @@ module _ (p : Parts) where
   order_glyphs : (done : is_done (order_value p same_id) ≡ true) → Glyphs (order_source done)
   order_glyphs done = glyphs (order_source done) (flats_done p same_id identity done)
 
+  ordered_are : (s : Source) (g : Glyphs s) (o : Ordered s g)
+      → p.ordered o.order ≡ p.numbers s.index
+  ordered_are s g o = p.ordered_is s.header s.index g.flats o.order o.order_made
+
   order_known : (s : Source) (g : Glyphs s) (o : Ordered s g) (id : JobId)
       → In job.Order (reads_with p same_id (numbers p same_id) id)
       → order_read (items p same_id id) ≡ Some o.order
@@ -532,17 +530,20 @@ module _ (p : Parts) where
       (reads_with p same_id (numbers p same_id) id) job.Order (an.Order o.order) o.order there
       o.order_is refl
 
+  -- the glyphs of an index were drawn so, of this header, and so ordered
+  pub record AreOrderedOf (header : p.Header) (order : p.Order) (flats : List p.Flat)
+      : Type 0 where
+    pub index : p.Index
+    pub drawn_of : AreDrawnOf header index flats
+    pub order_made : p.order header index flats ≡ Ok order
+
   pub record AdvancesFound (reads : Reads) : Type 0 where
     pub header : IsSome (header_read reads)
-    pub index : IsSome (index_read reads)
     pub order : IsSome (order_read reads)
-    pub flats : (i : p.Index) → index_read reads ≡ Some i → IsSome (flats_read (p.numbers i) reads)
-    pub order_is : (h : p.Header) (i : p.Index) (o : p.Order) (fs : List p.Flat)
-        → header_read reads ≡ Some h → index_read reads ≡ Some i → order_read reads ≡ Some o
-        → flats_read (p.numbers i) reads ≡ Some fs → p.order h i fs ≡ Ok o
-    pub flats_are : (h : p.Header) (i : p.Index) (fs : List p.Flat) → header_read reads ≡ Some h
-        → index_read reads ≡ Some i → flats_read (p.numbers i) reads ≡ Some fs
-        → AreDrawnOf h i fs
+    pub flats : (o : p.Order) → order_read reads ≡ Some o → IsSome (flats_read (p.ordered o) reads)
+    pub flats_are : (h : p.Header) (o : p.Order) (fs : List p.Flat) → header_read reads ≡ Some h
+        → order_read reads ≡ Some o → flats_read (p.ordered o) reads ≡ Some fs
+        → AreOrderedOf h o fs
 
   pub advances_finds : (reads : Reads) → Due job.Advances reads → all_done reads ≡ true
       → AdvancesFound reads
@@ -554,54 +555,48 @@ module _ (p : Parts) where
       let o = ordered s g known.0 in
       let there : (glyph : ℕ) → In glyph (numbers p same_id)
       → In (job.Flat glyph) (reads_with p same_id (numbers p same_id) id)
-      = λ n i. inr (inr (inr (map-In job.Flat (numbers p same_id) n i))) in
+      = λ n i. inr (inr (map-In job.Flat (numbers p same_id) n i)) in
       let rs = items p same_id id in
       let header = header_known s id (inl refl) in
-      let index = index_known s id (inr (inl refl)) in
-      let order = order_known s g o id (inr (inr (inl refl))) in
-      let flats = flats_known s g id there in
-      let drawn_of : AreDrawnOf s.header s.index g.flats = record {
-        tree = s.tree;
-        header_made = s.header_made;
-        index_made = s.index_made;
-        drawn_are = g.drawn_are;
+      let order = order_known s g o id (inr (inl refl)) in
+      let flats : flats_read (p.ordered o.order) rs ≡ Some g.flats
+      = ap (λ ns. flats_read ns rs) (ordered_are s g o) ∙ flats_known s g id there in
+      let are : AreOrderedOf s.header o.order g.flats = record {
+        index = s.index;
+        drawn_of = record {
+          tree = s.tree;
+          header_made = s.header_made;
+          index_made = s.index_made;
+          drawn_are = g.drawn_are;
+        };
+        order_made = o.order_made;
       } in
       subst AdvancesFound (sym known.1) (record {
         header = some_read (header_read rs) s.header header;
-        index = some_read (index_read rs) s.index index;
         order = some_read (order_read rs) o.order order;
-        flats = λ i a. as_read (λ i. IsSome (flats_read (p.numbers i) rs))
-            (index_read rs) s.index i index a
-            (some_read (flats_read (p.numbers s.index) rs) g.flats flats);
-        order_is = λ h i n fs a b c e.
-            as_read (λ h. (fs : List p.Flat) → flats_read (p.numbers i) rs ≡ Some fs
-            → p.order h i fs ≡ Ok n) (header_read rs) s.header h header a
-            (as_read (λ i. (fs : List p.Flat) → flats_read (p.numbers i) rs ≡ Some fs
-            → p.order s.header i fs ≡ Ok n) (index_read rs) s.index i index b
-            (as_read (λ n. (fs : List p.Flat) → flats_read (p.numbers s.index) rs ≡ Some fs
-            → p.order s.header s.index fs ≡ Ok n) (order_read rs) o.order n order c
-            (λ fs f. as_read (λ fs. p.order s.header s.index fs ≡ Ok o.order)
-            (flats_read (p.numbers s.index) rs) g.flats fs flats f o.order_made))) fs e;
-        flats_are = λ h i fs a b e.
-            as_read (λ h. (fs : List p.Flat) → flats_read (p.numbers i) rs ≡ Some fs
-            → AreDrawnOf h i fs) (header_read rs) s.header h header a
-            (as_read (λ i. (fs : List p.Flat) → flats_read (p.numbers i) rs ≡ Some fs
-            → AreDrawnOf s.header i fs) (index_read rs) s.index i index b
-            (λ fs f. as_read (λ fs. AreDrawnOf s.header s.index fs)
-            (flats_read (p.numbers s.index) rs) g.flats fs flats f drawn_of)) fs e;
+        flats = λ n a. as_read (λ n. IsSome (flats_read (p.ordered n) rs))
+            (order_read rs) o.order n order a
+            (some_read (flats_read (p.ordered o.order) rs) g.flats flats);
+        flats_are = λ h n fs a b e.
+            as_read (λ h. (fs : List p.Flat) → flats_read (p.ordered n) rs ≡ Some fs
+            → AreOrderedOf h n fs) (header_read rs) s.header h header a
+            (as_read (λ n. (fs : List p.Flat) → flats_read (p.ordered n) rs ≡ Some fs
+            → AreOrderedOf s.header n fs) (order_read rs) o.order n order b
+            (λ fs f. as_read (λ fs. AreOrderedOf s.header o.order fs)
+            (flats_read (p.ordered o.order) rs) g.flats fs flats f are)) fs e;
       })
 
   -- the glyphs of an index were ordered so
-  pub record IsOrderOf (header : p.Header) (index : p.Index) (order : p.Order) : Type 0 where
+  pub record IsOrderOf (header : p.Header) (order : p.Order) : Type 0 where
+    pub index : p.Index
     pub flats : List p.Flat
     pub order_made : p.order header index flats ≡ Ok order
 
   pub record TableFound (reads : Reads) : Type 0 where
     pub header : IsSome (header_read reads)
-    pub index : IsSome (index_read reads)
     pub order : IsSome (order_read reads)
-    pub order_is : (h : p.Header) (i : p.Index) (o : p.Order) → header_read reads ≡ Some h
-        → index_read reads ≡ Some i → order_read reads ≡ Some o → IsOrderOf h i o
+    pub order_is : (h : p.Header) (o : p.Order) → header_read reads ≡ Some h
+        → order_read reads ≡ Some o → IsOrderOf h o
 
   table_known : (tag : Tag) → is_done (order_value p same_id) ≡ true
       → TableFound (items p same_id (job.Table tag))
@@ -612,16 +607,13 @@ module _ (p : Parts) where
       let o = ordered s g done in
       let rs = items p same_id id in
       let header = header_known s id (inl refl) in
-      let index = index_known s id (inr (inl refl)) in
-      let order = order_known s g o id (inr (inr (inl refl))) in
+      let order = order_known s g o id (inr (inl refl)) in
       record {
         header = some_read (header_read rs) s.header header;
-        index = some_read (index_read rs) s.index index;
         order = some_read (order_read rs) o.order order;
-        order_is = λ h i n a b c. as_read (λ h. IsOrderOf h i n) (header_read rs) s.header h header a
-            (as_read (λ i. IsOrderOf s.header i n) (index_read rs) s.index i index b
-            (as_read (λ n. IsOrderOf s.header s.index n) (order_read rs) o.order n order c
-            (record { flats = g.flats; order_made = o.order_made })));
+        order_is = λ h n a b. as_read (λ h. IsOrderOf h n) (header_read rs) s.header h header a
+            (as_read (λ n. IsOrderOf s.header n) (order_read rs) o.order n order b
+            (record { index = s.index; flats = g.flats; order_made = o.order_made }));
       }
 
   pub table_finds : (tag : Tag) (reads : Reads) → Due (job.Table tag) reads → TableFound reads
@@ -631,8 +623,8 @@ module _ (p : Parts) where
 
   -- a table of outlines finds all glyphs' data
   pub outline_finds : (tag : Tag) (reads : Reads) → p.is_of_outlines tag ≡ true
-      → Due (job.Table tag) reads → all_done reads ≡ true → (i : p.Index)
-      → index_read reads ≡ Some i → IsSome (data_read (p.numbers i) reads)
+      → Due (job.Table tag) reads → all_done reads ≡ true → (o : p.Order)
+      → order_read reads ≡ Some o → IsSome (data_read (p.ordered o) reads)
   outline_finds tag reads is d done =
       let id = job.Table tag in
       let known = due p id reads d in
@@ -640,13 +632,14 @@ module _ (p : Parts) where
       = subst (λ rs. all_done rs ≡ true) known.1 done in
       let s = order_source known.0.1 in
       let g = order_glyphs known.0.1 in
+      let o = ordered s g known.0.1 in
       let there : (glyph : ℕ) → In glyph (numbers p same_id)
       → In (job.Simple glyph) (reads_with p same_id (numbers p same_id) id)
-      = λ n i. inr (inr (inr (subst (λ b. In (job.Simple n)
+      = λ n i. inr (inr (subst (λ b. In (job.Simple n)
       (cond b (map job.Simple (numbers p same_id)) (job.Advances ∷ []))) (sym is)
-      (map-In job.Simple (numbers p same_id) n i)))) in
-      let made = writings p same_id identity s.tree s.tree_is s.header s.index s.header_is s.index_is
-      (p.numbers s.index) g.flats g.valued
+      (map-In job.Simple (numbers p same_id) n i))) in
+      let made = writings p same_id identity s.tree s.tree_is s.header s.index s.header_is
+      s.index_is (p.numbers s.index) g.flats g.valued
       (λ n i. done_of id all (job.Simple n) (there n (into_numbers s n i))) in
       let parts = read_all_is p same_id identity s.tree s.tree_is s.header s.index s.header_is
       s.index_is (as_data p) id job.Simple an.Simple (λ part. refl) (p.numbers s.index) made.parts
@@ -654,10 +647,11 @@ module _ (p : Parts) where
       (p.numbers s.index) g.flats made.parts g.valued made.written_are)
       (λ n i. there n (into_numbers s n i)) in
       let rs = items p same_id id in
-      subst (λ rs. (i : p.Index) → index_read rs ≡ Some i → IsSome (data_read (p.numbers i) rs))
-      (sym known.1) (λ i a. as_read (λ i. IsSome (data_read (p.numbers i) rs)) (index_read rs)
-      s.index i (index_known s id (inr (inl refl))) a
-      (some_read (data_read (p.numbers s.index) rs) made.parts parts))
+      subst (λ rs. (o : p.Order) → order_read rs ≡ Some o → IsSome (data_read (p.ordered o) rs))
+      (sym known.1) (λ n a. as_read (λ n. IsSome (data_read (p.ordered n) rs)) (order_read rs)
+      o.order n (order_known s g o id (inr (inl refl))) a
+      (some_read (data_read (p.ordered o.order) rs) made.parts
+      (ap (λ ns. data_read ns rs) (ordered_are s g o) ∙ parts)))
 
   -- and one of metrics what was measured
   pub metrics_finds : (tag : Tag) (reads : Reads) → p.is_of_outlines tag ≡ false
@@ -671,9 +665,9 @@ module _ (p : Parts) where
       let g = order_glyphs known.0.1 in
       let o = ordered s g known.0.1 in
       let there : In job.Advances (reads_with p same_id (numbers p same_id) id)
-      = inr (inr (inr (subst (λ b. In job.Advances
+      = inr (inr (subst (λ b. In job.Advances
       (cond b (map job.Simple (numbers p same_id)) (job.Advances ∷ []))) (sym is)
-      (inl refl)))) in
+      (inl refl))) in
       let made = answered p same_id identity an.Advances (p.measures s.header o.order g.flats)
       (advances_value p same_id) (advances_by p same_id identity s.tree s.tree_is s.header s.index
       s.header_is s.index_is g.flats g.valued o.order o.order_is)
@@ -712,16 +706,16 @@ module _ (p : Parts) where
       = λ tag i. done_of id all (job.Table tag) (map-In job.Table p.tags tag i) in
       let advances_done = part_done p same_id identity (job.Table metrics)
       (table_done metrics metrics_there) job.Advances
-      (inr (inr (inr (subst (λ b. In job.Advances
+      (inr (inr (subst (λ b. In job.Advances
       (cond b (map job.Simple (numbers p same_id)) (job.Advances ∷ []))) (sym is_none)
-      (inl refl))))) in
+      (inl refl)))) in
       let simple_done : (glyph : ℕ) → In glyph (numbers p same_id)
       → is_done (simple_value p same_id glyph) ≡ true
       = λ n i. part_done p same_id identity (job.Table outlines)
       (table_done outlines outlines_there) (job.Simple n)
-      (inr (inr (inr (subst (λ b. In (job.Simple n)
+      (inr (inr (subst (λ b. In (job.Simple n)
       (cond b (map job.Simple (numbers p same_id)) (job.Advances ∷ []))) (sym is_one)
-      (map-In job.Simple (numbers p same_id) n i))))) in
+      (map-In job.Simple (numbers p same_id) n i)))) in
       let measures = answered p same_id identity an.Advances (p.measures s.header o.order g.flats)
       (advances_value p same_id) (advances_by p same_id identity s.tree s.tree_is s.header s.index
       s.header_is s.index_is g.flats g.valued o.order o.order_is) advances_done in

@@ -379,14 +379,11 @@ module _ (p : Parts) (same : JobId → JobId → Bool) where
       unfolding Is
       founded_advances = added job.Advances job.Order founded_order advances_has
           (λ read c. elim (In-from_Contains
-          (job.Header ∷ job.Index ∷ job.Order ∷ map job.Flat (numbers p same)) read c) [
+          (job.Header ∷ job.Order ∷ map job.Flat (numbers p same)) read c) [
             | inl e ↦ subst Is e founded_header
             | inr c ↦ elim c [
-              | inl e ↦ subst Is e founded_index
-              | inr c ↦ elim c [
-                | inl e ↦ subst Is e founded_order
-                | inr c ↦ flats_founded read c
-              ]
+              | inl e ↦ subst Is e founded_order
+              | inr c ↦ flats_founded read c
             ]
           ])
           (λ stratum other e there low. founded_below other there
@@ -609,20 +606,14 @@ module _ (p : Parts) (same : JobId → JobId → Bool) where
       | inl e ↦ subst (IsBelow 3) e (omega arith)
       | inr i ↦ elim i [
         | inl e ↦ subst (IsBelow 3) e (omega arith)
-        | inr i ↦ elim i [
-          | inl e ↦ subst (IsBelow 3) e (omega arith)
-          | inr i ↦ flats_below 3 (omega arith) read i
-        ]
+        | inr i ↦ flats_below 3 (omega arith) read i
       ]
     ]
     above_reads (job.Table tag) read i = elim i [
       | inl e ↦ subst (IsBelow 4) e (omega arith)
       | inr i ↦ elim i [
         | inl e ↦ subst (IsBelow 4) e (omega arith)
-        | inr i ↦ elim i [
-          | inl e ↦ subst (IsBelow 4) e (omega arith)
-          | inr i ↦ by_kind (p.is_of_outlines tag) i
-        ]
+        | inr i ↦ by_kind (p.is_of_outlines tag) i
       ]
     ]
       where

@@ -192,7 +192,7 @@ module _ (p : Parts) (sound : (id : JobId) (r : Refusal) → Fails p id r → �
         index_read = index.1;
       })
 
-  -- A SOURCE WHOSE JOBS DON'T FAIL HAS A FONT
+  -- a source whose jobs don't fail has a font
   pub unrefused_made : (font : p.File) × IsFontOf p font
   unrefused_made =
       let tree = answered p same_id identity an.Tree p.tree (tree_value p same_id)

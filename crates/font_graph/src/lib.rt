@@ -2,8 +2,7 @@
 //!
 //! What the jobs make is left open here: the graph is defined over any parts (a reader of trees, a
 //! writer of tables, ..), and for any parts its plan is solved, so that it is lawful and its limit
-//! is
-//! known.
+//! is known.
 #![tactic(auto)]
 
 mod ids;

@@ -25,12 +25,11 @@ use Rattle.font_graph.specs.declared.ids.JobId.TheVariants as job
 use Rattle.font_plan.specs.Direct.{Entry, order_in}
 use Rattle.font_plan.specs.Drawn.{IsDrawn}
 use Rattle.font_plan.specs.Jobs.{parts, numbers_in, simple_in, is_of_outlines, glyphs_with}
-use Rattle.font_plan.specs.Jobs.{parts_with, behind_made}
+use Rattle.font_plan.specs.Jobs.{parts_with, behind_made, ordered, is_order_of, ordered_is}
 use Rattle.font_plan.specs.Known.{IsSimple}
 use Rattle.font_plan.specs.Reading.{PlanReads, number_read, glyph_read, part_read, simple_read}
 use Rattle.font_plan.proofs.Made.{raw_known, has_places, drawn_places}
 use Rattle.font_plan.proofs.Orders.{all_by, some_there, read_behind, read_there, read_count}
-use Rattle.font_plan.proofs.Orders.{is_order_of}
 
 -- ---- a glyph
 
@@ -103,21 +102,19 @@ pub glyphs_there : (source : List ℕ) (reads : PlanReads) (header : Header) (or
     → order_read (parts []) reads ≡ Some order
     → All (λ number. IsSome (glyph_read header reads number)) order.numbers
 glyphs_there source reads header order found a b =
-    let index = some_there (index_read (parts []) reads) found.index in
-    let flats = some_there (flats_read (parts []) (numbers_in index.0) reads)
-    (found.flats index.0 index.1) in
-    let is = is_order_of index.0 order (found.order_is header index.0 order flats.0 a index.1 b
-    flats.1) in
+    let flats = some_there (flats_read (parts []) (ordered order) reads) (found.flats order b) in
+    let of = found.flats_are header order flats.0 a b flats.1 in
+    let is = is_order_of of.index order of.order_made in
+    let numbers = ordered_is of.index order of.order_made in
     subst (λ (o : Glyphs). All (λ number. IsSome (glyph_read header reads number)) o.numbers)
     (sym is) (read_there (made_notdef_of header) (λ glyph. flat_read (parts []) glyph reads)
-    index.0 (subst IsSome (flats_by (numbers_in index.0) reads) (found.flats index.0 index.1)))
+    of.index (subst IsSome (ap (λ ns. flats_read (parts []) ns reads) numbers
+    ∙ flats_by (numbers_in of.index) reads) (found.flats order b)))
 
 pub record GlyphsFound (header : Header) (order : Glyphs) (reads : PlanReads)
     (glyphs : List FlatGlyph) : Type 0 where
-  pub index : List Entry
   pub flats : List FlatGlyph
-  pub index_is : index_read (parts []) reads ≡ Some index
-  pub flats_are : flats_read (parts []) (numbers_in index) reads ≡ Some flats
+  pub flats_are : flats_read (parts []) (ordered order) reads ≡ Some flats
   pub glyphs_are : glyphs ≡ glyphs_with header order flats
   pub drawn_are : All (IsDrawn header) glyphs
   pub count : length glyphs ≡ length order.names
@@ -129,31 +126,28 @@ pub glyphs_found : (source : List ℕ) (reads : PlanReads) (header : Header) (or
     → map Some glyphs ≡ map (glyph_read header reads) order.numbers
     → AllByRecursion IsSimple glyphs → GlyphsFound header order reads glyphs
 glyphs_found source reads header order glyphs found a b e simple =
-    let index = some_there (index_read (parts []) reads) found.index in
-    let flats = some_there (flats_read (parts []) (numbers_in index.0) reads)
-    (found.flats index.0 index.1) in
-    let is = is_order_of index.0 order (found.order_is header index.0 order flats.0 a index.1 b
-    flats.1) in
+    let flats = some_there (flats_read (parts []) (ordered order) reads) (found.flats order b) in
+    let of = found.flats_are header order flats.0 a b flats.1 in
+    let is = is_order_of of.index order of.order_made in
+    let numbers = ordered_is of.index order of.order_made in
     let read = λ (glyph : ℕ). flat_read (parts []) glyph reads in
     let there : map Some glyphs
-    ≡ map (number_read (made_notdef_of header) read) (order_in index.0).numbers
+    ≡ map (number_read (made_notdef_of header) read) (order_in of.index).numbers
     = e ∙ ap (λ (o : Glyphs). map (glyph_read header reads) o.numbers) is in
     let all : glyphs ≡ glyphs_with header order flats.0
-    = read_behind (made_notdef_of header) read index.0 glyphs flats.0 there
-    (sym (flats_by (numbers_in index.0) reads) ∙ flats.1)
+    = read_behind (made_notdef_of header) read of.index glyphs flats.0 there
+    (sym (ap (λ ns. flats_read (parts []) ns reads) numbers
+    ∙ flats_by (numbers_in of.index) reads) ∙ flats.1)
     ∙ ap (λ (o : Glyphs). glyphs_with header o flats.0) (sym is) in
-    let of = found.flats_are header index.0 flats.0 a index.1 flats.1 in
-    let placed = placed_behind header order.numbers flats.0
-    (places_all of.tree header index.0 (numbers_in index.0) flats.0 of.drawn_are) in
+    let placed = placed_behind header order.numbers flats.0 (places_all of.drawn_of.tree header
+    of.index (numbers_in of.index) flats.0 of.drawn_of.drawn_are) in
     record {
-      index = index.0;
       flats = flats.0;
-      index_is = index.1;
       flats_are = flats.1;
       glyphs_are = all;
       drawn_are = all_by (IsDrawn header) glyphs (all_drawn header glyphs simple
           (subst (AllByRecursion (HasMastersPlaces header)) (sym all) placed));
-      count = read_count (made_notdef_of header) read index.0 glyphs there
+      count = read_count (made_notdef_of header) read of.index glyphs there
           ∙ ap (λ (o : Glyphs). length o.names) (sym is);
     }
 
@@ -167,22 +161,20 @@ pub parts_there : (source : List ℕ) (tag : Tag) (reads : PlanReads) (header : 
     → order_read (parts []) reads ≡ Some order
     → All (λ number. IsSome (part_read header reads number)) order.numbers
 parts_there source tag reads header order is d done a b =
-    let found = running.table_finds (parts source) tag reads d in
-    let index = some_there (index_read (parts []) reads) found.index in
-    let there = running.outline_finds (parts source) tag reads is d done index.0 index.1 in
-    let made = found.order_is header index.0 order a index.1 b in
-    let same = is_order_of index.0 order made.order_made in
+    let there = running.outline_finds (parts source) tag reads is d done order b in
+    let made = (running.table_finds (parts source) tag reads d).order_is header order a b in
+    let same = is_order_of made.index order made.order_made in
+    let numbers = ordered_is made.index order made.order_made in
     subst (λ (o : Glyphs). All (λ number. IsSome (part_read header reads number)) o.numbers)
     (sym same) (read_there (simple_in header (made_notdef_of header))
-    (λ glyph. simple_read glyph reads) index.0
-    (subst IsSome (data_by (numbers_in index.0) reads) there))
+    (λ glyph. simple_read glyph reads) made.index
+    (subst IsSome (ap (λ ns. data_read (parts []) ns reads) numbers
+    ∙ data_by (numbers_in made.index) reads) there))
 
 pub record PartsFound (header : Header) (order : Glyphs) (reads : PlanReads)
     (found : List (List ℕ)) : Type 0 where
-  pub index : List Entry
   pub written : List (List ℕ)
-  pub index_is : index_read (parts []) reads ≡ Some index
-  pub data_are : data_read (parts []) (numbers_in index) reads ≡ Some written
+  pub data_are : data_read (parts []) (ordered order) reads ≡ Some written
   pub parts_are : found ≡ parts_with header order written
 
 -- and what was collected is the data of the font's glyphs
@@ -194,20 +186,18 @@ pub parts_found : (source : List ℕ) (tag : Tag) (reads : PlanReads) (header : 
     → map Some collected ≡ map (part_read header reads) order.numbers
     → PartsFound header order reads collected
 parts_found source tag reads header order collected is d done a b e =
-    let found = running.table_finds (parts source) tag reads d in
-    let index = some_there (index_read (parts []) reads) found.index in
-    let written = some_there (data_read (parts []) (numbers_in index.0) reads)
-    (running.outline_finds (parts source) tag reads is d done index.0 index.1) in
-    let made = found.order_is header index.0 order a index.1 b in
-    let same = is_order_of index.0 order made.order_made in
+    let written = some_there (data_read (parts []) (ordered order) reads)
+    (running.outline_finds (parts source) tag reads is d done order b) in
+    let made = (running.table_finds (parts source) tag reads d).order_is header order a b in
+    let same = is_order_of made.index order made.order_made in
+    let numbers = ordered_is made.index order made.order_made in
     record {
-      index = index.0;
       written = written.0;
-      index_is = index.1;
       data_are = written.1;
       parts_are = read_behind (simple_in header (made_notdef_of header))
-          (λ glyph. simple_read glyph reads) index.0 collected written.0
+          (λ glyph. simple_read glyph reads) made.index collected written.0
           (e ∙ ap (λ (o : Glyphs). map (part_read header reads) o.numbers) same)
-          (sym (data_by (numbers_in index.0) reads) ∙ written.1)
+          (sym (ap (λ ns. data_read (parts []) ns reads) numbers
+          ∙ data_by (numbers_in made.index) reads) ∙ written.1)
           ∙ ap (λ (o : Glyphs). parts_with header o written.0) (sym same);
     }

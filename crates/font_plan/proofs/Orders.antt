@@ -145,17 +145,6 @@ module _ {A : Type 0} (made : A) (read : ℕ → Option A) where
       ∙ ap suc (length-map (others_from 0 index) (λ (glyph : ℕ × Entry). Some glyph.0)
       ∙ sym (length-map (others_from 0 index) (λ (glyph : ℕ × Entry). glyph.1.0)))
 
--- an order that is not refused is the order of the index
-pub is_order_of : (index : List Entry) (order : Glyphs) → order_or_refused index ≡ Ok order
-    → order ≡ order_in index
-is_order_of index order e = by (nat_lt GLYPHS (length (order_in index).names)) e
-  where
-    by : (b : Bool) → cond {A = Result Glyphs Refusal} b
-        (Err (too_many_glyphs (length (order_in index).names))) (Ok (order_in index)) ≡ Ok order
-        → order ≡ order_in index
-    by true f = absurd cc
-    by false f = cc
-
 -- ---- how many there are
 
 count_others : (others : List (ℕ × Entry)) → length (map (λ glyph. glyph.0) others)

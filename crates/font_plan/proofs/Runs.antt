@@ -23,7 +23,7 @@ use Rattle.font_graph.specs.declared.ids.JobId.TheVariants as job
 use Rattle.font_graph.specs.declared.items.Item.TheVariants as an
 use Rattle.font_plan.specs.Direct.{Entry, filed}
 use Rattle.font_plan.specs.Jobs.{parts, tree_of, numbers_in, raw_in, flat_in, simple_in}
-use Rattle.font_plan.specs.Jobs.{order_or_refused, glyphs_with, parts_with, is_of_outlines}
+use Rattle.font_plan.specs.Jobs.{order_or_refused, ordered, glyphs_with, parts_with, is_of_outlines}
 use Rattle.font_plan.specs.Jobs.{outline_table, metrics_table, present, table_tags}
 use Rattle.font_plan.specs.Reading.{PlanReads}
 use Rattle.font_plan.specs.Settling.{AnItem, made_by, none}
@@ -95,41 +95,37 @@ order_comes source reads header index flats a b c =
     ∙ settled_so source an.Order (λ order. after_order (parts []) same_id (numbers_in index))
     (order_or_refused index))
 
-pub advances_comes : (source : List ℕ) (reads : PlanReads) (header : Header) (index : List Entry)
-    (order : Glyphs) (flats : List FlatGlyph)
-    → running.header_read (parts []) reads ≡ Some header
-    → running.index_read (parts []) reads ≡ Some index
+pub advances_comes : (source : List ℕ) (reads : PlanReads) (header : Header) (order : Glyphs)
+    (flats : List FlatGlyph) → running.header_read (parts []) reads ≡ Some header
     → running.order_read (parts []) reads ≡ Some order
-    → running.flats_read (parts []) (numbers_in index) reads ≡ Some flats
+    → running.flats_read (parts []) (ordered order) reads ≡ Some flats
     → made_by an.Advances none (Ok (measures_of header (glyphs_with header order flats)))
     ≡ comes source job.Advances reads
-advances_comes source reads header index order flats a b c d =
-    sym (running.advances_runs (parts source) reads header index order flats a b c d
+advances_comes source reads header order flats a b c =
+    sym (running.advances_runs (parts source) reads header order flats a b c
     ∙ settled_so source an.Advances none
     (Ok (measures_of header (glyphs_with header order flats))))
 
 pub outlines_come : (source : List ℕ) (reads : PlanReads) (tag : Tag) (header : Header)
-    (index : List Entry) (order : Glyphs) (written : List (List ℕ)) → is_of_outlines tag ≡ true
+    (order : Glyphs) (written : List (List ℕ)) → is_of_outlines tag ≡ true
     → running.header_read (parts []) reads ≡ Some header
-    → running.index_read (parts []) reads ≡ Some index
     → running.order_read (parts []) reads ≡ Some order
-    → running.data_read (parts []) (numbers_in index) reads ≡ Some written
+    → running.data_read (parts []) (ordered order) reads ≡ Some written
     → made_by an.Table none (outline_table tag (parts_with header order written))
     ≡ comes source (job.Table tag) reads
-outlines_come source reads tag header index order written is a b c d =
-    sym (running.outline_runs (parts source) tag reads header index order written is a b c d
+outlines_come source reads tag header order written is a b c =
+    sym (running.outline_runs (parts source) tag reads header order written is a b c
     ∙ settled_so source an.Table none (outline_table tag (parts_with header order written)))
 
 pub metrics_come : (source : List ℕ) (reads : PlanReads) (tag : Tag) (header : Header)
-    (index : List Entry) (order : Glyphs) (measures : Measures) → is_of_outlines tag ≡ false
+    (order : Glyphs) (measures : Measures) → is_of_outlines tag ≡ false
     → running.header_read (parts []) reads ≡ Some header
-    → running.index_read (parts []) reads ≡ Some index
     → running.order_read (parts []) reads ≡ Some order
     → running.measures_read (parts []) reads ≡ Some measures
     → made_by an.Table none (Ok (Some (metrics_table tag header measures)))
     ≡ comes source (job.Table tag) reads
-metrics_come source reads tag header index order measures is a b c d =
-    sym (running.metrics_runs (parts source) tag reads header index order measures is a b c d
+metrics_come source reads tag header order measures is a b c =
+    sym (running.metrics_runs (parts source) tag reads header order measures is a b c
     ∙ settled_so source an.Table none (Ok (Some (metrics_table tag header measures))))
 
 pub font_comes : (source : List ℕ) (reads : PlanReads) (tables : List (Option (List ℕ)))

@@ -1,8 +1,10 @@
 -- What each job of a source makes: the parts of its graph, which are defined in the crates that
 -- read and write them. fontc's own; the tables are those of OpenType 1.9.
-use Rattle.std.specs.Prelude.{ℕ, Bool, true, false, ◌||◌, List, [], ◌∷◌, ◌++◌, length, map, codes}
-use Rattle.std.specs.Prelude.{nat_lt, nat_eq, Option, Some, None, Result, Ok, Err, slice_get}
+use Rattle.std.proofs.Common.{refl, ap, ◌∙◌}
+use Rattle.std.specs.Prelude.{◌≡◌, ℕ, Bool, true, false, ◌||◌, List, [], ◌∷◌, ◌++◌, length, map}
+use Rattle.std.specs.Prelude.{codes, nat_lt, nat_eq, Option, Some, None, Result, Ok, Err, slice_get}
 use Rattle.std.specs.Prelude.{if◌then◌else◌}
+use Rattle.std.specs.Option.{option_map}
 use Rattle.std.specs.Cmp.Lexicographic.{pointwise}
 use Rattle.refusal_codes.specs.declared.refusal.Refusal.{Refusal}
 use Rattle.refusal_codes.specs.declared.rule.Rule.TheVariants.{MissingLayer}
@@ -77,6 +79,43 @@ abbrev pub order_or_refused : List Entry → Result Glyphs Refusal
 order_or_refused index =
     if nat_lt GLYPHS (length (order_in index).names)
     then Err (too_many_glyphs (length (order_in index).names)) else Ok (order_in index)
+
+-- the numbers that are given
+abbrev pub given : List (Option ℕ) → List ℕ
+given [] = []
+given (None ∷ numbers) = given numbers
+given (Some number ∷ numbers) = number ∷ given numbers
+
+-- the numbers of the glyphs that an order holds; a made `.notdef` has none
+abbrev pub ordered : Glyphs → List ℕ
+ordered order = given order.numbers
+
+-- an order that is not refused is the order of the index
+pub is_order_of : (index : List Entry) (order : Glyphs) → order_or_refused index ≡ Ok order
+    → order ≡ order_in index
+is_order_of index order e = by (nat_lt GLYPHS (length (order_in index).names)) e
+  where
+    by : (b : Bool) → (if b then Err (too_many_glyphs (length (order_in index).names))
+        else Ok (order_in index)) ≡ Ok order → order ≡ order_in index
+    by true f = absurd cc
+    by false f = cc
+
+given_all : (glyphs : List (ℕ × Entry))
+    → given (map (λ glyph. Some glyph.0) glyphs) ≡ map (λ glyph. glyph.0) glyphs
+given_all [] = refl
+given_all (glyph ∷ glyphs) = ap (λ rest. glyph.0 ∷ rest) (given_all glyphs)
+
+given_behind : (first : Option (ℕ × Entry)) (glyphs : List (ℕ × Entry))
+    → given (option_map (λ glyph. glyph.0) first ∷ map (λ glyph. Some glyph.0) glyphs)
+    ≡ number_of first ++ map (λ glyph. glyph.0) glyphs
+given_behind None glyphs = given_all glyphs
+given_behind (Some glyph) glyphs = ap (λ rest. glyph.0 ∷ rest) (given_all glyphs)
+
+-- so it holds the numbers of the exported glyphs
+pub ordered_is : (index : List Entry) (order : Glyphs) → order_or_refused index ≡ Ok order
+    → ordered order ≡ numbers_in index
+ordered_is index order e = ap ordered (is_order_of index order e)
+    ∙ given_behind (notdef_from 0 index) (others_from 0 index)
 
 -- what stands for each glyph, where that of a made `.notdef` goes first
 abbrev pub behind_made : {A : Type 0} → List (Option ℕ) → A → List A → List A
@@ -153,6 +192,8 @@ parts source = record {
   flat = flat_in;
   simple = λ header glyph. Ok (simple_in header glyph);
   order = λ header index glyphs. order_or_refused index;
+  ordered = ordered;
+  ordered_is = λ header index glyphs order e. ordered_is index order e;
   measures = λ header order glyphs. Ok (measures_of header (glyphs_with header order glyphs));
   tags = table_tags;
   is_of_outlines = is_of_outlines;

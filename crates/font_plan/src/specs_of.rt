@@ -86,7 +86,7 @@ fn order(alloc: Global, glyphs: &[u32]) -> Result<Spec<JobId>, NoMemory>
 fn advances(alloc: Global, glyphs: &[u32]) -> Result<Spec<JobId>, NoMemory>
     ensures { IfOk result (λ s. s ≡ spec_with (parts []) same_id glyphs.now job.Advances) }
 {
-    let mut reads = Vec::from_slice(alloc, &[JobId::Header, JobId::Index, JobId::Order])?;
+    let mut reads = Vec::from_slice(alloc, &[JobId::Header, JobId::Order])?;
     push_flats(&mut reads, glyphs)?;
     Ok(spec(JobId::Advances, reads))
 }
@@ -95,7 +95,7 @@ fn advances(alloc: Global, glyphs: &[u32]) -> Result<Spec<JobId>, NoMemory>
 fn table(alloc: Global, glyphs: &[u32], tag: Tag) -> Result<Spec<JobId>, NoMemory>
     ensures { IfOk result (λ s. s ≡ spec_with (parts []) same_id glyphs.now (job.Table tag)) }
 {
-    let mut reads = Vec::from_slice(alloc, &[JobId::Header, JobId::Index, JobId::Order])?;
+    let mut reads = Vec::from_slice(alloc, &[JobId::Header, JobId::Order])?;
     if is_of_outlines(tag) {
         push_data(&mut reads, glyphs)?;
     } else {

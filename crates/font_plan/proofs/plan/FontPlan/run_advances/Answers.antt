@@ -73,7 +73,7 @@ returns c =
     subst (Comes c.run_advances.result)
     (ap (λ glyphs. made_by an.Advances none (Ok (measures_of c.get-header.result.now glyphs)))
     found.glyphs_are
-    ∙ advances_comes c.args.self.now c.args.reads.now c.get-header.result.now found.index
+    ∙ advances_comes c.args.self.now c.args.reads.now c.get-header.result.now
     c.order_in-order.result.now found.flats
     (c.header_in.ensures ∙ ap Some (sym c.get-header.ensures.value))
-    found.index_is c.order_in-order.ensures found.flats_are) c.run_advances.ensures
+    c.order_in-order.ensures found.flats_are) c.run_advances.ensures

@@ -5,7 +5,7 @@ use Rattle.font_plan.specs.Settling.{Comes}
 use Rattle.std.proofs.Common.{[]}
 use Rattle.glyphs_source.specs.HeaderReading.{IsReadHeader}
 use Rattle.glyphs_source.specs.ReadHeaders.{read_header_is_whole}
-use Rattle.font_graph.specs.Running.{table_finds, metrics_finds, index_read, order_read}
+use Rattle.font_graph.specs.Running.{table_finds, metrics_finds, order_read}
 use Rattle.font_plan.proofs.Orders.{some_there}
 use Rattle.font_plan.proofs.Runs.{metrics_come}
 use Rattle.font_plan.proofs.plan.FontPlan.run_metrics.Goals as goal
@@ -25,9 +25,8 @@ pub returns : goal.returns
 returns c =
     let reads = c.args.reads.now in
     let found = (table_finds (parts c.args.self.now) c.args.tag c.args.reads.now c.requires.due) in
-    let index = some_there (index_read (parts []) reads) found.index in
     let order = some_there (order_read (parts []) reads) found.order in
     subst (Comes c.run_metrics.result) (metrics_come c.args.self.now reads c.args.tag
-    c.get-header.result.now index.0 order.0 c.get-measures.result.now c.requires.metrics
-    (c.header_in.ensures ∙ ap Some (sym c.get-header.ensures.value)) index.1 order.1
+    c.get-header.result.now order.0 c.get-measures.result.now c.requires.metrics
+    (c.header_in.ensures ∙ ap Some (sym c.get-header.ensures.value)) order.1
     (c.measures_in.ensures ∙ ap Some (sym c.get-measures.ensures.value))) c.run_metrics.ensures

@@ -37,6 +37,5 @@ returns c =
     ∙ c.in_ok-parts.ensures) in
     subst (Comes c.run_outlines.result)
     (ap (λ all. made_by an.Table none (outline_table c.args.tag all)) found.parts_are
-    ∙ outlines_come c.args.self.now c.args.reads.now c.args.tag header found.index order
-    found.written c.requires.outlines header_is found.index_is c.order_in-order.ensures
-    found.data_are) c.run_outlines.ensures
+    ∙ outlines_come c.args.self.now c.args.reads.now c.args.tag header order
+    found.written c.requires.outlines header_is c.order_in-order.ensures found.data_are) c.run_outlines.ensures
