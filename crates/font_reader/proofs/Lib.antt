@@ -1,3 +1,5 @@
+pub mod Fills
 pub mod Fonts
+pub mod Means
 pub mod Rows
 pub mod Turns

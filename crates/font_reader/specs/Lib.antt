@@ -5,8 +5,14 @@ pub mod Fields
 pub mod Fold
 pub mod Metrics
 pub mod Names
+pub mod Inferred
+pub mod Outlines
+pub mod Packed
+pub mod Points
+pub mod Rooms
 pub mod Search
 pub mod Shapes
 pub mod Stores
 pub mod Texts
+pub mod Tuples
 pub mod Versions

@@ -106,7 +106,8 @@ fn value_in_record(
     requires axes { length place.now < 65536 }
     requires few { i < 65536 }
     ensures value { result ≡ value_in_record bytes.now mvar store tag place.now i }
-    ensures small { IfOk result (λ found. IfSome found (λ sum. unsigned_abs sum ≤ 140737488355328)) }
+    ensures small { IfOk result (λ found. IfSome found
+        (λ sum. unsigned_abs sum ≤ 140737488355328)) }
 {
     let value_tag = read_u32(bytes, mvar, 12 + 8 * i)?;
     let outer = read_u16(bytes, mvar, 16 + 8 * i)?;
@@ -133,7 +134,8 @@ fn value_in_records(
     requires axes { length place.now < 65536 }
     ensures value { result
         ≡ first_found (value_in_record bytes.now mvar store tag place.now) 0 count }
-    ensures small { IfOk result (λ found. IfSome found (λ sum. unsigned_abs sum ≤ 140737488355328)) }
+    ensures small { IfOk result (λ found. IfSome found
+        (λ sum. unsigned_abs sum ≤ 140737488355328)) }
 {
     let end = usize::from(count);
     for i in 0..end {
