@@ -439,6 +439,18 @@ board_finish_lists {Id} {V} same plan workers lawful events jobs values outs hal
     out value added o after (items ∙ ap (λ (j : Id). events.items ++ event.Finish w j ∷ [])
     named) room)
 
+-- a job that is out isn't settled
+pub out_unsettled : {Id V : Type 0} (same : Id → Id → Bool) (plan : Meaning Id V) (workers : ℕ)
+    (lawful : IsLawful same plan) (events : Vec (Event Id) Global) (jobs : List (Spec Id))
+    (values : List (Id × Plain V)) (outs : List (Option Id)) (halted : List Bool) (any : Bool)
+    → IsBoard same plan workers events (state_from jobs values) outs halted any → (w : ℕ) (id : Id)
+    → slice_get (out_of workers events.items) w ≡ Some (Some id) → (k : Id) → k ≡ id
+    → is_settled same (state_from jobs values) k ≡ false
+out_unsettled same plan workers lawful events jobs values outs halted any b w id out k named =
+    subst (λ s. is_settled same s k ≡ false) (sym b.state_is)
+    (subst (λ j. is_settled same (state_of same plan events.items) j ≡ false) (sym named)
+    ((owned same plan workers lawful events.items b.legal).unsettled w id out))
+
 -- the same board, by its lists
 pub board_kept : {Id V : Type 0} (same : Id → Id → Bool) (plan : Meaning Id V) (workers : ℕ)
     (events : Vec (Event Id) Global) (jobs : List (Spec Id)) (values : List (Id × Plain V))

@@ -1,6 +1,9 @@
 -- An index of a list to which an item is added.
 use Rattle.std.proofs.Common.{◌≡◌, ℕ, suc, ◌+◌, ◌<◌, Bool, true, false, cond, List, [], ◌∷◌, ◌++◌}
-use Rattle.std.proofs.Common.{map, length, get_or, Some, None, refl, sym, ap, ◌∙◌, zero-add, arith}
+use Rattle.std.proofs.Common.{map, length, get_or, Option, Some, None, is_some, refl, sym, ap, ◌∙◌}
+use Rattle.std.proofs.Common.{zero-add, arith}
+use Rattle.std.proofs.lemmas.Bool.{false≢true}
+use Rattle.std.specs.Cmp.{IsEquivalence}
 use Rattle.std.specs.Prelude.{slice_get, option_map}
 use Rattle.std.proofs.lemmas.Option.{slice_get_within, slice_get-get_or, slice_get-map, same_Some}
 use Rattle.std.specs.BTreeMap as tree
@@ -84,6 +87,48 @@ index_push same order m n items items' k v place old at noted is = λ q.
     ∙ ap (λ p. first_of (place_from same 0 items q) (cond (same k q) (Some p) None))
     (zero-add (length items)))
     ∙ ap (λ xs. place_from same 0 xs q) (sym is)
+
+-- what has no value has no place
+absent : {Id X : Type 0} (same : Id → Id → Bool) (n : ℕ) (items : List (Id × X)) (id : Id)
+    → is_some (read_of same items id) ≡ false → place_from same n items id ≡ None
+absent same n [] id e = refl
+absent same n (x ∷ xs) id e =
+    elim (same x.0 id) as (λ b. is_some (cond b (Some x.1) (read_of same xs id)) ≡ false
+    → cond b (Some n) (place_from same (suc n) xs id) ≡ None) [
+      | true ↦ λ e. absurd (false≢true (sym e))
+      | false ↦ λ e. absent same (suc n) xs id e
+    ] e
+
+place_alike : {Id X : Type 0} (same : Id → Id → Bool) (q k : Id)
+    → ((x : Id) → same x q ≡ same x k) → (n : ℕ) (items : List (Id × X))
+    → place_from same n items q ≡ place_from same n items k
+place_alike same q k alike n [] = refl
+place_alike same q k alike n (x ∷ xs) = λ i. cond (alike x.0 i) (Some n)
+    (place_alike same q k alike (suc n) xs i)
+
+first_alone : (o : Option ℕ) → o ≡ first_of o None
+first_alone None = refl
+first_alone (Some x) = refl
+
+-- an item that is new to the index
+pub noted_new : {Id V : Type 0} (same : Id → Id → Bool) → IsEquivalence same
+    → (order : Id → Id → Ordering) (m n : BTreeMap Id ℕ) (items : List (Id × Settled V)) (k : Id)
+    (place : ℕ) → IsIndex same order m items
+    → is_some (read_of same (map plain_item items) k) ≡ false
+    → ((q : Id) → tree.get order n q ≡ cond (same k q) (Some place) (tree.get order m q))
+    → (q : Id) → tree.get order n q ≡ first_of (tree.get order m q)
+    (cond (same k q) (Some place) None)
+noted_new same laws order m n items k place old new put q =
+    put q ∙ (elim (same k q) as (λ b. same k q ≡ b
+    → cond b (Some place) (tree.get order m q) ≡ first_of (tree.get order m q)
+    (cond b (Some place) None)) [
+      | true ↦ λ e. (let alike : (x : _) → same x q ≡ same x k = λ x. laws.symm x q
+          ∙ (sym (laws.congr k q x e) ∙ laws.symm k x) in
+          let none : tree.get order m q ≡ None = old q ∙ (place_alike same q k alike 0 items
+          ∙ (sym (place_from-plain same 0 items k) ∙ absent same 0 (map plain_item items) k new)) in
+          ap (λ o. first_of o (Some place)) (sym none))
+      | false ↦ λ e. first_alone (tree.get order m q)
+    ] refl)
 
 -- a value that stands at its place
 pub value_there : {Id V : Type 0} (same : Id → Id → Bool) (items : List (Id × Settled V)) (id : Id)

@@ -106,8 +106,8 @@ impl<Id: Copy + Ord> Queues<Id> {
     }
 }
 
-/// A job joins one queue, under its id.
-fn insert_job<Id: Copy + Ord>(
+/// A number joins one queue, or another index, under an id.
+pub fn insert_job<Id: Copy + Ord>(
     queue: &mut BTreeMap<Id, usize>,
     id: Id,
     number: usize,

@@ -1,13 +1,14 @@
 // What came of jobs, found by their ids.
 ghost use Rattle.std.specs.Prelude.{◌≡◌, ℕ, Option, option_map, map, Some, None, true, false, []};
 ghost use Rattle.std.specs.Prelude.{◌∷◌, ◌++◌, OnOk, OnErr, IfErr, length, slice_get, ◌<◌};
-ghost use Rattle.std.specs.Prelude.{if◌then◌else◌};
+ghost use Rattle.std.specs.Prelude.{if◌then◌else◌, is_some};
 ghost use Rattle.std.specs.BTreeMap as tree;
 ghost use Rattle.access_context.specs.Plain.{plain};
 ghost use Rattle.access_context.specs.Read.{plain_item, read_of};
 ghost use Rattle.access_context.specs.Places.{place_from};
 ghost use Rattle.job_graph.specs.Places.{first_of};
 
+use crate::queues::insert_job;
 use access_context::Settled;
 use std::alloc::Global;
 use std::collections::BTreeMap;
@@ -81,8 +82,10 @@ impl<Id: Copy + Ord, V: Drop> Values<Id, V> {
         self.items[place].0
     }
 
-    /// Adds what came of a job. Where memory runs out, nothing is added and it comes back.
+    /// Adds what came of a job that isn't settled yet. Where memory runs out, nothing is added and
+    /// it comes back.
     pub fn push(&mut self, id: Id, value: Settled<V>) -> Result<(), Settled<V>>
+        requires { is_some (read_of Id.eq self.old id) ≡ false }
         ensures ok { OnOk result (self.new ≡ self.old ++ (id, plain value) ∷ []) }
         ensures err { OnErr result (self.new ≡ self.old) }
         ensures back { IfErr result (λ v. v ≡ value) }
@@ -91,11 +94,13 @@ impl<Id: Copy + Ord, V: Drop> Values<Id, V> {
             return Err(value);
         }
         let place = self.items.len();
-        if !note_place(&mut self.places, id, place) {
-            return Err(value);
+        match insert_job(&mut self.places, id, place) {
+            Ok(()) => {
+                self.items.push_reserved((id, value));
+                Ok(())
+            }
+            Err(_) => Err(value),
         }
-        self.items.push_reserved((id, value));
-        Ok(())
     }
 }
 

@@ -6,7 +6,7 @@ use Rattle.job_graph.proofs.Agendas.{finish_up, finish_down}
 use Rattle.access_context.specs.Plain.{plain}
 use Rattle.job_graph.specs.declared.event.Event.TheVariants as event
 use Rattle.job_graph.proofs.Boards.{out_within, board_finish_lists, board_kept, board_history}
-use Rattle.job_graph.proofs.Boards.{view_push}
+use Rattle.job_graph.proofs.Boards.{view_push, out_unsettled}
 use Rattle.job_graph.proofs.Kept.{history_of}
 use Rattle.job_graph.proofs.Halts.{now_has}
 use Rattle.job_graph.proofs.Ranges.{ranges_after, ranges_same}
@@ -29,6 +29,11 @@ invariant_of-self g c = record {
       (sym c.make_room.ensures.jobs) refl refl c.self.inside.passed.items c.self.invariant.strata;
   count = c.self.invariant.count;
 }
+
+pub push-requires : goal.push-requires
+push-requires g c = out_unsettled _ _ _ (g.met.P.Plan.lawful c.self.inside.plan) _ _ _ _ _ _
+    c.self.invariant.board c.args.worker c.args.ticket (rw (← c.self.view_is) at c.requires.out)
+    c.id-id.result.now c.id-id.ensures
 
 pub invariant_of-self-in-Err : goal.invariant_of-self-in-Err
 invariant_of-self-in-Err g c = record {
