@@ -1,3 +1,4 @@
+pub mod AskedLaws
 pub mod BoardLaws
 pub mod Ends
 pub mod Rows

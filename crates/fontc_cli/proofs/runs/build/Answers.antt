@@ -5,6 +5,7 @@ use Rattle.whole_files.specs.declared.ReadWholeError.{ReadWholeError}
 use Rattle.whole_files.specs.declared.ReadWholeError.TheVariants.{TooLong, Failed}
 use Rattle.refusal_codes.specs.declared.refusal.Refusal.{Refusal}
 use Rattle.font_plan.specs.Font.{font_of}
+use Rattle.fontc_cli.proofs.AskedLaws.{asked_after}
 use Rattle.fontc_cli.proofs.BoardLaws.{board_after, none_told}
 use Rattle.fontc_cli.proofs.Ends.{ends_after, refused_ends}
 use Rattle.fontc_cli.proofs.runs.build.Goals as goal
@@ -58,3 +59,7 @@ returns-in-Ok-clause-board g c = board_after _ c.build_source.result.status
       writes = c.in-Ok.ensures.writes;
     })
     c.build_source.ensures.board
+
+pub returns-in-Ok-clause-asked : goal.returns-in-Ok-clause-asked
+returns-in-Ok-clause-asked g c = asked_after _ c.build_source.result.status _ _ _
+    c.in-Ok.ensures.asked c.build_source.ensures.asked
