@@ -2,7 +2,11 @@
 #![tactic(auto)]
 
 #[cfg(test)]
+mod advance_variations;
+#[cfg(test)]
 mod assembly;
+#[cfg(test)]
+mod axis_styles;
 #[cfg(test)]
 mod axis_tables;
 #[cfg(test)]
@@ -13,6 +17,8 @@ mod font_names;
 mod glyf;
 #[cfg(test)]
 mod metrics;
+#[cfg(test)]
+mod metrics_variations;
 #[cfg(test)]
 mod offset_trees;
 #[cfg(test)]

@@ -4,7 +4,7 @@ ghost use Rattle.metrics_tables.specs.Tables.{AreMeasures};
 
 use fixtures::{glyph, header, triangle};
 use font_ir::{GlyphOrder, Header};
-use metrics_tables::{Measures, head, hhea, hmtx, maxp, measure};
+use metrics_tables::{Measures, head, hhea, hmtx, maxp, measure, os2, post};
 use plain_lists::Sequence;
 use std::alloc::Global;
 use std::process::Abort;
@@ -60,5 +60,35 @@ fn a_triangle_and_a_notdef_have_these_tables(rt: HostRuntime) -> Result<(), Fail
     let measures = measured(&rt, rt.alloc(), &header)?;
     let tables = tables(rt.alloc(), &header, &measures)?;
     assert!(rt; tables == hex::decode(rt.alloc(), TABLES)?);
+    Ok(())
+}
+
+/// The table OS/2 of the triangle's font.
+const OS_2: &str = "000401f4019000050000028a028a0000008c028a028a000001e0003201040000\
+    00000000000000000000\
+    00000000000000000000000000000000\
+    4e4f4e4500c000410041\
+    0320ff380000032000c8\
+    000000000000000000000000000000200000";
+
+#[test]
+fn a_triangle_has_this_style(rt: HostRuntime) -> Result<(), Fail> {
+    let header = header(rt.alloc(), 1000)?;
+    let measures = measured(&rt, rt.alloc(), &header)?;
+    let table = os2(rt.alloc(), &header, &measures, &[(0x41, 1)])?;
+    assert!(rt; table == hex::decode(rt.alloc(), OS_2)?);
+    Ok(())
+}
+
+/// The table post of that font: the name A is the first one behind the standard names.
+const POST: &str = "0002000000000000ff9c003200000000000000000000000000000000\
+    000000000002000001020141";
+
+#[test]
+fn a_glyph_keeps_its_name(rt: HostRuntime) -> Result<(), Fail> {
+    let header = header(rt.alloc(), 1000)?;
+    let order = order(&rt, rt.alloc())?;
+    let table = post(rt.alloc(), &header, &order)?;
+    assert!(rt; table == hex::decode(rt.alloc(), POST)?);
     Ok(())
 }
