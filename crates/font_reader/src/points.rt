@@ -42,15 +42,15 @@ impl FontView<'_> {
     /// Of a composite glyph a point is a component, and the answer is its offset. After the points
     /// stand the four phantom points, of which the second is at the advance.
     ///
-    /// It takes time for the glyph's data, and for those of its tuples, and no memory: the room is
-    /// where it works.
+    /// It takes time for the glyph's data and for those of its tuples. It takes no memory: it works
+    /// in the room.
     ///
     /// # Errors
     ///
     /// `CoordCount` at the number of axes, where there are more or fewer coordinates; `NoPoint` at
-    /// a glyph that isn't there; then the first fault on the way, in `head`, `loca` and `glyf`, with
-    /// `NoPoint` at a point that isn't there once its number of points is known, and at last in
-    /// `hhea`, `hmtx` and `gvar`.
+    /// a glyph that isn't there; then the first fault on the way, in `head`, `loca` and `glyf`,
+    /// with `NoPoint` at a point that isn't there once its number of points is known, and at last
+    /// in `hhea`, `hmtx` and `gvar`.
     pub fn point_at(
         &self,
         gid: u16,

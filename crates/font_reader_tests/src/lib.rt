@@ -1,0 +1,9 @@
+//! Tests of fonts that are read back, over public calls.
+#![tactic(auto)]
+
+#[cfg(test)]
+mod calls;
+#[cfg(test)]
+mod fonts;
+#[cfg(test)]
+mod outlines;
