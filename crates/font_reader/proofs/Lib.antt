@@ -1,5 +1,6 @@
 pub mod Fills
 pub mod Fonts
+pub mod LawProofs
 pub mod Means
 pub mod PointRows
 pub mod Rows

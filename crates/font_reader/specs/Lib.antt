@@ -3,6 +3,7 @@ pub mod Cmap
 pub mod Directory
 pub mod Fields
 pub mod Fold
+pub mod Laws
 pub mod Metrics
 pub mod Names
 pub mod Inferred

@@ -11,6 +11,7 @@ mod directory;
 mod faults;
 mod fields;
 mod inferred;
+mod laws;
 mod metrics;
 mod names;
 mod outlines;
@@ -24,6 +25,7 @@ mod versions;
 
 pub use directory::FontView;
 pub use faults::{FaultKind, FontFault};
+pub use laws::{peaks_are_whole, points_stay_without_tuples, tables_are_found};
 pub use metrics::Metric;
 pub use points::Point;
 pub use room::Room;
