@@ -1,5 +1,5 @@
--- Worked texts, by computation: which are refused, and where, and that what is read of the others is
--- what their words spell.
+-- Worked texts, by computation: which are refused, and where, and that what is read of the others
+-- is what their words spell.
 use Rattle.std.proofs.Common.{◌≡◌, ℕ, Bool, true, false, ◌&&◌, List, [], ◌∷◌, ◌++◌, refl}
 use Rattle.std.specs.Prelude.{◌==◌, Result, Ok, Err, codes}
 use Rattle.refusal_codes.specs.declared.refusal.Refusal.{Refusal}
@@ -147,7 +147,8 @@ systems : is_read (codes "languagesystem DFLT dflt; @x = [A \\by @y]; @y = @x; #
 unfolding texts_on_literals
 systems = refl
 
-substitutions : is_read (liga (codes "sub A by B; substitute A by B C; sub A [B C] by D; sub @x by @y;"
+substitutions : is_read (liga (codes "sub A by B; substitute A by B C; sub A [B C] by D;"
+    ++ codes "sub @x by @y;"
     ++ codes "sub A from [B C]; sub A' by B C; sub A @x' lookup l B by @y; sub A' lookup l B' C;"
     ++ codes "ignore sub A B', @x' C; sub A' B' by \\sub; lookup l { sub A by B; } l; lookup l;"))
     ≡ true

@@ -1,8 +1,8 @@
--- What it is that words spell a feature file: each part of a file with the words that spell it, in
--- the order of the text, rule by rule of the grammar. A part's place is that of its first word; what
--- stands in no part, as a brace, may stand at any place. The Adobe feature file specification,
--- sections 4 ("Specifying features"), 5 (GSUB), 6 (GPOS) and 4.e ("lookup"), narrowed to what fontc
--- supports.
+-- What it is that words spell a feature file: each part of a file with the words that spell it,
+-- in the order of the text, rule by rule of the grammar. A part's place is that of its first
+-- word; what stands in no part, as a brace, may stand at any place. The Adobe feature file
+-- specification, sections 4 ("Specifying features"), 5 (GSUB), 6 (GPOS) and 4.e ("lookup"),
+-- narrowed to what fontc supports.
 use Rattle.std.specs.Prelude.{◌≡◌, ℕ, zero, suc, ◌+◌, ℤ, pos, Bool, true, false, ◌&&◌, ◌||◌, not}
 use Rattle.std.specs.Prelude.{◌==◌, nat_le, List, [], ◌∷◌, ◌++◌, length, map, codes}
 use Rattle.std.specs.Prelude.{Option, Some, None, if◌then◌else◌}
@@ -178,8 +178,8 @@ abbrev pub goes_on : Option ℕ → (ℕ → Bool) → Bool
 goes_on (Some depth) next = next depth
 goes_on None next = false
 
--- the words are what the pieces ask, one by one, and a balanced text goes on up to the } that closes
--- it; so many braces of it are open
+-- the words are what the pieces ask, one by one, and a balanced text goes on up to the } that
+-- closes it; so many braces of it are open
 abbrev pub spelled_by : ℕ → List Piece → List Word → Bool
 spelled_by zero [] [] = true
 spelled_by zero (piece ∷ pieces) [] = false
@@ -297,7 +297,8 @@ pair_start true place = starts keywords.Enum place ∷ keyword keywords.Pos ∷ 
 pair_start false place = starts keywords.Pos place ∷ []
 
 -- sub seq by glyph { glyph } ; | sub set by set ; | sub item from set ; | sub context ;
---     | sub context by glyph { glyph } ; | sub context by set ; | ignore sub context { , context } ;
+--     | sub context by glyph { glyph } ; | sub context by set ;
+--     | ignore sub context { , context } ;
 --     | pos item value ; | [enum] pos item value item [value] ; | [enum] pos item item value ;
 --     | pos context ; | ignore pos context { , context } ;
 abbrev pub rule_pieces : ℕ → Rule → List Piece

@@ -153,11 +153,14 @@ is_pair verb = false
 abbrev pub valued_by : Items → Value → Open → Option Line
 valued_by items value opens.Nothing = None
 valued_by items value (opens.Item item) =
-    if is_pair items.verb && is_empty items.marked then paired items.place (is_enumerated items.verb) items.before item value
+    if is_pair items.verb && is_empty items.marked
+    then paired items.place (is_enumerated items.verb) items.before item value
     else None
 valued_by items value (opens.Mark mark) =
     if is_pos items.verb && is_none mark.value
-    then Some (lines.Items (record items { last = opens.Mark (record mark { value = Some value }) }))
+    then Some (lines.Items (record items {
+      last = opens.Mark (record mark { value = Some value });
+    }))
     else None
 
 -- the context that the items are
@@ -165,7 +168,8 @@ abbrev pub marked_context : Context → Option Context
 marked_context context = if is_empty context.marked then None else Some context
 
 unfoldable pub context_of : Items → Option Context
-context_of items = marked_context (placed_items items)
+context_of items
+    = marked_context (placed items.before items.marked items.after items.last)
 
 abbrev pub is_ignore : Verb → Bool
 is_ignore verbs.IgnoreSub = true
@@ -334,7 +338,8 @@ is_flag number = false
 unfoldable pub give_number : Line → ℤ → ℕ → Option Line
 give_number (lines.Flags place []) number at =
     if is_flag number
-    then Some (lines.Ready (entries.Statement (statements.Flag place (flag_forms.Number at number))))
+    then Some (lines.Ready (entries.Statement (statements.Flag place
+    (flag_forms.Number at number))))
     else None
 give_number line number at
     = give_value line (record { place = at; numbers = numbers.Advance number })

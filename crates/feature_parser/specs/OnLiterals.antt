@@ -1,5 +1,5 @@
--- What a proof by computation unfolds to read a text that is written out. Only such proofs need this
--- module.
+-- What a proof by computation unfolds to read a text that is written out. Only such proofs need
+-- this module.
 use Rattle.std.specs.Prelude.{⊤}
 use Rattle.feature_parser.specs.Bytes.{starts_name, belongs}
 use Rattle.feature_parser.specs.Tokens.{name_length, marked_piece, piece_of, tokens_of}

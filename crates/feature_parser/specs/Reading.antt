@@ -1,8 +1,9 @@
--- Reading a feature file word by word: the blocks that are open, the statement so far, and what is
--- read between brackets. Each word goes on with them, or is refused; the text's end is refused where
--- anything is open. What a file is stands in `Grammar`, without this reading.
+-- Reading a feature file word by word: the blocks that are open, the statement so far, and what
+-- is read between brackets. Each word goes on with them, or is refused; the text's end is refused
+-- where anything is open. What a file is stands in `Grammar`, without this reading.
 use Rattle.std.specs.Prelude.{ℕ, ◌+◌, ◌-◌, ℤ, Bool, true, false, ◌&&◌, ◌||◌, not, ◌==◌, nat_lt}
-use Rattle.std.specs.Prelude.{List, [], ◌∷◌, ◌++◌, length, codes, Option, Some, None, is_some, is_none}
+use Rattle.std.specs.Prelude.{List, [], ◌∷◌, ◌++◌, length, codes, Option, Some, None}
+use Rattle.std.specs.Prelude.{is_some, is_none}
 use Rattle.std.specs.Prelude.{Result, Ok, Err, if◌then◌else◌}
 use Rattle.refusal_codes.specs.declared.rule.Rule.TheVariants.{Syntax, Unsupported}
 use Rattle.refusal_codes.specs.declared.refusal.Refusal.{Refusal}

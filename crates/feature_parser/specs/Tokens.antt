@@ -1,7 +1,8 @@
--- The tokens of feature code. A text is cut from its front into pieces, each as long as it can be:
--- gaps, which are white space and comments, and tokens. A byte that begins none of the others is a
--- token by itself, be it punctuation or one that no feature file has a place for. What a token is
--- doesn't depend on where it stands. The Adobe feature file specification, section 2 ("Syntax").
+-- The tokens of feature code. A text is cut from its front into pieces, each as long as it can
+-- be: gaps, which are white space and comments, and tokens. A byte that begins none of the others
+-- is a token by itself, be it punctuation or one that no feature file has a place for. What a
+-- token is doesn't depend on where it stands. The Adobe feature file specification, section 2
+-- ("Syntax").
 use Rattle.std.specs.Prelude.{ℕ, zero, suc, ◌+◌, ◌-◌, ◌++◌, ◌&&◌, ◌==◌, nat_lt, if◌then◌else◌}
 use Rattle.std.specs.Prelude.{List, [], ◌∷◌, Option, Some, None, slice_index_or}
 use Rattle.std.specs.List.{prefix_len}
@@ -27,9 +28,9 @@ gap length = record { kind = None; length = length }
 abbrev pub token : TokenKind → ℕ → Piece
 token kind length = record { kind = Some kind; length = length }
 
--- the first token of a text that begins with this byte, which begins no gap, no name and no digits:
--- a number with its minus, a class's name behind @, a name or a glyph's number behind \, the
--- reference ${, or the byte alone
+-- the first token of a text that begins with this byte, which begins no gap, no name and no
+-- digits: a number with its minus, a class's name behind @, a name or a glyph's number behind \,
+-- the reference ${, or the byte alone
 unfoldable pub marked_piece : ℕ → List ℕ → Piece
 marked_piece b bs =
     if b == 45 && nat_lt 0 (digits_length bs) then token kinds.Number (1 + digits_length bs)
@@ -56,8 +57,8 @@ token_of (Some kind) start end = record { kind = kind; start = start; end = end 
 abbrev pub token_at : ℕ → Piece → List Token
 token_at place piece = token_of piece.kind place (place + piece.length)
 
--- the tokens that begin in a text, whose first byte has this place; its first bytes, so many, belong
--- to a piece that began before
+-- the tokens that begin in a text, whose first byte has this place; its first bytes, so many,
+-- belong to a piece that began before
 abbrev pub tokens_in : ℕ → ℕ → List ℕ → List Token
 tokens_in skipped place [] = []
 tokens_in (suc skipped) place (b ∷ bs) = tokens_in skipped (place + 1) bs

@@ -1,6 +1,7 @@
--- Tokens as the grammar sees them. A name that is spelled as a word of the grammar is that keyword,
--- unless it stands behind \. A number has at most five digits and is from -32768 to 32767. The Adobe
--- feature file specification, sections 2.c ("Keywords"), 2.e.i ("Number") and 2.f ("Glyphs").
+-- Tokens as the grammar sees them. A name that is spelled as a word of the grammar is that
+-- keyword, unless it stands behind \. A number has at most five digits and is from -32768 to
+-- 32767. The Adobe feature file specification, sections 2.c ("Keywords"), 2.e.i ("Number") and
+-- 2.f ("Glyphs").
 use Rattle.std.specs.Prelude.{ℕ, ℤ, pos, neg_ℤ, ◌+◌, ◌-◌, ◌*◌, Bool, true, false, ◌||◌, ◌&&◌, ◌==◌}
 use Rattle.std.specs.Prelude.{nat_le, nat_eq, List, map, length, drop, fold, codes, slice_index}
 use Rattle.std.specs.Prelude.{slice_range, Option, Some, None, if◌then◌else◌}

@@ -9,7 +9,8 @@ ghost use Rattle.feature_parser.specs.Lines.{is_one_glyph, is_one_set, by_glyphs
 ghost use Rattle.feature_parser.specs.Lines.{is_enumerated, is_pos, is_pair, is_sub, is_ignore};
 ghost use Rattle.feature_parser.specs.Lines.{is_empty, only_of, rule_entry, placed};
 ghost use Rattle.feature_parser.specs.Lines.{marked_context, is_mark, next_context};
-ghost use Rattle.feature_parser.specs.Lines.{ended_by, ended_items, is_glyph, is_set, takes_value_by, is_behind_pos};
+ghost use Rattle.feature_parser.specs.Lines.{ended_by, ended_items, is_glyph, is_set};
+ghost use Rattle.feature_parser.specs.Lines.{takes_value_by, is_behind_pos};
 ghost use Rattle.feature_parser.specs.declared.line.Line.TheVariants as lines;
 
 use crate::file::{Context, GlyphSet, Item, Marked, Name, Rule, Statement, Value};
@@ -363,7 +364,7 @@ fn context_of(
 }
 
 /// An `ignore` rule behind the comma after a context.
-#[tactic(auto, unfolding(crate::specs::Lines::next_context, crate::specs::Lines::context_of, crate::specs::Lines::placed_items))]
+#[tactic(auto, unfolding(crate::specs::Lines::next_context, crate::specs::Lines::context_of))]
 pub(crate) fn next_context(alloc: Global, items: Items) -> Result<Line, Stop>
     ensures { Goes result (next_context items) }
 {
@@ -502,7 +503,7 @@ pub(crate) fn rule_entry(place: usize, rule: Rule) -> Entry
 }
 
 /// The rule that `;` ends after its items.
-#[tactic(auto, unfolding(crate::specs::Lines::ended_items, crate::specs::Lines::context_of, crate::specs::Lines::placed_items))]
+#[tactic(auto, unfolding(crate::specs::Lines::ended_items, crate::specs::Lines::context_of))]
 pub(crate) fn ended_items(items: Items) -> Result<Entry, Stop>
     ensures { Goes result (ended_items items) }
 {
