@@ -1,4 +1,4 @@
-ghost use Rattle.std.specs.Prelude.{◌≡◌, ◌≤◌, map, length, IfSome, Some, Ok};
+ghost use Rattle.std.specs.Prelude.{◌≡◌, ◌≤◌, map, length, IfSome, Some};
 ghost use Rattle.std.specs.String.{string_bytes};
 ghost use Rattle.outside_io.specs.Files.{told_bytes};
 ghost use Rattle.whole_files.specs.Requests.{Since};
@@ -25,9 +25,9 @@ use whole_files::{ReadWholeError, print_whole, read_whole, write_whole};
 ///
 /// The words are those behind the program's name: `build IN OUT`. The report says how the run
 /// ended: the font of what IN held stands in OUT; or the words are no command, the source is
-/// refused, a read of IN or a write of OUT failed, or memory ran out. Files are asked for reads of IN
-/// first. OUT is begun once the whole font and the line that tells of it stand in memory, and then
-/// all that is left of the font is offered to it, until it stands there or a write fails.
+/// refused, a read of IN or a write of OUT failed, or memory ran out. Files are asked for reads of
+/// IN first. OUT is begun once the whole font and the line that tells of it stand in memory, and
+/// then all that is left of the font is offered to it, until it stands there or a write fails.
 ///
 /// The console takes one line, which says the same; where memory ran out it takes none. A console
 /// that fails takes first bytes of it, and changes how the run ended only where it would else be
