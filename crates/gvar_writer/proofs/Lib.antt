@@ -6,4 +6,7 @@ mod PeakSteps
 mod GlyphSteps
 mod PointLaws
 mod TableSteps
+mod RunLaws
+mod ReadLaws
+mod NumberLaws
 mod Examples

@@ -7,3 +7,4 @@ pub mod TupleData
 pub mod TupleHeaders
 pub mod GlyphVariations
 pub mod Gvar
+pub mod Reading

@@ -4,6 +4,7 @@
 
 mod glyph;
 mod headers;
+mod laws;
 mod named;
 mod packed;
 mod padded;
@@ -13,5 +14,6 @@ mod table;
 mod tuples;
 
 pub use glyph::glyph_variations;
+pub use laws::{packed_deltas_read_back, packed_points_read_back, runs_are_the_longest};
 pub use positions::{Coordinate, Position};
 pub use table::gvar_table;

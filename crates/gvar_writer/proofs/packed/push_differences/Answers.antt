@@ -7,6 +7,8 @@ use Rattle.gvar_writer.proofs.RunSteps.{told_on, told_off, told_first, told_last
 use Rattle.gvar_writer.proofs.packed.push_differences.Goals as goal
 use Rattle.gvar_writer.proofs.packed.push_differences.Goals.{}
 use Rattle.gvar_writer.proofs.packed.push_differences.Goals.{}
+use Rattle.gvar_writer.proofs.packed.push_differences.Goals.{}
+use Rattle.gvar_writer.proofs.packed.push_differences.Goals.{}
 use Rattle.gvar_writer.proofs.packed.push_differences.Goals.{then-not-difference_goes_on+in_ok-push_point_run}
 use Rattle.gvar_writer.proofs.packed.push_differences.Goals.{else-not-difference_goes_on}
 
