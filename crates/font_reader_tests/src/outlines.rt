@@ -1,3 +1,5 @@
+ghost use Rattle.std.specs.Prelude.{◌<◌, length};
+
 use crate::fonts::{FORMS, TRIANGLE, VARYING};
 use fixed_math::F2Dot14;
 use font_reader::{FaultKind, FontFault, FontView, Point, Room};
@@ -26,7 +28,9 @@ fn are_points(
     bytes: &[u8],
     at: &[F2Dot14],
     places: &[(i64, i64)],
-) -> Result<bool, Fail> {
+) -> Result<bool, Fail>
+    requires { length places.now < 100 }
+{
     let font = match FontView::of(bytes) {
         Ok(font) => font,
         Err(_) => return Ok(false),
