@@ -1,5 +1,6 @@
+use crate::board::is_run_whole;
 use fixtures::{FONT, SOURCE, cubic_source};
-use fontc_cli::{Status, run, run_alone};
+use fontc_cli::{Report, Status, run, run_alone};
 use outside_io::{MemConsole, MemFiles, OpenGate, SureConsole};
 use refusal_codes::Rule;
 use std::alloc::Global;
@@ -24,6 +25,13 @@ fn owned(alloc: Global, words: &[&str]) -> Result<Vec<String>, Fail> {
         all.push(String::from_str(alloc, word)?)?;
     }
     Ok(all)
+}
+
+/// What a build over these files reports.
+fn report_of(alloc: Global, files: &mut MemFiles) -> Result<Report, Fail> {
+    let words = owned(alloc, &["build", "in", "out"])?;
+    let mut console = SureConsole::new();
+    Ok(run_alone(alloc, words.as_slice(), files, &mut console))
 }
 
 /// How a run of these words ends.
@@ -143,5 +151,36 @@ fn a_console_that_fails_leaves_the_font(rt: HostRuntime) -> Result<(), Fail> {
     let mut console = MemConsole::with_room(rt.alloc(), 100)?;
     console.fail(rt.alloc(), 1)?;
     assert!(rt; is_built_with(rt.alloc(), &mut console, 6)? && console.held().is_empty());
+    Ok(())
+}
+
+/// Whether a build is done, and reports the board on which the triangle was compiled.
+fn is_done_with_board(report: &Report) -> bool {
+    let is_over_source = match &report.board {
+        Some(board) => board.plan().source() == SOURCE && is_run_whole(board),
+        None => false,
+    };
+    matches!(&report.status, Status::Done) && is_over_source
+}
+
+/// Whether a source is refused, and no board is reported.
+fn is_refused_without_board(report: &Report) -> bool {
+    matches!(&report.status, Status::Refused(_)) && report.board.is_none()
+}
+
+#[test]
+fn a_font_is_reported_with_its_board(rt: HostRuntime) -> Result<(), Fail> {
+    let mut files = files_with(rt.alloc(), SOURCE)?;
+    let report = report_of(rt.alloc(), &mut files)?;
+    assert!(rt; is_done_with_board(&report));
+    Ok(())
+}
+
+#[test]
+fn a_refused_source_is_reported_without_a_board(rt: HostRuntime) -> Result<(), Fail> {
+    let cubic = cubic_source(rt.alloc())?;
+    let mut files = files_with(rt.alloc(), cubic.as_slice())?;
+    let report = report_of(rt.alloc(), &mut files)?;
+    assert!(rt; is_refused_without_board(&report));
     Ok(())
 }

@@ -87,7 +87,7 @@ fn refusal_of(alloc: Global, source: &[u8]) -> Option<Refusal> {
 }
 
 /// Whether a refusal is of this stratum, kind and name, and of this rule at this place.
-fn is_told(refusal: &Refusal, job: (u8, u8, &str), rule: Rule, place: u64) -> bool {
+pub fn is_told(refusal: &Refusal, job: (u8, u8, &str), rule: Rule, place: u64) -> bool {
     (refusal.stratum, refusal.kind, refusal.name.as_str()) == job
         && refusal.rule == rule
         && refusal.place == place
