@@ -1,6 +1,6 @@
 -- What each job of a source finds where it is run, as its calls need it.
-use Rattle.std.proofs.Common.{◌≡◌, ℕ, ◌<◌, List, [], ◌∷◌, map, length, Option, Some, None, Result}
-use Rattle.std.proofs.Common.{Ok, Err, refl, sym, ap, ◌∙◌, true, subst}
+use Rattle.std.proofs.Common.{◌≡◌, ℕ, ◌<◌, List, [], ◌∷◌, map, length, Option, Some, None}
+use Rattle.std.proofs.Common.{refl, sym, ap, ◌∙◌, true, subst}
 use Rattle.std.specs.Prelude.{IsSome}
 use Rattle.std.specs.List.{All, AllByRecursion}
 use Rattle.std.proofs.lemmas.Simd.{map-map}
@@ -20,7 +20,6 @@ use Rattle.font_graph.specs.Running as running
 use Rattle.font_graph.specs.Running.{tree_read, header_read, index_read, raw_read, flat_read}
 use Rattle.font_graph.specs.Running.{order_read, measures_read, flats_read, data_read}
 use Rattle.font_graph.specs.Same.{same_id}
-use Rattle.font_graph.specs.declared.ids.JobId.{JobId}
 use Rattle.font_graph.specs.declared.ids.JobId.TheVariants as job
 use Rattle.font_plan.specs.Direct.{Entry, order_in}
 use Rattle.font_plan.specs.Drawn.{IsDrawn}

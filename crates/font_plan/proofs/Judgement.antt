@@ -1,12 +1,12 @@
 -- What a board that has ended tells of the verdict.
-use Rattle.std.proofs.Common.{◌≡◌, ℕ, List, Option, Some, None, Result, Ok, Err, inl, inr, refl, ap, ◌∙◌}
-use Rattle.std.specs.Prelude.{option_and_then, IsSome}
-use Rattle.std.proofs.Common.{subst, sym}
+use Rattle.std.proofs.Common.{◌≡◌, ℕ, List, Option, Some, None, Result, Ok, Err, inl, inr}
+use Rattle.std.proofs.Common.{refl, ap, ◌∙◌}
+use Rattle.std.specs.Prelude.{option_and_then}
 use Rattle.refusal_codes.specs.declared.refusal.Refusal.{Refusal}
-use Rattle.access_context.specs.Plain.{Done, done_value}
+use Rattle.access_context.specs.Plain.{done_value}
 use Rattle.refusal_codes.specs.Gives.{◌>>=◌}
 use Rattle.font_graph.specs.AllDone.{all_done}
-use Rattle.font_graph.specs.Ended.{ended_value, done_ended}
+use Rattle.font_graph.specs.Ended.{done_ended}
 use Rattle.font_graph.specs.Judged.{verdict_refuses, made_of_unrefused, made_accepted}
 use Rattle.font_graph.specs.Kept.{kept_least}
 use Rattle.font_graph.specs.Least.{least_is, least_none}

@@ -1,7 +1,7 @@
 -- What is known of a glyph that was read or drawn: its number, and where it stands.
-use Rattle.std.proofs.Common.{◌≡◌, ℕ, ◌<◌, ◌+◌, List, [], ◌∷◌, ◌++◌, map, length, Option, Some, None}
+use Rattle.std.proofs.Common.{◌≡◌, ℕ, ◌<◌, ◌+◌, List, [], ◌∷◌, map, length, Option, Some, None}
 use Rattle.std.proofs.Common.{Result, Ok, Err, refl, sym, ap, ◌∙◌, inl, inr, subst, arith, Bool}
-use Rattle.std.proofs.Common.{true, false, cond}
+use Rattle.std.proofs.Common.{true, false}
 use Rattle.std.specs.Prelude.{slice_get, if◌then◌else◌}
 use Rattle.std.proofs.lemmas.Option.{slice_get_within}
 use Rattle.refusal_codes.specs.declared.refusal.Refusal.{Refusal}
@@ -18,13 +18,13 @@ use Rattle.glyphs_layers.specs.LayerReading.{glyph_of, glyph_record}
 use Rattle.component_flatten.specs.Flattening.{flat_of, flat_record, limit_failures}
 use Rattle.metrics_tables.specs.Measuring.{HasMastersPlaces}
 use Rattle.job_graph.specs.Members.{In, In-append_cases}
-use Rattle.font_graph.specs.Outcomes.{In-map}
 use Rattle.font_plan.specs.Direct.{Entry, is_notdef, is_other, others_from, notdef_from}
 use Rattle.font_plan.specs.Jobs.{raw_at, raw_in, flat_at, flat_in, number_of, numbers_in}
 
 -- ---- a glyph that was read
 
-pub record IsRawOf (header : Header) (index : List Entry) (number : ℕ) (raw : GlyphIr) : Type 0 where
+pub record IsRawOf (header : Header) (index : List Entry) (number : ℕ) (raw : GlyphIr)
+    : Type 0 where
   pub number_is : raw.number ≡ number
   pub within : number < length index
   pub places_are : raw.places ≡ map (λ master. master.location) header.masters
@@ -105,7 +105,8 @@ drawn_places tree header index number flat e = by (raw_in tree header index numb
 others_within : (n : ℕ) (index : List Entry) (number : ℕ)
     → In number (map (λ glyph. glyph.0) (others_from n index)) → number < n + length index
 others_within n [] number i = absurd i
-others_within n (entry ∷ index) number i = chosen (is_other entry) (others_within (n + 1) index number) i
+others_within n (entry ∷ index) number i =
+    chosen (is_other entry) (others_within (n + 1) index number) i
   where
     chosen : (b : Bool)
         → (In number (map (λ (glyph : ℕ × Entry). glyph.0) (others_from (n + 1) index))
@@ -122,7 +123,8 @@ others_within n (entry ∷ index) number i = chosen (is_other entry) (others_wit
 notdef_within : (n : ℕ) (index : List Entry) (number : ℕ)
     → In number (number_of (notdef_from n index)) → number < n + length index
 notdef_within n [] number i = absurd i
-notdef_within n (entry ∷ index) number i = chosen (is_notdef entry) (notdef_within (n + 1) index number) i
+notdef_within n (entry ∷ index) number i =
+    chosen (is_notdef entry) (notdef_within (n + 1) index number) i
   where
     chosen : (b : Bool) → (In number (number_of (notdef_from (n + 1) index))
         → number < n + 1 + length index)

@@ -1,18 +1,15 @@
 -- What is read for each number of a font's order is what is read of each glyph of the index, behind
 -- what is made.
-use Rattle.std.proofs.Common.{◌≡◌, ℕ, zero, suc, ◌<◌, ◌+◌, Bool, true, false, List, [], ◌∷◌, ◌++◌, map}
-use Rattle.std.proofs.Common.{length, Option, Some, None, Result, Ok, Err, refl, sym, ap, ◌∙◌}
-use Rattle.std.proofs.Common.{inl, inr, subst, arith, get_or, cond}
-use Rattle.std.specs.Prelude.{IsSome, option_and_then, nat_lt}
+use Rattle.std.proofs.Common.{◌≡◌, ℕ, zero, suc, ◌<◌, ◌+◌, List, [], ◌∷◌, ◌++◌, map}
+use Rattle.std.proofs.Common.{length, Option, Some, None, refl, sym, ap, ◌∙◌}
+use Rattle.std.proofs.Common.{subst, arith, get_or}
+use Rattle.std.specs.Prelude.{IsSome, option_and_then}
 use Rattle.std.specs.List.{All, AllByRecursion}
 use Rattle.std.specs.Option.{option_map}
 use Rattle.std.proofs.lemmas.List.{length-map}
-use Rattle.refusal_codes.specs.declared.refusal.Refusal.{Refusal}
-use Rattle.refusal_codes.specs.declared.limits.TheConstants.{GLYPHS}
-use Rattle.font_ir.specs.Glyphs.{Glyphs}
 use Rattle.font_graph.specs.Graph.{all_of}
-use Rattle.font_plan.specs.Direct.{Entry, others_from, notdef_from, order_in, too_many_glyphs}
-use Rattle.font_plan.specs.Jobs.{number_of, numbers_in, behind_made, order_or_refused}
+use Rattle.font_plan.specs.Direct.{Entry, others_from, notdef_from, order_in}
+use Rattle.font_plan.specs.Jobs.{number_of, numbers_in, behind_made}
 use Rattle.font_plan.specs.Reading.{number_read}
 
 -- ---- lists

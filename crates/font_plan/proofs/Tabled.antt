@@ -1,10 +1,10 @@
 -- The tables of a font make a file: their tags rise, and "head" has 54 bytes.
 use Rattle.std.proofs.Common.{◌≡◌, ℕ, Bool, true, false, cond, List, [], ◌∷◌, ◌++◌, map, length}
-use Rattle.std.proofs.Common.{Option, Some, None, Result, Ok, Err, refl, sym, ap, ◌∙◌, subst, ◌&&◌}
+use Rattle.std.proofs.Common.{Option, Some, None, Result, Ok, refl, sym, ap, ◌∙◌, subst, ◌&&◌}
 use Rattle.std.proofs.Common.{nat_eq}
 use Rattle.std.specs.Prelude.{IsSome, codes, option_and_then}
 use Rattle.std.specs.Bool.{IsTrue}
-use Rattle.std.specs.List.{All, AllByRecursion, flat_map}
+use Rattle.std.specs.List.{All, flat_map}
 use Rattle.std.proofs.lemmas.Simd.{map-map}
 use Rattle.refusal_codes.specs.declared.refusal.Refusal.{Refusal}
 use Rattle.font_ir.specs.declared.header.Header.{Header}
@@ -24,7 +24,7 @@ use Rattle.font_graph.specs.declared.ids.JobId.TheVariants as job
 use Rattle.font_plan.specs.Jobs.{parts, parts_with, has_name, is_of_outlines, table_of}
 use Rattle.font_plan.specs.Jobs.{outline_table, metrics_table, table_tags, present}
 use Rattle.font_plan.specs.Reading.{PlanReads, table_read, present_table}
-use Rattle.font_plan.proofs.Orders.{all_by, each_some, some_there}
+use Rattle.font_plan.proofs.Orders.{all_by, each_some}
 
 -- ---- what is read
 
@@ -113,13 +113,14 @@ outline_some tag written made e = by (has_name (codes "glyf") tag) e
     by : (b : Bool) → cond b
         (table_of (codes "glyf") (over_limit (length (outlines.glyf_bytes written)))
         (outlines.glyf_bytes written))
-        (table_of (codes "loca") (outlines.too_large written) (outlines.loca_bytes written)) ≡ Ok made
-        → made ≡ Some (cond b (outlines.glyf_bytes written) (outlines.loca_bytes written))
+        (table_of (codes "loca") (outlines.too_large written) (outlines.loca_bytes written))
+        ≡ Ok made → made ≡ Some (cond b (outlines.glyf_bytes written) (outlines.loca_bytes written))
     by true f = table_some (codes "glyf") _ _ made f
     by false f = table_some (codes "loca") _ _ made f
 
 is_some_of : (header : Header) (order : Glyphs) (measures : Measures) (written : List (List ℕ))
-    (tag : Tag) (made : Option (List ℕ)) → table (parts []) header order measures written tag ≡ Ok made
+    (tag : Tag) (made : Option (List ℕ))
+    → table (parts []) header order measures written tag ≡ Ok made
     → made ≡ Some (bytes_of header measures (parts_with header order written) tag)
 is_some_of header order measures written tag made e = by (is_of_outlines tag) e
   where
@@ -169,6 +170,6 @@ pub tables_make_file : (source : List ℕ) (reads : PlanReads) (tables : List (O
 tables_make_file source reads tables found e =
     let of = found.tables_are tables e in
     let bytes = bytes_of of.header of.measures (parts_with of.header of.order of.parts) in
-    subst MakeFile (sym (all_present (table (parts []) of.header of.order of.measures of.parts) bytes
-    (is_some_of of.header of.order of.measures of.parts) table_tags tables of.tables_are))
+    subst MakeFile (sym (all_present (table (parts []) of.header of.order of.measures of.parts)
+    bytes (is_some_of of.header of.order of.measures of.parts) table_tags tables of.tables_are))
     (filled_file of.header of.measures (parts_with of.header of.order of.parts))

@@ -33,7 +33,7 @@ use Rattle.metrics_tables.specs.Tables as metrics
 use Rattle.font_assembly.specs.File.{Table}
 use Rattle.font_graph.specs.Parts.{Parts}
 use Rattle.font_plan.specs.Direct.{Entry, source_too_large, too_many_glyphs, table_too_large}
-use Rattle.font_plan.specs.Direct.{others_from, notdef_from, order_in, unless_too_large, filed}
+use Rattle.font_plan.specs.Direct.{others_from, notdef_from, order_in, filed}
 
 -- ---- the source
 

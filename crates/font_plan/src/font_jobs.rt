@@ -46,7 +46,8 @@ use table_bytes::TableError;
 /// Orders the font's glyphs, and adds the jobs of what is measured, of the font and of its tables.
 pub fn run_order(alloc: Global, index: &GlyphIndex) -> Result<PlanOutcome, NoMemory>
     requires { IsIndex index.now }
-    ensures { Comes result (made_by an.Order (λ order. after_order (parts []) same_id (numbers_in index.now))
+    ensures { Comes result (made_by an.Order
+        (λ order. after_order (parts []) same_id (numbers_in index.now))
         (order_or_refused index.now)) }
 {
     let glyphs = numbers_in(alloc, index)?;
@@ -82,7 +83,8 @@ pub fn run_advances(
     requires header { IsReadHeader header.now }
     requires drawn { All (IsDrawn header.now) (glyphs_of glyphs.now) }
     requires order { length glyphs.now ≡ length order.now.names }
-    ensures { Comes result (made_by an.Advances none (Ok (measures_of header.now (glyphs_of glyphs.now)))) }
+    ensures { Comes result (made_by an.Advances none
+        (Ok (measures_of header.now (glyphs_of glyphs.now)))) }
 {
     let measures = measured(alloc, header, order, glyphs)?;
     made_last(alloc, Item::Advances(Known::of(measures)))
@@ -167,7 +169,8 @@ pub fn run_metrics(
 ) -> Result<PlanOutcome, NoMemory>
     requires header { IsHeader header.now }
     requires measures { AreMeasures measures.now }
-    ensures { Comes result (made_by an.Table none (Ok (Some (metrics_table tag header.now measures.now)))) }
+    ensures { Comes result (made_by an.Table none
+        (Ok (Some (metrics_table tag header.now measures.now)))) }
 {
     table_made(alloc, metrics_table(alloc, tag, header, measures)?)
 }

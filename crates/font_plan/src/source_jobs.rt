@@ -79,8 +79,8 @@ pub fn run_header(alloc: Global, tree: &Tree) -> Result<PlanOutcome, NoMemory>
 /// Reads the source's index of glyphs, and adds the jobs of those that are exported.
 pub fn run_index(alloc: Global, tree: &Tree) -> Result<PlanOutcome, NoMemory>
     requires { IsTree tree.now }
-    ensures { Comes result (made_by an.Index (λ index. after_index (parts []) same_id (numbers_in index))
-        (index_of tree.now)) }
+    ensures { Comes result (made_by an.Index
+        (λ index. after_index (parts []) same_id (numbers_in index)) (index_of tree.now)) }
 {
     match glyph_index(alloc, tree) {
         Ok(index) => index_made(alloc, index),
@@ -92,8 +92,8 @@ pub fn run_index(alloc: Global, tree: &Tree) -> Result<PlanOutcome, NoMemory>
 /// What comes of an index that was read.
 fn index_made(alloc: Global, index: GlyphIndex) -> Result<PlanOutcome, NoMemory>
     requires { IsIndex index }
-    ensures { Comes result (made_by an.Index (λ index. after_index (parts []) same_id (numbers_in index))
-        (Ok index)) }
+    ensures { Comes result (made_by an.Index
+        (λ index. after_index (parts []) same_id (numbers_in index)) (Ok index)) }
 {
     let glyphs = numbers_in(alloc, &index)?;
     let added = specs_of::after_index(alloc, glyphs.as_slice())?;

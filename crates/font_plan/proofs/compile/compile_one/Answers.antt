@@ -2,7 +2,7 @@
 use Rattle.std.proofs.Common.{sym, ap, ◌∙◌, Ok}
 use Rattle.std.specs.Arc.{arc_value}
 use Rattle.font_plan.specs.Font.{font_of}
-use Rattle.font_plan.proofs.Judgement.{font_item_is, font_item_refused, same_font}
+use Rattle.font_plan.proofs.Judgement.{font_item_is, same_font}
 use Rattle.font_plan.proofs.compile.compile_one.Goals as goal
 
 pub font_bytes-requires : goal.font_bytes-requires

@@ -1,5 +1,5 @@
 -- a number more, or a glyph passed
-use Rattle.std.proofs.Common.{◌≡◌, ◌+◌, ◌++◌, ◌∷◌, [], ℕ, map, drop, sym, ap, ◌∙◌, List}
+use Rattle.std.proofs.Common.{◌+◌, ◌++◌, ℕ, map, drop, sym, ap, ◌∙◌, List}
 use Rattle.font_plan.specs.Direct.{Entry, others_from}
 use Rattle.font_plan.proofs.Steps.{others_next, others_passed, moved}
 use Rattle.font_plan.proofs.order.push_numbers.Goals as goal

@@ -19,20 +19,22 @@ use Rattle.font_plan.proofs.Runs.{advances_comes}
 use Rattle.font_plan.proofs.plan.FontPlan.run_advances.Goals as goal
 
 pub header_in-requires : goal.header_in-requires
-header_in-requires c = (advances_finds (parts c.args.self.now) c.args.reads.now c.requires.due c.requires.done).header
+header_in-requires c =
+    (advances_finds (parts c.args.self.now) c.args.reads.now c.requires.due c.requires.done).header
 
 pub order_in-order-requires : goal.order_in-order-requires
-order_in-order-requires c = (advances_finds (parts c.args.self.now) c.args.reads.now c.requires.due c.requires.done).order
+order_in-order-requires c =
+    (advances_finds (parts c.args.self.now) c.args.reads.now c.requires.due c.requires.done).order
 
 pub glyphs_in-requires-clause-there : goal.glyphs_in-requires-clause-there
-glyphs_in-requires-clause-there c = glyphs_there c.args.self.now c.args.reads.now c.get-header.result.now
-    c.order_in-order.result.now
+glyphs_in-requires-clause-there c = glyphs_there c.args.self.now c.args.reads.now
+    c.get-header.result.now c.order_in-order.result.now
     (advances_finds (parts c.args.self.now) c.args.reads.now c.requires.due c.requires.done)
     (c.header_in.ensures ∙ ap Some (sym c.get-header.ensures.value)) c.order_in-order.ensures
 
 pub run_advances-requires-clause-drawn : goal.run_advances-requires-clause-drawn
-run_advances-requires-clause-drawn c = (glyphs_found c.args.self.now c.args.reads.now c.get-header.result.now
-    c.order_in-order.result.now (glyphs_of c.as_slice.result.now)
+run_advances-requires-clause-drawn c = (glyphs_found c.args.self.now c.args.reads.now
+    c.get-header.result.now c.order_in-order.result.now (glyphs_of c.as_slice.result.now)
     (advances_finds (parts c.args.self.now) c.args.reads.now c.requires.due c.requires.done)
     (c.header_in.ensures ∙ ap Some (sym c.get-header.ensures.value))
     c.order_in-order.ensures

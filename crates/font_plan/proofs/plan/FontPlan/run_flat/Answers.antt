@@ -12,8 +12,8 @@ raw_in-requires c = (flat_finds (parts c.args.self.now) c.args.glyph c.args.read
     c.requires.done).raw
 
 pub index_in-requires : goal.index_in-requires
-index_in-requires c = (flat_finds (parts c.args.self.now) c.args.glyph c.args.reads.now c.requires.due
-    c.requires.done).index
+index_in-requires c = (flat_finds (parts c.args.self.now) c.args.glyph c.args.reads.now
+    c.requires.due c.requires.done).index
 
 pub run_flat-requires-clause-glyph : goal.run_flat-requires-clause-glyph
 run_flat-requires-clause-glyph c = raw_within c.args.self.now c.args.glyph c.args.reads.now

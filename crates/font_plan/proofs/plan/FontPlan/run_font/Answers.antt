@@ -2,7 +2,7 @@
 use Rattle.std.proofs.Common.{ap, sym, ◌∙◌, subst, Some}
 use Rattle.font_plan.specs.Jobs.{parts}
 use Rattle.font_plan.specs.Settling.{Comes}
-use Rattle.std.proofs.Common.{◌≡◌, ℕ, true, List, [], Option, inl, inr, refl, arith, length}
+use Rattle.std.proofs.Common.{◌≡◌, ℕ, true, List, [], Option, inl, inr, refl, arith}
 use Rattle.std.specs.Prelude.{codes}
 use Rattle.std.specs.List.{flat_map}
 use Rattle.std.proofs.lemmas.List.{length-map}
@@ -58,13 +58,13 @@ run_font-requires-clause-count c =
     omega (arith, sym (length-map c.as_slice.result.now table_of) ∙ count)
 
 pub run_font-requires-clause-tags : goal.run_font-requires-clause-tags
-run_font-requires-clause-tags c = (make_file c.args.self.now c.args.reads.now c.requires.due c.requires.done
-    (tables_of c.as_slice.result.now)
+run_font-requires-clause-tags c = (make_file c.args.self.now c.args.reads.now c.requires.due
+    c.requires.done (tables_of c.as_slice.result.now)
     (ap tables_of c.as_slice.ensures.value ∙ c.in_ok-tables.ensures)).tags
 
 pub run_font-requires-clause-head : goal.run_font-requires-clause-head
-run_font-requires-clause-head c = (make_file c.args.self.now c.args.reads.now c.requires.due c.requires.done
-    (tables_of c.as_slice.result.now)
+run_font-requires-clause-head c = (make_file c.args.self.now c.args.reads.now c.requires.due
+    c.requires.done (tables_of c.as_slice.result.now)
     (ap tables_of c.as_slice.ensures.value ∙ c.in_ok-tables.ensures)).head
 
 pub returns : goal.returns

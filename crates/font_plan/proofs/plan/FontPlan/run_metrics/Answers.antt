@@ -11,7 +11,8 @@ use Rattle.font_plan.proofs.Runs.{metrics_come}
 use Rattle.font_plan.proofs.plan.FontPlan.run_metrics.Goals as goal
 
 pub header_in-requires : goal.header_in-requires
-header_in-requires c = (table_finds (parts c.args.self.now) c.args.tag c.args.reads.now c.requires.due).header
+header_in-requires c =
+    (table_finds (parts c.args.self.now) c.args.tag c.args.reads.now c.requires.due).header
 
 pub measures_in-requires : goal.measures_in-requires
 measures_in-requires c = metrics_finds (parts c.args.self.now) c.args.tag c.args.reads.now

@@ -10,7 +10,8 @@ use Rattle.font_plan.proofs.Runs.{order_comes}
 use Rattle.font_plan.proofs.plan.FontPlan.run_order.Goals as goal
 
 pub index_in-requires : goal.index_in-requires
-index_in-requires c = (order_finds (parts c.args.self.now) c.args.reads.now c.requires.due c.requires.done).index
+index_in-requires c =
+    (order_finds (parts c.args.self.now) c.args.reads.now c.requires.due c.requires.done).index
 
 pub returns : goal.returns
 returns c =

@@ -13,10 +13,12 @@ use Rattle.font_plan.proofs.Runs.{outlines_come}
 use Rattle.font_plan.proofs.plan.FontPlan.run_outlines.Goals as goal
 
 pub header_in-requires : goal.header_in-requires
-header_in-requires c = (table_finds (parts c.args.self.now) c.args.tag c.args.reads.now c.requires.due).header
+header_in-requires c =
+    (table_finds (parts c.args.self.now) c.args.tag c.args.reads.now c.requires.due).header
 
 pub order_in-order-requires : goal.order_in-order-requires
-order_in-order-requires c = (table_finds (parts c.args.self.now) c.args.tag c.args.reads.now c.requires.due).order
+order_in-order-requires c =
+    (table_finds (parts c.args.self.now) c.args.tag c.args.reads.now c.requires.due).order
 
 pub parts_in-requires-clause-there : goal.parts_in-requires-clause-there
 parts_in-requires-clause-there c = parts_there c.args.self.now c.args.tag c.args.reads.now
@@ -38,4 +40,5 @@ returns c =
     subst (Comes c.run_outlines.result)
     (ap (λ all. made_by an.Table none (outline_table c.args.tag all)) found.parts_are
     ∙ outlines_come c.args.self.now c.args.reads.now c.args.tag header order
-    found.written c.requires.outlines header_is c.order_in-order.ensures found.data_are) c.run_outlines.ensures
+    found.written c.requires.outlines header_is c.order_in-order.ensures found.data_are)
+    c.run_outlines.ensures

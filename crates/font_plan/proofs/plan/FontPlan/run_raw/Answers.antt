@@ -12,16 +12,17 @@ tree_in-requires c = (raw_finds (parts c.args.self.now) c.args.glyph c.args.read
     c.requires.done).tree
 
 pub header_in-requires : goal.header_in-requires
-header_in-requires c = (raw_finds (parts c.args.self.now) c.args.glyph c.args.reads.now c.requires.due
-    c.requires.done).header
+header_in-requires c = (raw_finds (parts c.args.self.now) c.args.glyph c.args.reads.now
+    c.requires.due c.requires.done).header
 
 pub index_in-requires : goal.index_in-requires
-index_in-requires c = (raw_finds (parts c.args.self.now) c.args.glyph c.args.reads.now c.requires.due
-    c.requires.done).index
+index_in-requires c = (raw_finds (parts c.args.self.now) c.args.glyph c.args.reads.now
+    c.requires.due c.requires.done).index
 
 pub run_raw-requires-clause-header : goal.run_raw-requires-clause-header
-run_raw-requires-clause-header c = (raw_finds (parts c.args.self.now) c.args.glyph c.args.reads.now c.requires.due
-    c.requires.done).header_is c.get-tree.result.now c.get-header.result.now
+run_raw-requires-clause-header c = (raw_finds (parts c.args.self.now) c.args.glyph
+    c.args.reads.now c.requires.due c.requires.done).header_is c.get-tree.result.now
+    c.get-header.result.now
     (c.tree_in.ensures ∙ ap Some (sym c.get-tree.ensures.value))
     (c.header_in.ensures ∙ ap Some (sym c.get-header.ensures.value))
 

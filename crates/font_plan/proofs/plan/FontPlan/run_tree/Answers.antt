@@ -1,6 +1,5 @@
 -- what the job finds is what its part reads
-use Rattle.std.proofs.Common.{ap, sym, ◌∙◌, subst, Some}
-use Rattle.font_plan.specs.Jobs.{parts}
+use Rattle.std.proofs.Common.{ap, ◌∙◌, subst}
 use Rattle.font_plan.specs.Settling.{Comes}
 use Rattle.font_graph.specs.declared.items.Item.TheVariants as an
 use Rattle.font_plan.specs.Jobs.{tree_of}
