@@ -1,8 +1,9 @@
 //! Fonts that are read back from their bytes, whatever the bytes are: the tables and the forms that
-//! this compiler writes, and of a glyph's outlines and deltas all forms of OpenType 1.9.
+//! this compiler writes, and of a simple glyph's points and of the deltas behind long offsets all
+//! forms of OpenType 1.9.
 //!
-//! Each call answers a value or the first fault on the way to it, by its kind and its place. No
-//! call takes memory.
+//! Each call answers a value or the first fault on the way to it, by its kind and its place. Only
+//! `Room::new` takes memory.
 #![tactic(auto)]
 
 mod advances;
