@@ -24,14 +24,14 @@ use Rattle.font_plan.proofs.FacesTables.{tables_made, made}
 
 -- ---- the order
 
-ordered : (index : List Entry) (order : Glyphs) → order_or_refused index ≡ Ok order
+pub ordered : (index : List Entry) (order : Glyphs) → order_or_refused index ≡ Ok order
     → (length (order_in index).names ≤ GLYPHS) × (order ≡ order_in index)
 ordered index order e =
     let few = within 65535 (length (order_in index).names)
     (too_many_glyphs (length (order_in index).names)) (Ok (order_in index)) order e in
     (few.0, cc)
 
-order_is : (index : List Entry) → length (order_in index).names ≤ GLYPHS
+pub order_is : (index : List Entry) → length (order_in index).names ≤ GLYPHS
     → order_or_refused index ≡ Ok (order_in index)
 order_is index few = below 65535 (length (order_in index).names)
     (too_many_glyphs (length (order_in index).names)) (Ok (order_in index)) few

@@ -5,8 +5,11 @@ pub mod Examples
 pub mod Faces
 pub mod FacesGlyphs
 pub mod FacesTables
+pub mod Failures
 pub mod FontLaws
 pub mod Found
+pub mod InOrder
+pub mod JobFailures
 pub mod Judgement
 pub mod Loops
 pub mod Made
@@ -14,6 +17,7 @@ pub mod Names
 pub mod NoFailure
 pub mod OnLiterals
 pub mod Orders
+pub mod PartRefusals
 pub mod Runs
 pub mod Steps
 pub mod Tabled

@@ -2,6 +2,7 @@ pub mod Accepted
 pub mod Alone
 pub mod Direct
 pub mod Drawn
+pub mod Failing
 pub mod Font
 pub mod Jobs
 pub mod Known

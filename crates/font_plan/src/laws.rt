@@ -1,4 +1,4 @@
-//! What becomes of a source: by its parts, and by the rules that its jobs fail.
+//! What becomes of a source: by its parts, and by the rules that they fail.
 
 ghost use Rattle.std.specs.Prelude.{◌≡◌, ℕ, ◌<◌, ◌≤◌, List, length, Ok, Err};
 ghost use Rattle.refusal_codes.specs.declared.limits.TheConstants.{SOURCE_BYTES};
@@ -8,13 +8,14 @@ ghost use Rattle.font_graph.specs.Fails.{Fails};
 ghost use Rattle.font_graph.specs.declared.ids.JobId.{JobId};
 ghost use Rattle.font_plan.specs.Accepted.{IsFontOf, IsRefusedBy};
 ghost use Rattle.font_plan.specs.Direct.{direct_font, source_too_large};
+ghost use Rattle.font_plan.specs.Failing.{FailsBy};
 ghost use Rattle.font_plan.specs.Font.{font_of};
 ghost use Rattle.font_plan.specs.Jobs.{parts};
 
 use plist_reader::sources_have_one_answer;
 
-/// The jobs of a source make a font exactly where its definition without jobs gives one, which makes
-/// each part of those that it needs, one after the other; and it is the same font.
+/// The jobs of a source make a font exactly where its definition without jobs gives one, which
+/// makes each part of those that it needs, one after the other; and it is the same font.
 pub fn jobs_make_the_direct_font()
     ensures direct { (source font : List ℕ) → font_of source ≡ Ok font
         → direct_font source ≡ Ok font }
@@ -32,17 +33,26 @@ pub fn a_source_is_accepted_with_its_parts()
     sources_have_one_answer();
 }
 
-/// A source is accepted exactly where none of its jobs fails by a rule.
+/// A job of a source fails exactly where its part does: all that the part is made of, directly or
+/// through others, was made, and it is refused itself, by the first of its rules that fails.
+pub fn failures_are_those_of_the_parts()
+    ensures parts { (source : List ℕ) (id : JobId) (r : Refusal) → Fails (parts source) id r
+        → FailsBy source id r }
+    ensures jobs { (source : List ℕ) (id : JobId) (r : Refusal) → FailsBy source id r
+        → Fails (parts source) id r }
+{}
+
+/// A source is accepted exactly where none of its parts fails by a rule.
 pub fn a_source_is_accepted_where_nothing_fails()
     ensures accepted { (source font : List ℕ) → font_of source ≡ Ok font → (id : JobId)
-        (r : Refusal) → Fails (parts source) id r → ⊥ }
+        (r : Refusal) → FailsBy source id r → ⊥ }
     ensures unfailed { (source : List ℕ)
-        → ((id : JobId) (r : Refusal) → Fails (parts source) id r → ⊥)
+        → ((id : JobId) (r : Refusal) → FailsBy source id r → ⊥)
         → (font : List ℕ) × (font_of source ≡ Ok font) }
 {}
 
-/// A source is refused by the least of all refusals by which its jobs fail, and by no other one,
-/// whatever order they are run in.
+/// A source is refused by the least of all refusals by which its parts fail, and by no other one,
+/// whatever order its jobs are run in.
 pub fn a_source_is_refused_by_its_least_failure()
     ensures least { (source : List ℕ) (r : Refusal) → font_of source ≡ Err r
         → IsRefusedBy source r }

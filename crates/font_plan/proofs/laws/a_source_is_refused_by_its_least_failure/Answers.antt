@@ -1,4 +1,4 @@
-use Rattle.font_plan.proofs.FontLaws.{least_refuses, refused_by_least}
+use Rattle.font_plan.proofs.NoFailure.{least_refuses, refused_by_least}
 use Rattle.font_plan.proofs.laws.a_source_is_refused_by_its_least_failure.Goals as goal
 
 -- src/laws.rt:36:1
