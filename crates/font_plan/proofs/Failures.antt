@@ -26,7 +26,7 @@ use Rattle.font_plan.specs.Failing.{IsRead, HeaderFails, IndexFails, GlyphFails,
 use Rattle.font_plan.specs.Failing.{OrderFails, TableFails, FontFails, FailsBy}
 use Rattle.font_plan.specs.Jobs.{parts, table_tags, is_of_outlines, outline_table}
 use Rattle.font_plan.proofs.InOrder.{written, glyphs_of, are_drawn, glyphs_in_order, few, data_so}
-use Rattle.font_plan.proofs.InOrder.{are_tabled}
+use Rattle.font_plan.proofs.InOrder.{are_tabled, too_many}
 use Rattle.font_plan.proofs.PartRefusals.{refusal_of_part, IsMade, tree_made}
 use Rattle.font_plan.proofs.PartRefusals.{source_made, raw_source, in_index, raw_so}
 use Rattle.font_plan.proofs.PartRefusals.{flat_so, simple_so, raw_made, all_drawn, order_so}
@@ -129,13 +129,17 @@ module _ (source : List ℕ) where
       (refused_reads p job.Order r e job.Index (inr (inl refl))) in
       let d = all_drawn p s (λ glyph i. refused_reads p job.Order r e (job.Flat glyph)
       (inr (inr (map-In job.Flat (numbers p same_id) glyph i)))) in
+      let drawn = are_drawn source s d in
+      let many = too_many source s.header s.index (glyphs_of source s d) drawn r
+      (refusal_of_part p an.Order (p.order s.header s.index d.flats) (order_value p same_id) r
+      (order_so p s d) e) in
       record {
         header = s.header;
         index = s.index;
         glyphs = glyphs_of source s d;
-        drawn = are_drawn source s d;
-        refused = refusal_of_part p an.Order (p.order s.header s.index d.flats)
-            (order_value p same_id) r (order_so p s d) e;
+        drawn = drawn;
+        many_glyphs = many.0;
+        refused = many.1;
       }
 
   advances_fails_not : (r : Refusal) → IsRefused job.Advances r → ⊥

@@ -1,20 +1,50 @@
 -- Glyphs that jobs drew and put in order, and those of the direct definition. Lemmas.
-use Rattle.std.proofs.Common.{◌≡◌, ◌≤◌, ℕ, List, map, length, None, refl, sym, ap, ◌∙◌, subst}
+use Rattle.std.proofs.Common.{◌≡◌, ◌<◌, ◌≤◌, ℕ, Bool, true, false, List, map, length, None}
+use Rattle.std.proofs.Common.{Result, Ok, Err, nat_lt, refl, sym, ap, ◌∙◌, subst, arith}
+use Rattle.std.specs.Prelude.{if◌then◌else◌}
+use Rattle.std.proofs.lemmas.Bool.Decides.{nat_tests}
 use Rattle.refusal_codes.specs.declared.limits.TheConstants.{GLYPHS}
+use Rattle.refusal_codes.specs.declared.refusal.Refusal.{Refusal}
 use Rattle.font_ir.specs.declared.header.Header.{Header}
 use Rattle.font_ir.specs.declared.glyph.FlatGlyph.{FlatGlyph}
+use Rattle.font_ir.specs.Glyphs.{Glyphs}
 use Rattle.glyf_writer.specs.Tables as outlines
 use Rattle.metrics_tables.specs.Measuring.{measures_of}
 use Rattle.font_graph.specs.Values.{Source, Drawn, Written, Tabled}
-use Rattle.font_plan.specs.Direct.{Entry, order_in, parts_of, tables_with, tables_of}
+use Rattle.font_plan.specs.Direct.{Entry, too_many_glyphs, order_in, parts_of, tables_with}
+use Rattle.font_plan.specs.Direct.{tables_of}
 use Rattle.font_plan.specs.Failing.{AreDrawn}
-use Rattle.font_plan.specs.Jobs.{parts, simple_in, glyphs_with, parts_with, is_order_of}
-use Rattle.font_plan.specs.Jobs.{present, table_tags}
+use Rattle.font_plan.specs.Jobs.{parts, simple_in, order_or_refused, glyphs_with, parts_with}
+use Rattle.font_plan.specs.Jobs.{is_order_of, present, table_tags}
 use Rattle.font_plan.proofs.DrawnLaws.{one_glyph_a_name}
 use Rattle.font_plan.proofs.Faces.{ordered, order_is}
 use Rattle.font_plan.proofs.FacesGlyphs.{glyphs_direct, direct_glyphs, AreOfJobs}
 use Rattle.font_plan.proofs.FacesTables.{are_written, parts_so, made_tables, tables_made, made}
 use Rattle.font_plan.proofs.PartRefusals.{InOrder}
+
+-- ---- more names than a font may have
+
+abbrev Limited : ℕ → Glyphs → Result Glyphs Refusal
+Limited count order = if nat_lt 65535 count then Err (too_many_glyphs count) else Ok order
+
+above : (count : ℕ) (order : Glyphs) (r : Refusal) → Limited count order ≡ Err r
+    → (65535 < count) × (r ≡ too_many_glyphs count)
+above count order r e = chosen (nat_lt 65535 count) refl e
+  where
+    same : (s : Refusal) → ◌≡◌ {A = Result Glyphs Refusal} (Err s) (Err r) → r ≡ s
+    same s f = cc
+
+    chosen : (b : Bool) → nat_lt 65535 count ≡ b
+        → (if b then Err (too_many_glyphs count) else Ok order) ≡ Err r
+        → (65535 < count) × (r ≡ too_many_glyphs count)
+    chosen true is f = (grind (arith, nat_tests), same (too_many_glyphs count) f)
+    chosen false is f = absurd cc
+
+over : (count : ℕ) (order : Glyphs) → 65535 < count
+    → Limited count order ≡ Err (too_many_glyphs count)
+over count order many =
+    let is : nat_lt 65535 count ≡ true = grind (arith, nat_tests) in
+    ap (λ (b : Bool). if b then Err (too_many_glyphs count) else Ok order) is
 
 module _ (source : List ℕ) where
   abbrev pub written : (k : InOrder (parts source)) → Written (parts source) k.s k.d k.o
@@ -100,6 +130,24 @@ module _ (source : List ℕ) where
     abbrev pub drawn_of : Drawn (parts source) source_of
     drawn_of = record { flats = of_jobs.flats; glyphs_drawn = of_jobs.made }
 
+    pub names_so : length glyphs ≡ length (order_in index).names
+    names_so = one_glyph_a_name a.tree header index glyphs a.drawn
+
+    pub too_many : (r : Refusal) → order_or_refused index ≡ Err r
+        → (GLYPHS < length glyphs) × (r ≡ too_many_glyphs (length glyphs))
+    too_many r e =
+        let names = above (length (order_in index).names) (order_in index) r e in (
+          subst (λ n. GLYPHS < n) (sym names_so) names.0,
+          names.1 ∙ ap too_many_glyphs (sym names_so),
+        )
+
+    pub too_many_refused : GLYPHS < length glyphs
+        → order_or_refused index ≡ Err (too_many_glyphs (length glyphs))
+    too_many_refused many =
+        over (length (order_in index).names) (order_in index)
+        (subst (λ n. GLYPHS < n) names_so many)
+        ∙ ap (λ n. Err (too_many_glyphs n)) (sym names_so)
+
     module _ (few_glyphs : length glyphs ≤ GLYPHS) where
       abbrev pub order_of : InOrder (parts source)
       order_of = record {
@@ -107,8 +155,7 @@ module _ (source : List ℕ) where
         d = drawn_of;
         o = record {
           order = order_in index;
-          glyphs_ordered = order_is index (subst (λ n. n ≤ GLYPHS)
-              (one_glyph_a_name a.tree header index glyphs a.drawn) few_glyphs);
+          glyphs_ordered = order_is index (subst (λ n. n ≤ GLYPHS) names_so few_glyphs);
         };
       }
 

@@ -1,5 +1,5 @@
 -- A job fails where its part does.
-use Rattle.std.proofs.Common.{◌≡◌, ℕ, List, Err, ap, ◌∙◌}
+use Rattle.std.proofs.Common.{◌≡◌, ℕ, List, Err, sym, ap, ◌∙◌}
 use Rattle.std.specs.Prelude.{if◌then◌else◌}
 use Rattle.refusal_codes.specs.declared.refusal.Refusal.{Refusal}
 use Rattle.font_ir.specs.declared.tag.Tag.{Tag}
@@ -19,7 +19,7 @@ use Rattle.font_plan.specs.Failing.{HeaderFails, IndexFails, GlyphFails, Outline
 use Rattle.font_plan.specs.Failing.{OrderFails, TableFails, FontFails, FailsBy}
 use Rattle.font_plan.specs.Jobs.{parts, outline_table}
 use Rattle.font_plan.proofs.InOrder.{written, source_of, drawn_of, order_of, data_are, tabled}
-use Rattle.font_plan.proofs.InOrder.{tabled_so}
+use Rattle.font_plan.proofs.InOrder.{tabled_so, too_many_refused}
 use Rattle.font_plan.proofs.PartRefusals.{refused_by_part, IsMade, in_jobs, raw_so, flat_so}
 use Rattle.font_plan.proofs.PartRefusals.{order_so, InOrder}
 
@@ -97,7 +97,9 @@ module _ (source : List ℕ) where
         there = is_done_by p same_id identity (index_value p same_id) (an.Index f.index)
             (index_is p s);
         refused = refused_by_part p an.Order (p.order f.header f.index d.flats)
-            (order_value p same_id) r (order_so p s d) f.refused;
+            (order_value p same_id) r (order_so p s d)
+            (too_many_refused source f.header f.index f.glyphs f.drawn f.many_glyphs
+            ∙ ap Err (sym f.refused));
       }
 
   table_refused : (tag : Tag) (r : Refusal) → TableFails source tag r → Fails p (job.Table tag) r

@@ -1,6 +1,6 @@
 -- When a part of a source fails, in the words of the parts: all that it is made of was made, and
 -- the part itself is refused, by the first of its rules that fails. fontc's own.
-use Rattle.std.specs.Prelude.{◌≡◌, ◌≤◌, ℕ, true, List, length, None, Ok, Err}
+use Rattle.std.specs.Prelude.{◌≡◌, ◌<◌, ◌≤◌, ℕ, true, List, length, None, Ok, Err}
 use Rattle.refusal_codes.specs.declared.limits.TheConstants.{GLYPHS}
 use Rattle.refusal_codes.specs.declared.refusal.Refusal.{Refusal}
 use Rattle.plist_reader.specs.declared.tree.Tree.{Tree}
@@ -14,9 +14,9 @@ use Rattle.glyf_writer.specs.Tables as outlines
 use Rattle.job_graph.specs.Members.{In}
 use Rattle.font_graph.specs.declared.ids.JobId.{JobId}
 use Rattle.font_graph.specs.declared.ids.JobId.TheVariants as job
-use Rattle.font_plan.specs.Direct.{Entry, glyphs_in, parts_of, tables_of, filed}
-use Rattle.font_plan.specs.Jobs.{tree_of, numbers_in, raw_in, flat_in, order_or_refused}
-use Rattle.font_plan.specs.Jobs.{is_of_outlines, outline_table, table_tags}
+use Rattle.font_plan.specs.Direct.{Entry, too_many_glyphs, glyphs_in, parts_of, tables_of, filed}
+use Rattle.font_plan.specs.Jobs.{tree_of, numbers_in, raw_in, flat_in, is_of_outlines}
+use Rattle.font_plan.specs.Jobs.{outline_table, table_tags}
 
 -- ---- what was made
 
@@ -68,13 +68,14 @@ pub record OutlineFails (source : List ℕ) (glyph : ℕ) (r : Refusal) : Type 0
   pub layers_read : raw_in tree header index glyph ≡ Ok raw
   pub refused : flat_in raw index ≡ Err r
 
--- the order of glyphs that were drawn: they are too many
+-- the order of glyphs that were drawn: they are too many for a font
 pub record OrderFails (source : List ℕ) (r : Refusal) : Type 0 where
   pub header : Header
   pub index : List Entry
   pub glyphs : List FlatGlyph
   pub drawn : AreDrawn source header index glyphs
-  pub refused : order_or_refused index ≡ Err r
+  pub many_glyphs : GLYPHS < length glyphs
+  pub refused : r ≡ too_many_glyphs (length glyphs)
 
 -- a table of the outlines of glyphs that were drawn, and are not too many
 pub record TableFails (source : List ℕ) (tag : Tag) (r : Refusal) : Type 0 where
