@@ -40,6 +40,6 @@ kilobytes="$({ /usr/bin/time -f %M "$top/fontc" build "$room/many.glyphs" "$room
 echo "$glyphs glyphs, $(stat -c %s "$room/many.glyphs") bytes in, $(stat -c %s "$room/many.ttf") bytes out"
 awk -v fontc="$fontc_time" -v cat="$cat_time" -v glyphs="$glyphs" -v kilobytes="$kilobytes" \
   -v size="$(stat -c %s "$room/many.glyphs")" 'BEGIN {
-  printf "fontc: %.2f microseconds per glyph, %.1f times the source's size\n", fontc / glyphs, kilobytes * 1024 / size
+  printf "fontc: %.2f microseconds per glyph, %.1f times the size of the source\n", fontc / glyphs, kilobytes * 1024 / size
   printf "cat:   %.2f microseconds per glyph\n", cat / glyphs
 }'
