@@ -194,3 +194,12 @@ fn a_worker_waits_while_the_source_is_read(rt: HostRuntime) -> Result<(), Fail> 
     );
     Ok(())
 }
+
+/// What can be moved to and shared by threads.
+fn cross_threads<T: Send + Sync>(_value: &T) {}
+
+#[test]
+fn items_can_be_moved_to_threads_and_shared(rt: HostRuntime) -> Result<(), Fail> {
+    cross_threads(&Reads::<JobId, Item>::of(Vec::new(rt.alloc())));
+    Ok(())
+}
