@@ -14,4 +14,6 @@ mod plain_values;
 #[cfg(test)]
 mod refusals;
 #[cfg(test)]
+mod samples;
+#[cfg(test)]
 mod whole;
