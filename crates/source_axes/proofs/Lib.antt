@@ -1,0 +1,2 @@
+pub mod Billionths
+pub mod Turns

@@ -1,0 +1,4 @@
+pub mod AxisValues
+pub mod AxisReading
+pub mod InstanceReading
+pub mod OnLiterals
