@@ -100,7 +100,7 @@ value_few : (o : Option (List ℕ)) (d : Decimal) → option_and_then decimal_of
 value_few None d e = absurd cc
 value_few (Some text) d e = text_few text d e
 
-at_few : (t : Tree) (n : ℕ) (d : Decimal) → decimal_at t n ≡ Some d → d.billionths ≤ 999999999
+pub at_few : (t : Tree) (n : ℕ) (d : Decimal) → decimal_at t n ≡ Some d → d.billionths ≤ 999999999
 unfolding decimal_at
 at_few t n d e = value_few (text_at t.nodes n) d e
 
