@@ -2,6 +2,8 @@
 #![tactic(auto)]
 
 #[cfg(test)]
+mod axes;
+#[cfg(test)]
 mod glyphs;
 #[cfg(test)]
 mod property_lists;
