@@ -1,0 +1,44 @@
+-- The coordinates that a source gives on an axis: decimals from -32767 to 32767, which are read in
+-- 16.16 (OpenType 1.9, "Data types"). The range and the rounding are fontc's own.
+use Rattle.std.specs.Prelude.{ℕ, ◌+◌, ◌*◌, Bool, ◌&&◌, ◌||◌, ◌==◌, nat_lt, List, [], Option, Some}
+use Rattle.std.specs.Prelude.{None, ℤ, pos, neg_ℤ, ◌+ℤ◌, ◌*ℤ◌, if◌then◌else◌}
+use Rattle.plist_reader.specs.declared.tree.Tree.{Tree}
+use Rattle.refusal_codes.specs.declared.rule.Rule.TheVariants.{WrongShape, OutOfRange}
+use Rattle.refusal_codes.specs.declared.first.Failure.{Failure}
+use Rattle.fixed_math.specs.declared.Fixed.{Fixed}
+use Rattle.fixed_math.specs.FixedPoint.{floor_quotient}
+use Rattle.source_values.specs.declared.decimals.Decimal.{Decimal}
+use Rattle.source_values.specs.Decimals.{is_whole}
+use Rattle.source_values.specs.Values.{decimal_at}
+use Rattle.source_values.specs.Asking.{fails}
+
+-- from -32767 to 32767
+abbrev pub is_axis_value : Decimal → Bool
+is_axis_value d = nat_lt d.whole 32767 || (d.whole == 32767 && is_whole d)
+
+abbrev pub axis_value_failures_by : Tree → ℕ → Option Decimal → List Failure
+axis_value_failures_by t n None = fails WrongShape t n
+axis_value_failures_by t n (Some d) = if is_axis_value d then [] else fails OutOfRange t n
+
+unfoldable pub axis_value_failures : Tree → ℕ → List Failure
+axis_value_failures t n = axis_value_failures_by t n (decimal_at t n)
+
+-- a decimal in billionths, which nine digits of fraction make whole
+abbrev pub in_billionths : Decimal → ℤ
+in_billionths d =
+    if d.negative
+    then neg_ℤ (pos (1000000000 * d.whole + d.billionths))
+    else pos (1000000000 * d.whole + d.billionths)
+
+-- a decimal in 16.16: the whole number nearest to 65536 times the decimal; of two that are equally
+-- near the greater
+abbrev pub rounded : Decimal → ℤ
+rounded d = floor_quotient (pos 65536 *ℤ in_billionths d +ℤ pos 500000000) (pos 1000000000)
+
+-- the coordinate that a value is, and 0 where it is none
+abbrev pub coordinate_by : Option Decimal → ℤ
+coordinate_by None = pos 0
+coordinate_by (Some d) = if is_axis_value d then rounded d else pos 0
+
+unfoldable pub axis_coordinate : Tree → ℕ → Fixed
+axis_coordinate t n = record { 0 = coordinate_by (decimal_at t n) }

@@ -1,0 +1,8 @@
+pub mod Coordinates
+pub mod MasterReading
+pub mod MasterRules
+pub mod Metrics
+pub mod OnLiterals
+pub mod Parameters
+pub mod ReadMasters
+pub mod WholeRules
