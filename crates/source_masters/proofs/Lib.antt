@@ -1,1 +1,3 @@
+pub mod Billionths
 mod Examples
+pub mod SoundMasters

@@ -30,15 +30,15 @@ in_billionths d =
     then neg_ℤ (pos (1000000000 * d.whole + d.billionths))
     else pos (1000000000 * d.whole + d.billionths)
 
--- a decimal in 16.16: the whole number nearest to 65536 times the decimal; of two that are equally
--- near the greater
-abbrev pub rounded : Decimal → ℤ
-rounded d = floor_quotient (pos 65536 *ℤ in_billionths d +ℤ pos 500000000) (pos 1000000000)
+-- so many billionths in 16.16: the whole number nearest to 65536 times as many; of two that are
+-- equally near the greater
+abbrev pub rounded : ℤ → ℤ
+rounded n = floor_quotient (pos 65536 *ℤ n +ℤ pos 500000000) (pos 1000000000)
 
 -- the coordinate that a value is, and 0 where it is none
 abbrev pub coordinate_by : Option Decimal → ℤ
 coordinate_by None = pos 0
-coordinate_by (Some d) = if is_axis_value d then rounded d else pos 0
+coordinate_by (Some d) = if is_axis_value d then rounded (in_billionths d) else pos 0
 
 unfoldable pub axis_coordinate : Tree → ℕ → Fixed
 axis_coordinate t n = record { 0 = coordinate_by (decimal_at t n) }

@@ -1,6 +1,19 @@
 //! What a Glyphs source says of its masters, of its metrics, and of the parameters of both.
 #![tactic(auto)]
 
+mod coordinates;
+mod laws;
 mod metrics;
+mod parameters;
+mod records;
+mod rules;
+mod whole_rules;
 
-pub use metrics::Heights;
+pub use laws::sound_masters_are_read;
+pub use metrics::{Heights, Metrics};
+pub use parameters::FontParameters;
+pub use records::{masters, masters_place};
+pub use rules::{Masters, note_masters};
+pub use whole_rules::{
+    duplicate_master, no_master, note_axis_counts, origin, too_many_masters, unknown_origin,
+};
