@@ -1,3 +1,5 @@
 pub mod Billionths
 mod Examples
+pub mod RuleWords
 pub mod SoundMasters
+pub mod TableLaws

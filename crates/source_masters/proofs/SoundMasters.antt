@@ -222,7 +222,7 @@ natural_small (Some d) = chosen d.whole (is_whole d) (not d.negative || eqb d.wh
     (nat_le 16 d.whole) (nat_le d.whole 16384) refl
 
 units_small : (t : Tree) → units_per_em t ≤ 16384
-unfolding units_per_em natural_in
+unfolding natural_in
 units_small t = by (find_in t t.top (codes "unitsPerEm"))
   where
     by : (o : Option ℕ) → option_map_or (natural_in 16 16384 t) o 16 ≤ 16384

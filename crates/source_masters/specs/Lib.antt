@@ -1,6 +1,7 @@
 pub mod Coordinates
 pub mod MasterReading
 pub mod MasterRules
+pub mod MasterTables
 pub mod Metrics
 pub mod OnLiterals
 pub mod Parameters

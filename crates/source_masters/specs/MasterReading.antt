@@ -18,7 +18,8 @@ use Rattle.source_masters.specs.Parameters.{parameter_under}
 use Rattle.source_masters.specs.Metrics.{metric_numbers, heights_of, missing_heights}
 use Rattle.source_masters.specs.WholeRules.{master_numbers, master_id, origin_of}
 
-unfoldable pub units_per_em : Tree → ℕ
+-- the units per em of a font
+abbrev pub units_per_em : Tree → ℕ
 units_per_em t = natural_or 16 16384 16 t t.top (codes "unitsPerEm")
 
 -- the place of the list of masters, 0 where there is none

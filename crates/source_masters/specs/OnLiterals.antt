@@ -11,7 +11,7 @@ use Rattle.source_masters.specs.MasterRules.{location_failures, master_parts_fai
 use Rattle.source_masters.specs.WholeRules.{master_numbers, too_many_masters, no_master, master_id}
 use Rattle.source_masters.specs.WholeRules.{duplicate_masters, axis_count, axis_counts}
 use Rattle.source_masters.specs.WholeRules.{master_named, origin_value, origin_of, unknown_origin}
-use Rattle.source_masters.specs.MasterReading.{units_per_em, masters_place, design_of, location_in}
+use Rattle.source_masters.specs.MasterReading.{masters_place, design_of, location_in}
 use Rattle.source_masters.specs.MasterReading.{location_entries, user_coordinate, default_heights}
 use Rattle.source_masters.specs.MasterReading.{master_with, masters_of}
 
@@ -21,6 +21,6 @@ unfolding values_on_literals axis_value_failures axis_coordinate parameter_in en
     metric_values_failures height_at height_in height_of heights_of missing_heights
     location_failures master_parts_failures master_numbers too_many_masters no_master master_id
     duplicate_masters axis_count axis_counts master_named origin_value origin_of unknown_origin
-    units_per_em masters_place design_of location_in location_entries user_coordinate
+    masters_place design_of location_in location_entries user_coordinate
     default_heights master_with masters_of
 masters_on_literals = tt

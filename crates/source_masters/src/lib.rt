@@ -9,7 +9,11 @@ mod records;
 mod rules;
 mod whole_rules;
 
-pub use laws::sound_masters_are_read;
+pub use laws::{
+    font_parameter_rules_are_tabled, fractions_of_masters_are_refused, master_rules_are_tabled,
+    metric_rules_are_tabled, missing_ids_are_refused, ranges_of_masters_are_kept,
+    sound_masters_are_read,
+};
 pub use metrics::{Heights, Metrics};
 pub use parameters::FontParameters;
 pub use records::{masters, masters_place};
