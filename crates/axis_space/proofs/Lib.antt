@@ -7,3 +7,4 @@ pub mod PointLemmas
 pub mod NeighbourLemmas
 pub mod ReadingLemmas
 pub mod Rows
+pub mod PlaceRows

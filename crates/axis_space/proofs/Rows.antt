@@ -18,7 +18,7 @@ half_below : normalised (negsuc 0) (negsuc 32767) (pos 0) (pos 0) ≡ pos 0
 half_below = refl
 
 -- a master on one axis, by its raw coordinates
-abbrev master : ℤ → ℤ → Master
+abbrev pub master : ℤ → ℤ → Master
 master design user = record {
   id = [];
   design = record { 0 = design } ∷ [];
@@ -31,7 +31,7 @@ master design user = record {
   place = 0;
 }
 
-abbrev number : ℤ → F2Dot14
+abbrev pub number : ℤ → F2Dot14
 number raw = record { 0 = raw }
 
 -- the normalised design coordinates of masters of which the first is the default
@@ -39,7 +39,7 @@ abbrev locations : List Master → List F2Dot14
 locations masters = map (normal_on Design 0 0 masters) masters
 
 -- masters at 400, 500 and 700
-abbrev thirds : List Master
+abbrev pub thirds : List Master
 thirds =
     master (pos 26214400) (pos 26214400) ∷ master (pos 32768000) (pos 32768000)
     ∷ master (pos 45875200) (pos 45875200) ∷ []
@@ -48,7 +48,7 @@ thirds_locations : locations thirds ≡ number (pos 0) ∷ number (pos 5461) ∷
 thirds_locations = refl
 
 -- masters at 0, 10000, 10000.1 and 30000: the second and the third lie at one place
-abbrev near : List Master
+abbrev pub near : List Master
 near =
     master (pos 0) (pos 0) ∷ master (pos 655360000) (pos 655360000)
     ∷ master (pos 655366554) (pos 655366554) ∷ master (pos 1966080000) (pos 1966080000) ∷ []
@@ -64,7 +64,7 @@ unfolding avar_pairs pairs_of
 near_pairs = refl
 
 -- masters at 400 and 700 whose user coordinates are both 100: the pairs don't rise at 0
-abbrev one_user : List Master
+abbrev pub one_user : List Master
 one_user = master (pos 26214400) (pos 6553600) ∷ master (pos 45875200) (pos 6553600) ∷ []
 
 one_user_pairs : avar_pairs one_user 0 0 ≡ Err (number (pos 0))
@@ -81,7 +81,7 @@ unfolding avar_pairs pairs_of
 crossed_pairs = refl
 
 -- masters at 400 and 700 whose user coordinates are their design coordinates
-abbrev ends : List Master
+abbrev pub ends : List Master
 ends = master (pos 26214400) (pos 26214400) ∷ master (pos 45875200) (pos 45875200) ∷ []
 
 ends_pairs : avar_pairs ends 0 0 ≡ Ok (pair (negsuc 16383) (negsuc 16383) ∷ pair (pos 0) (pos 0)

@@ -1,2 +1,5 @@
 pub mod AxisPairs
+pub mod Placing
 pub mod Points
+pub mod Repeats
+pub mod UnmappedAxes
