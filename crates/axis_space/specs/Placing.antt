@@ -1,17 +1,18 @@
 -- Where masters and layers lie in a design space (OpenType 1.9, "Coordinate scales and
--- normalization"): on each axis their design coordinate is normalised between the least, the default
--- master's and the greatest one of the masters. That it is the design coordinate, and not the
+-- normalization"): on each axis their design coordinate is normalised between the least one of the
+-- masters, the default master's and the greatest one. That it is the design coordinate, and not the
 -- user's, is fontc's own.
-use Rattle.std.specs.Prelude.{◌≡◌, ℕ, ◌<◌, ◌≤◌, List, map, length, ◌≤ℤ◌}
-use Rattle.std.specs.List.{All, AllZip, range_with_len}
+use Rattle.std.specs.Prelude.{◌≡◌, ◌≢◌, ℕ, ◌<◌, ◌≤◌, List, map, length, ◌≤ℤ◌}
+use Rattle.std.specs.List.{All, AllPairs, AllZip, range_with_len}
 use Rattle.fixed_math.specs.declared.F2Dot14.{F2Dot14}
 use Rattle.fixed_math.specs.declared.Fixed.{Fixed}
+use Rattle.font_ir.specs.declared.header.Header.{Header}
 use Rattle.font_ir.specs.declared.header.Master.{Master}
 use Rattle.font_ir.specs.declared.header.CoordinateScale.TheVariants.{Design}
 use Rattle.font_ir.specs.Normal.{normalised}
 use Rattle.font_ir.specs.Extremes.{least, greatest}
 use Rattle.font_ir.specs.Coordinates.{coordinate_at, coordinates_on, default_on, normal_on}
-use Rattle.font_ir.specs.Headers.{location_at}
+use Rattle.font_ir.specs.Headers.{location_at, LieWhereTheySay, HasMap}
 
 -- a master has so many design and user coordinates, or more
 pub record HasAxes (axes : ℕ) (master : Master) : Type 0 where
@@ -65,3 +66,10 @@ pub record ArePlaced (origin axes : ℕ) (before after : List Master) : Type 0 w
   pub one_each : All (λ master. length master.location ≡ axes) after
   pub lie : (axis : ℕ) → axis < axes → All (λ master. location_at axis master
       ≡ normal_on Design origin axis after master) after
+
+-- what the masters of a header and their axes have to fulfil: the masters lie where they say, no two
+-- of them at one place, and each axis has a map
+pub record FulfilsPlaces (header : Header) : Type 0 where
+  pub locations : (axis : ℕ) → axis < length header.axes → LieWhereTheySay header axis
+  pub different : AllPairs (λ a b. a ≢ b) (map (λ master. master.location) header.masters)
+  pub maps : (axis : ℕ) → axis < length header.axes → HasMap header axis

@@ -1,5 +1,5 @@
--- Which axis is the first without a map from user to design coordinates (OpenType 1.9, "avar"). That
--- an axis has one where its pairs have a rising list is fontc's own.
+-- Which axis is the first without a map from user to design coordinates (OpenType 1.9, "avar").
+-- That an axis has one where its pairs have a rising list is fontc's own.
 use Rattle.std.specs.Prelude.{ℕ, ◌<◌, Bool, List, Option, Some, None, is_err}
 use Rattle.std.specs.List.{position, range_with_len}
 use Rattle.font_ir.specs.declared.header.Master.{Master}
