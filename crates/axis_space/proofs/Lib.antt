@@ -5,6 +5,10 @@ pub mod FallLemmas
 pub mod LineLemmas
 pub mod PointLemmas
 pub mod NeighbourLemmas
+pub mod IndexLemmas
+pub mod UnmappedLemmas
+pub mod RepeatLemmas
+pub mod ScaleLemmas
 pub mod ReadingLemmas
 pub mod Rows
 pub mod PlaceRows

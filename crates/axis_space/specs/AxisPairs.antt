@@ -1,9 +1,9 @@
 -- The pairs of an axis in the table avar (OpenType 1.9, "avar"): from a normalised user coordinate
 -- to the normalised design coordinate. They are a set of which the table holds the rising list,
 -- where there is one.
-use Rattle.std.specs.Prelude.{◌≡◌, ◌≢◌, ℕ, Bool, ◌&&◌, if◌then◌else◌, List, [], ◌∷◌, ◌++◌, map, ℤ}
-use Rattle.std.specs.Prelude.{pos, negsuc, ◌<ℤ◌, ◌≤ℤ◌, int_lt, Option, Some, None, Result, Ok, Err}
-use Rattle.std.specs.Prelude.{Vec, Contains, AllPairs, ◌↔◌}
+use Rattle.std.specs.Prelude.{◌≡◌, ◌≢◌, ℕ, Bool, ◌&&◌, if◌then◌else◌, List, [], ◌∷◌}
+use Rattle.std.specs.Prelude.{◌≤ℤ◌, int_lt, Option, Some, None, Result, Ok, Err}
+use Rattle.std.specs.Prelude.{Vec, Contains}
 use Rattle.std.specs.Ordering.{int_cmp, ordering_then}
 use Rattle.std.specs.declared.cmp.Ordering.{Ordering}
 use Rattle.std.specs.declared.cmp.Ordering.TheVariants.{Less, Equal, Greater}

@@ -67,8 +67,8 @@ pub record ArePlaced (origin axes : ℕ) (before after : List Master) : Type 0 w
   pub lie : (axis : ℕ) → axis < axes → All (λ master. location_at axis master
       ≡ normal_on Design origin axis after master) after
 
--- what the masters of a header and their axes have to fulfil: the masters lie where they say, no two
--- of them at one place, and each axis has a map
+-- what the masters of a header and their axes have to fulfil: the masters lie where they say, no
+-- two of them at one place, and each axis has a map
 pub record FulfilsPlaces (header : Header) : Type 0 where
   pub locations : (axis : ℕ) → axis < length header.axes → LieWhereTheySay header axis
   pub different : AllPairs (λ a b. a ≢ b) (map (λ master. master.location) header.masters)

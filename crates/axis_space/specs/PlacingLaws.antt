@@ -64,7 +64,8 @@ module _ (origin axes : ℕ) where
           ap (λ (x : X). x ∷ map f (map (placed_master masters origin axes) ms))
           (same m (place_of masters origin axes m.design)) ∙ ap (λ (xs : List X). f m ∷ xs) (each ms)
 
-  pub length-placed : (masters : List Master) → length (placed origin axes masters) ≡ length masters
+  pub length-placed : (masters : List Master)
+      → length (placed origin axes masters) ≡ length masters
   unfolding placed
   length-placed masters = length-map masters (placed_master masters origin axes)
 
