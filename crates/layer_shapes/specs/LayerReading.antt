@@ -1,7 +1,7 @@
 -- What a layer of a glyph holds (Glyphs file format, version 3; that the last node stored is where
 -- a contour starts, and what missing keys mean, is fontc's own reading). A value that fails a rule
 -- reads as some number in its range, so that each record has its numbers in their ranges.
-use Rattle.std.specs.Prelude.{ℕ, ◌*◌, Bool, ◌&&◌, not, true, List, [], ◌∷◌, map}
+use Rattle.std.specs.Prelude.{ℕ, ◌*ℤ◌, Bool, ◌&&◌, not, true, List, [], ◌∷◌, map}
 use Rattle.std.specs.Prelude.{flat_map, slice_index, codes, is_some, Option, Some, None, ℤ, pos}
 use Rattle.std.specs.Prelude.{neg_ℤ, nat_eq, if◌then◌else◌}
 use Rattle.std.specs.Option.{option_map_or}
@@ -42,15 +42,8 @@ unfoldable pub units_of : Tree → ℕ → ℤ
 units_of t n = units_by (decimal_at t n)
 
 -- the same in 16.16: 65536 times as much
-abbrev pub coordinate_by : Option Decimal → ℤ
-coordinate_by None = pos 0
-coordinate_by (Some d) =
-    if is_whole d && in_range Coordinate d
-    then (if d.negative then neg_ℤ (pos (65536 * d.whole)) else pos (65536 * d.whole))
-    else pos 0
-
 unfoldable pub coordinate_of : Tree → ℕ → Fixed
-coordinate_of t n = record { 0 = coordinate_by (decimal_at t n) }
+coordinate_of t n = record { 0 = pos 65536 *ℤ units_of t n }
 
 -- ---- paths
 
@@ -174,7 +167,7 @@ anchor_of t n = record {
 -- of anchors of one name the first counts: the first anchor, and those of the others that count and
 -- have another name
 abbrev pub has_other_name : List ℕ → Anchor → Bool
-has_other_name name anchor = not (pointwise nat_eq anchor.name name)
+has_other_name name anchor = not (pointwise nat_eq name anchor.name)
 
 abbrev pub first_of_each_name : List Anchor → List Anchor
 first_of_each_name [] = []

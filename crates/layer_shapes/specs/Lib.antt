@@ -4,3 +4,6 @@ pub mod LayerTables
 pub mod OnLiterals
 pub mod Placing
 pub mod ReadLayers
+-- what the proofs of readers above need
+pub mod DecimalLaws
+pub mod LayerLaws

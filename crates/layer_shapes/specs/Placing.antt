@@ -42,3 +42,11 @@ is_quarter_turn d = is_whole d && (d.whole % 90) == 0
 abbrev pub quarters_in : Decimal → ℕ
 quarters_in d =
     if d.negative then (4 - ((d.whole / 90) % 4)) % 4 else (d.whole / 90) % 4
+
+-- an angle without its full turns, which turns as much
+abbrev pub without_full_turns : Decimal → Decimal
+without_full_turns d = record {
+  negative = d.negative;
+  whole = d.whole % 360;
+  billionths = d.billionths;
+}
