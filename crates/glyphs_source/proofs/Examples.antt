@@ -9,9 +9,10 @@ use Rattle.refusal_codes.specs.declared.job.TheConstants.{HEADER, INDEX}
 use Rattle.refusal_codes.specs.First.{refusal_of}
 use Rattle.refusal_codes.specs.declared.rule.Rule.{Rule}
 use Rattle.refusal_codes.specs.declared.rule.Rule.TheVariants.{WrongShape, MissingKey, OutOfRange}
-use Rattle.refusal_codes.specs.declared.rule.Rule.TheVariants.{DuplicateUnicode}
+use Rattle.refusal_codes.specs.declared.rule.Rule.TheVariants.{AxisCount, DuplicateUnicode}
 use Rattle.font_ir.specs.declared.header.Header.{Header}
 use Rattle.glyphs_source.specs.declared.entries.IndexEntry.{IndexEntry}
+use Rattle.glyphs_source.specs.BuiltHeaders.{built_header_of}
 use Rattle.glyphs_source.specs.HeaderReading.{header_of}
 use Rattle.glyphs_source.specs.IndexReading.{index_of}
 use Rattle.glyphs_source.specs.OnLiterals.{header_on_literals, index_on_literals}
@@ -171,19 +172,31 @@ triangle_header = record {
 }
 
 -- each source with its header or its refusal: an em of 15 units is out of range, at the number; a
--- family needs a name, so the dictionary fails; an axis isn't built, so the list is of a wrong
--- shape
+-- family needs a name, so the dictionary fails; with an axis the master needs a coordinate
 abbrev header_rows : List (Tree × Result Header Refusal)
 header_rows =
     (triangle, Ok triangle_header)
     ∷ (small_em, Err (header_refusal OutOfRange 251))
     ∷ (nameless, Err (header_refusal MissingKey 0))
-    ∷ (axes, Err (header_refusal WrongShape 29))
+    ∷ (axes, Err (header_refusal AxisCount 93))
     ∷ []
 
 pub headers-computed : map (λ row. header_of row.0) header_rows ≡ map (λ row. row.1) header_rows
 unfolding header_on_literals
 headers-computed = refl
+
+-- a program that takes no axes refuses their list
+abbrev built_rows : List (Tree × Result Header Refusal)
+built_rows =
+    (triangle, Ok triangle_header)
+    ∷ (nameless, Err (header_refusal MissingKey 0))
+    ∷ (axes, Err (header_refusal WrongShape 29))
+    ∷ []
+
+pub built-headers-computed : map (λ row. built_header_of row.0) built_rows
+    ≡ map (λ row. row.1) built_rows
+unfolding header_on_literals
+built-headers-computed = refl
 
 -- the one exported glyph of the triangle, with one code, whose dictionary is the value 40
 abbrev triangle_entry : IndexEntry

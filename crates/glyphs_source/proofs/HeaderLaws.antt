@@ -1,86 +1,86 @@
--- A header that is read has one master, at no axis, and its numbers are in their ranges.
-use Rattle.std.proofs.Common.{◌≡◌, ℕ, ◌+◌, ◌≤◌, ◌*◌, ◌/◌, pos, ◌-ℤ◌, ◌==◌, ◌&&◌, ◌||◌, not, cond}
+-- What a header fulfils that is read: all that is asked of one; and where no form is told that isn't
+-- taken, it has one master and no axes.
+use Rattle.std.proofs.Common.{◌≡◌, ℕ, ◌+◌, ◌≤◌, ◌<◌, ◌*◌, ◌/◌, ◌==◌, ◌&&◌, ◌||◌, not, cond}
 use Rattle.std.proofs.Common.{nat_le, Bool, true, false, List, [], ◌∷◌, ◌++◌, length, map, Option}
 use Rattle.std.proofs.Common.{Some, None, Result, Ok, Err, refl, sym, ap, ◌∙◌, subst, lit≤, arith}
-use Rattle.std.specs.Prelude.{codes, IfOk, option_and_then, unwrap_or, if◌then◌else◌}
+use Rattle.std.specs.Prelude.{codes, IfOk, option_and_then, unwrap_or, slice_get}
 use Rattle.std.specs.Option.{option_map_or}
-use Rattle.std.specs.List.{AllByRecursion}
+use Rattle.std.specs.List.{All, AllByRecursion, filter}
 use Rattle.std.proofs.lemmas.Bool.Decides.{nat_tests}
-use Rattle.std.proofs.lemmas.Int.{ints}
+use Rattle.std.proofs.lemmas.List.{length-map}
+use Rattle.std.proofs.lemmas.List.Elements.{All-head}
+use Rattle.fixed_math.specs.declared.F2Dot14.{F2Dot14}
+use Rattle.fixed_math.specs.declared.Fixed.{Fixed}
 use Rattle.plist_reader.specs.declared.tree.Tree.{Tree}
 use Rattle.plist_reader.specs.Tree.{find_in, text_at}
 use Rattle.font_ir.specs.declared.header.Header.{Header}
 use Rattle.font_ir.specs.declared.header.Master.{Master}
-use Rattle.font_ir.specs.Headers.{IsHeader}
+use Rattle.font_ir.specs.declared.header.Axis.{Axis}
+use Rattle.font_ir.specs.Headers.{IsMaster, IsHeader}
+use Rattle.axis_space.specs.Placing.{HasAxes, placed, FulfilsPlaces}
+use Rattle.axis_space.specs.PlacingLaws.{length-placed, All-placed, placed_fulfil}
+use Rattle.axis_space.specs.Repeats.{TellsRepeat, first_repeat}
+use Rattle.axis_space.specs.UnmappedAxes.{TellsUnmapped, first_unmapped}
 use Rattle.refusal_codes.specs.declared.first.Failure.{Failure}
 use Rattle.refusal_codes.specs.declared.errors.ReadError.{ReadError}
 use Rattle.refusal_codes.specs.Gives.{Gives}
-use Rattle.refusal_codes.specs.declared.rule.Rule.TheVariants.{MissingKey, OutOfRange}
-use Rattle.refusal_codes.specs.First.{first_of, foremost, refusal_of}
+use Rattle.refusal_codes.specs.declared.rule.Rule.TheVariants.{MissingKey, OutOfRange, WrongShape}
+use Rattle.refusal_codes.specs.First.{first_of, foremost, or_next, noted, refusal_of, judged}
 use Rattle.refusal_codes.specs.declared.job.TheConstants.{HEADER}
-use Rattle.refusal_codes.specs.FirstLaws.{first_of_none}
+use Rattle.refusal_codes.specs.FirstLaws.{first_of_none, noted-append}
 use Rattle.refusal_codes.specs.JudgedLaws.{judged_ok}
 use Rattle.source_values.specs.declared.decimals.Decimal.{Decimal}
 use Rattle.source_values.specs.Decimals.{is_whole}
 use Rattle.source_values.specs.Values.{items_at, is_dictionary, decimal_at, natural_by, natural_in}
-use Rattle.source_values.specs.Asking.{fails, name_failures_by, name_failures, under_by}
-use Rattle.glyphs_source.specs.HeaderReading.{IsMetric, HasMetricsInRange, HasNumbersInRange}
-use Rattle.glyphs_source.specs.HeaderReading.{IsReadHeader, units_per_em, masters_failures_by}
-use Rattle.glyphs_source.specs.HeaderReading.{masters_failures, name_and_numbers_failures}
-use Rattle.glyphs_source.specs.HeaderReading.{design_forms_failures, feature_forms_failures}
-use Rattle.glyphs_source.specs.HeaderReading.{top_failures, header_failures, whole_rules_by}
-use Rattle.glyphs_source.specs.HeaderReading.{header_whole_failures, master_record, first_master}
-use Rattle.glyphs_source.specs.HeaderReading.{master_numbers, header_record, header_of}
-use Rattle.glyphs_source.specs.ReadHeaders.{read_header_is_whole}
+use Rattle.source_values.specs.Values.{items_under}
+use Rattle.source_values.specs.Asking.{fails, name_failures_by, name_failures, under_by, optional}
+use Rattle.source_values.specs.Asking.{required, is_empty_list, empty_list_failures}
+use Rattle.source_axes.specs.AxisReading.{axes_failures, axis_of, axis_numbers, axes_of}
+use Rattle.source_axes.specs.AxisReading.{too_many_axes}
+use Rattle.source_axes.specs.InstanceReading.{instances_failures, is_kept, instance_of}
+use Rattle.source_axes.specs.InstanceReading.{kept_instances, instances_of}
+use Rattle.source_axes.specs.InstanceReading.{instance_count_failures}
+use Rattle.source_axes.specs.ReadAxes.{AreReadAxes, AreReadInstances, HasSoundAxes}
+use Rattle.source_axes.specs.ReadAxes.{HasSoundInstances, SoundAxesAreRead, SoundInstancesAreRead}
+use Rattle.source_masters.specs.Metrics.{used_metrics}
+use Rattle.source_masters.specs.MasterRules.{masters_failures}
+use Rattle.source_masters.specs.WholeRules.{master_numbers, too_many_masters, no_master}
+use Rattle.source_masters.specs.WholeRules.{duplicate_masters, axis_counts, origin_of}
+use Rattle.source_masters.specs.WholeRules.{unknown_origin}
+use Rattle.source_masters.specs.MasterReading.{units_per_em, default_heights, master_with}
+use Rattle.source_masters.specs.MasterReading.{masters_of}
+use Rattle.source_masters.specs.ReadMasters.{IsReadMaster, AreReadMasters, HasSoundMasters}
+use Rattle.source_masters.specs.ReadMasters.{HasOrigin, SoundMastersAreRead}
+use Rattle.unbuilt_forms.specs.Forms.{second_master_forms, first_master_forms, master_forms}
+use Rattle.unbuilt_forms.specs.Forms.{header_forms}
+use Rattle.glyphs_source.specs.BuiltHeaders.{built_header_of}
+use Rattle.glyphs_source.specs.HeaderReading.{name_and_numbers_failures, design_failures}
+use Rattle.glyphs_source.specs.HeaderReading.{top_failures, header_failures, count_failures}
+use Rattle.glyphs_source.specs.HeaderReading.{source_failure, origin_at, HasSoundHeader}
+use Rattle.glyphs_source.specs.HeaderReading.{placed_masters, same_location_by, not_rising_by}
+use Rattle.glyphs_source.specs.HeaderReading.{place_failure_of, header_record, judged_header}
+use Rattle.glyphs_source.specs.HeaderReading.{header_by, header_of, HasMetricsInRange}
+use Rattle.glyphs_source.specs.HeaderReading.{IsReadHeader}
+
+-- ---- lists of failures
 
 -- of two lists that are empty together the second is
 pub last_empty : (xs ys : List Failure) → xs ++ ys ≡ [] → ys ≡ []
 last_empty [] ys e = e
 last_empty (x ∷ xs) ys e = absurd cc
 
-pub dictionary_there : (b : Bool) (xs : List Failure) (x : Failure)
-    → (if b then xs else x ∷ []) ≡ []
+pub first_empty : (xs ys : List Failure) → xs ++ ys ≡ [] → xs ≡ []
+first_empty [] ys e = refl
+first_empty (x ∷ xs) ys e = absurd cc
+
+pub dictionary_there : (b : Bool) (xs : List Failure) (x : Failure) → cond b xs (x ∷ []) ≡ []
     → xs ≡ []
 dictionary_there true xs x e = e
 dictionary_there false xs x e = absurd cc
 
--- a list of masters that fails no rule has a first one
-listed : (t : Tree) (n : ℕ) (o : Option (List ℕ)) → masters_failures_by t n o ≡ []
-    → foremost (whole_rules_by t n o) ≡ None
-    → (m : ℕ) × (first_master t (unwrap_or o []) ≡ master_record t m ∷ [])
-listed t n None e w = absurd cc
-listed t n (Some []) e w = absurd cc
-listed t n (Some (m ∷ ms)) e w = (m, refl)
-
-there : (t : Tree) (o : Option ℕ)
-    → under_by (masters_failures t) (fails MissingKey t t.top) o ≡ []
-    → foremost (option_map_or (λ n. whole_rules_by t n (items_at t n)) o []) ≡ None
-    → (m : ℕ)
-    × (first_master t (unwrap_or (option_and_then (items_at t) o) []) ≡ master_record t m ∷ [])
-unfolding masters_failures
-there t None e w = absurd cc
-there t (Some n) e w = listed t n (items_at t n) e w
-
-local_none : (t : Tree) → first_of (header_failures t) ≡ None
-    → under_by (masters_failures t) (fails MissingKey t t.top)
-    (find_in t t.top (codes "fontMaster")) ≡ []
-unfolding top_failures
-local_none t e =
-    last_empty
-    (name_and_numbers_failures t t.top ++ design_forms_failures t t.top
-    ++ feature_forms_failures t t.top) _
-    (dictionary_there (is_dictionary t t.top) _ _ (first_of_none _ e))
-
-one_master : (t : Tree) → first_of (header_failures t) ≡ None
-    → foremost (header_whole_failures t) ≡ None
-    → (m : ℕ) × ((header_record t).masters ≡ master_record t m ∷ [])
-unfolding header_whole_failures header_record master_numbers
-one_master t e w = there t (find_in t t.top (codes "fontMaster")) (local_none t e) w
-
-located : (t : Tree) (m : ℕ) (ms : List Master) → ms ≡ master_record t m ∷ []
-    → map (λ (master : Master). master.location) ms ≡ [] ∷ []
-unfolding master_record
-located t m ms e = ap (map (λ (master : Master). master.location)) e
+or_none : (a b : Option Failure) → or_next a b ≡ None → (a ≡ None) × (b ≡ None)
+or_none None b e = (refl, e)
+or_none (Some f) b e = absurd cc
 
 -- ---- its numbers
 
@@ -114,13 +114,8 @@ natural-within t low high missing None h k = k
 natural-within t low high missing (Some n) h k = natural_by-within low high (decimal_at t n) h
 
 units_within : (t : Tree) → IsWithin 16 16384 (units_per_em t)
-unfolding units_per_em
 units_within t = natural-within t 16 16384 16 (find_in t t.top (codes "unitsPerEm")) (lit≤ tt)
     (lit≤ tt, lit≤ tt)
-
-pub first_empty : (xs ys : List Failure) → xs ++ ys ≡ [] → xs ≡ []
-first_empty [] ys e = refl
-first_empty (x ∷ xs) ys e = absurd cc
 
 sized : (t : Tree) (n : ℕ) (size : ℕ) (p q : Bool) → nat_le 1 size ≡ p → nat_le size 255 ≡ q
     → cond (p && q) [] (fails OutOfRange t n) ≡ [] → IsWithin 1 255 size
@@ -141,109 +136,530 @@ unfolding name_failures
 name_under t pairs None e = absurd cc
 name_under t pairs (Some n) e = name_within t n (text_at t.nodes n) e
 
-family_within : (t : Tree) → first_of (header_failures t) ≡ None
-    → IsWithin 1 255 (length (header_record t).family)
-unfolding top_failures name_and_numbers_failures header_record
-family_within t e =
-    let top = dictionary_there (is_dictionary t t.top) (top_failures t t.top) _ (first_of_none _ e)
-    in
-    let forms = name_and_numbers_failures t t.top ++ design_forms_failures t t.top in
-    let own = first_empty (name_and_numbers_failures t t.top) _
-    (first_empty forms _ (first_empty _ _ top)) in
-    name_under t t.top (find_in t t.top (codes "familyName"))
-    (last_empty _ _ (first_empty _ _ (first_empty _ _ own)))
+-- ---- where no rule fails
 
-signed : (a u : ℕ) → a ≤ u → u ≤ a + 16383 → a ≤ 16383
-    → IsMetric (pos a) × IsMetric (pos a -ℤ pos u)
-signed a u below near top = (
-  (omega (arith, ints, top), omega (arith, ints, top)),
-  (omega (arith, ints, below, near), omega (arith, ints, below, near)),
-)
+module _ (t : Tree) where
+  top_none : header_failures t ≡ [] → top_failures t t.top ≡ []
+  top_none e = dictionary_there (is_dictionary t t.top) (top_failures t t.top) _ e
 
-four_fifths : (u : ℕ) → u ≤ 16384 → (u * 4 / 5 ≤ u) × (u ≤ u * 4 / 5 + 16383) × (u * 4 / 5 ≤ 16383)
-four_fifths u units = (omega (arith, units), omega (arith, units), omega (arith, units))
+  own_none : header_failures t ≡ [] → name_and_numbers_failures t t.top ≡ []
+  unfolding top_failures
+  own_none e = first_empty _ _ (first_empty _ _ (top_none e))
 
-metrics_within : (t : Tree) (m : ℕ) → HasMetricsInRange (master_record t m)
-unfolding master_record
-metrics_within t m =
-    let units = units_within t in
-    let four = four_fifths (units_per_em t) units.1 in
-    let both = signed (units_per_em t * 4 / 5) (units_per_em t) four.0 four.1 four.2 in
-    record {
-      ascender = both.0;
-      descender = both.1;
-      cap
-          = (omega (arith, ints), omega (arith, ints));
-      xheight
-          = (omega (arith, ints), omega (arith, ints));
+  design_none : header_failures t ≡ [] → design_failures t t.top ≡ []
+  unfolding top_failures
+  design_none e =
+      last_empty (name_and_numbers_failures t t.top) _ (first_empty _ _ (top_none e))
+
+  axes_none : header_failures t ≡ [] → optional (codes "axes") axes_failures t t.top ≡ []
+  unfolding design_failures
+  axes_none e = first_empty _ _ (first_empty _ _ (first_empty _ _ (first_empty _ _ (design_none e))))
+
+  instances_none : header_failures t ≡ []
+      → optional (codes "instances") instances_failures t t.top ≡ []
+  unfolding design_failures
+  instances_none e = last_empty _ _ (first_empty _ _ (first_empty _ _ (design_none e)))
+
+  masters_none : header_failures t ≡ []
+      → required (codes "fontMaster") (masters_failures (used_metrics t)) t t.top ≡ []
+  unfolding design_failures
+  masters_none e = last_empty _ _ (design_none e)
+
+  family_within : header_failures t ≡ [] → IsWithin 1 255 (length (header_record t).family)
+  unfolding name_and_numbers_failures header_record
+  family_within e =
+      name_under t t.top (find_in t t.top (codes "familyName"))
+      (last_empty _ _ (first_empty _ _ (first_empty _ _ (own_none e))))
+
+  -- the whole rules, one behind another
+  abbrev After5 : Option Failure
+  After5 = or_next (first_of (count_failures t)) (foremost (unknown_origin t))
+
+  abbrev After4 : Option Failure
+  After4 = or_next (foremost (duplicate_masters t)) After5
+
+  abbrev After3 : Option Failure
+  After3 = or_next (foremost (no_master t)) After4
+
+  abbrev After2 : Option Failure
+  After2 = or_next (foremost (too_many_masters t)) After3
+
+  record NoneFails : Type 0 where
+    axes : foremost (too_many_axes t) ≡ None
+    masters : foremost (too_many_masters t) ≡ None
+    some : foremost (no_master t) ≡ None
+    ids : foremost (duplicate_masters t) ≡ None
+    counts : first_of (count_failures t) ≡ None
+    origin : foremost (unknown_origin t) ≡ None
+
+  none_fails : source_failure t ≡ None → NoneFails
+  unfolding source_failure
+  none_fails e =
+      let one = or_none (foremost (too_many_axes t)) After2 e in
+      let two = or_none (foremost (too_many_masters t)) After3 one.1 in
+      let three = or_none (foremost (no_master t)) After4 two.1 in
+      let four = or_none (foremost (duplicate_masters t)) After5 three.1 in
+      let five = or_none (first_of (count_failures t)) (foremost (unknown_origin t)) four.1 in
+      record {
+        axes = one.0;
+        masters = two.0;
+        some = three.0;
+        ids = four.0;
+        counts = five.0;
+        origin = five.1;
+      }
+
+  -- how many axes there are
+  abbrev Axes : ℕ
+  Axes = length (axes_of t)
+
+  abbrev Names : List (List ℕ)
+  Names = map (λ axis. axis.name) (axes_of t)
+
+  axes_counted : length (axis_numbers t) ≡ Axes
+  unfolding axes_of
+  axes_counted = sym (length-map (axis_numbers t) (axis_of t))
+
+  names_counted : length Names ≡ Axes
+  names_counted = length-map (axes_of t) (λ (axis : Axis). axis.name)
+
+  counts_none : source_failure t ≡ None
+      → axis_counts (length (axis_numbers t)) t
+      ++ instance_count_failures t (length (axis_numbers t)) ≡ []
+  unfolding count_failures
+  counts_none e = first_of_none _ (none_fails e).counts
+
+  module _ (sound : HasSoundHeader t) where
+    sound_axes : HasSoundAxes t
+    sound_axes = record {
+      local = axes_none sound.local;
+      few = (none_fails sound.whole).axes;
     }
 
-numbers_within : (t : Tree) → first_of (header_failures t) ≡ None
-    → foremost (header_whole_failures t) ≡ None → HasNumbersInRange (header_record t)
-unfolding header_record
-numbers_within t e w =
-    let units = units_within t in
-    let family = family_within t e in
-    let found = one_master t e w in
-    record {
-      units_from = units.0;
-      units = units.1;
-      family_from = family.0;
-      family = family.1;
-      major = (natural-within t 0 32767 1 (find_in t t.top (codes "versionMajor")) (lit≤ tt)
-          (lit≤ tt, lit≤ tt)).1;
-      minor = (natural-within t 0 999 0 (find_in t t.top (codes "versionMinor")) (lit≤ tt)
-          (lit≤ tt, lit≤ tt)).1;
-      metrics = subst (AllByRecursion HasMetricsInRange) (sym found.1)
-          (metrics_within t found.0, tt);
+    sound_masters : HasSoundMasters t (length Names)
+    sound_masters =
+        let rules = none_fails sound.whole in
+        record {
+          local = masters_none sound.local;
+          few = rules.masters;
+          some = rules.some;
+          ids = rules.ids;
+          counts = subst (λ (n : ℕ). axis_counts n t ≡ []) (axes_counted ∙ sym names_counted)
+              (first_empty _ _ (counts_none sound.whole));
+          origin = rules.origin;
+        }
+
+    sound_instances : HasSoundInstances t Axes
+    sound_instances = record {
+      local = instances_none sound.local;
+      counts = subst (λ (n : ℕ). instance_count_failures t n ≡ []) axes_counted
+          (last_empty (axis_counts (length (axis_numbers t)) t) _ (counts_none sound.whole));
     }
 
--- ---- what a header that is read fulfils
+    -- the masters before they have locations
+    abbrev Unplaced : List Master
+    Unplaced = masters_of t Names
 
-one_design : (t : Tree) (m : ℕ) → map (λ (master : Master). master.design) (master_record t m ∷ [])
-    ≡ [] ∷ []
-unfolding master_record
-one_design t m = refl
+    module _ (law : SoundMastersAreRead) where
+      pub masters_read : AreReadMasters Axes Unplaced
+      masters_read = subst (λ (n : ℕ). AreReadMasters n Unplaced) names_counted
+          (law t Names sound_masters).0
 
-one_user : (t : Tree) (m : ℕ) → map (λ (master : Master). master.user) (master_record t m ∷ [])
-    ≡ [] ∷ []
-unfolding master_record
-one_user t m = refl
+      pub origin_there : HasOrigin t Unplaced
+      origin_there = (law t Names sound_masters).1
 
-read_record : (t : Tree) → first_of (header_failures t) ≡ None
-    → foremost (header_whole_failures t) ≡ None → IsReadHeader (header_record t)
-unfolding header_record
-read_record t e w =
-    let found = one_master t e w in
-    record {
-      numbers = numbers_within t e w;
-      one_master = located t found.0 (header_record t).masters found.1;
-      no_design = ap (map (λ (master : Master). master.design)) found.1 ∙ one_design t found.0;
-      no_user = ap (map (λ (master : Master). master.user)) found.1 ∙ one_user t found.0;
-      no_axes = refl;
-      origin = refl;
-      no_instances = refl;
-      no_kerning = refl;
-    }
+      pub origin_is : origin_of t ≡ Some origin_there.origin
+      origin_is = origin_there.there
 
-pub read_header : (t : Tree) (h : Header) → header_of t ≡ Ok h → IsReadHeader h
+      pub origin_within : origin_at t < length Unplaced
+      unfolding origin_at
+      origin_within = subst (λ (n : ℕ). n < length Unplaced)
+          (sym (ap (λ (o : Option ℕ). unwrap_or o 0) origin_there.there)) origin_there.within
+
+      pub unplaced_axes : All (HasAxes Axes) Unplaced
+      unplaced_axes k d h =
+          let one = masters_read.each k d h in
+          record {
+            design = omega (arith, one.design);
+            user = omega (arith, one.user);
+          }
+
+      pub placed_axes : All (HasAxes Axes) (placed_masters t)
+      unfolding placed_masters
+      placed_axes =
+          All-placed (origin_at t) Axes (HasAxes Axes) (HasAxes Axes)
+          (λ m location e has. record { design = has.design; user = has.user }) Unplaced
+          unplaced_axes
+
+      pub origin_placed : origin_at t < length (placed_masters t)
+      unfolding placed_masters
+      origin_placed = subst (λ (n : ℕ). origin_at t < n)
+          (sym (length-placed (origin_at t) Axes Unplaced)) origin_within
+
+      few_placed : length (placed_masters t) ≤ 32
+      unfolding placed_masters
+      few_placed = subst (λ (n : ℕ). n ≤ 32)
+          (sym (length-placed (origin_at t) Axes Unplaced)) masters_read.few
+
+      each_placed : All (IsMaster Axes) (placed_masters t)
+      unfolding placed_masters
+      each_placed =
+          All-placed (origin_at t) Axes (IsReadMaster Axes) (IsMaster Axes)
+          (λ m location e read. record {
+            design = read.design;
+            user = read.user;
+            location = e;
+            design_range = read.design_range;
+            user_range = read.user_range;
+            ascender = read.ascender;
+            descender = read.descender;
+            cap = read.cap;
+            xheight = read.xheight;
+          }) Unplaced masters_read.each
+
+    pub few_axes : SoundAxesAreRead → Axes ≤ 8
+    few_axes law = (law t sound_axes).few
+
+-- ---- places
+
+no_repeat : (masters : List Master) (o : Option ℕ) → same_location_by masters o ≡ None → o ≡ None
+no_repeat masters None e = refl
+no_repeat masters (Some i) e = absurd cc
+
+no_unmapped : (t : Tree) (o : Option ℕ) → not_rising_by t o ≡ None → o ≡ None
+no_unmapped t None e = refl
+no_unmapped t (Some axis) e = absurd cc
+
+-- the laws of the parts
+pub record Laws : Type 0 where
+  pub axes : SoundAxesAreRead
+  pub instances : SoundInstancesAreRead
+  pub masters : SoundMastersAreRead
+  pub repeats : (places : List (List F2Dot14)) → TellsRepeat places (first_repeat places)
+  pub unmapped : (masters : List Master) (origin axes : ℕ)
+      → TellsUnmapped masters origin axes (first_unmapped masters origin axes)
+
+module _ (laws : Laws) (t : Tree) (sound : HasSoundHeader t)
+    (whole : place_failure_of t (placed_masters t) ≡ None) where
+  abbrev Masters : List Master
+  Masters = placed_masters t
+
+  abbrev Places : List (List F2Dot14)
+  Places = map (λ master. master.location) Masters
+
+  none_placed : (same_location_by Masters (first_repeat Places) ≡ None)
+      × (not_rising_by t (first_unmapped Masters (origin_at t) (length (axes_of t))) ≡ None)
+  unfolding place_failure_of
+  none_placed = or_none _ _ whole
+
+  all_differ : TellsRepeat Places None
+  all_differ = subst (TellsRepeat Places)
+      (no_repeat Masters (first_repeat Places) none_placed.0) (laws.repeats Places)
+
+  all_mapped : TellsUnmapped Masters (origin_at t) (length (axes_of t)) None
+  all_mapped = subst (TellsUnmapped Masters (origin_at t) (length (axes_of t)))
+      (no_unmapped t (first_unmapped Masters (origin_at t) (length (axes_of t))) none_placed.1)
+      (laws.unmapped Masters (origin_at t) (length (axes_of t)))
+
+  placed_as : placed_masters t ≡ placed (origin_at t) (length (axes_of t))
+      (masters_of t (map (λ axis. axis.name) (axes_of t)))
+  unfolding placed_masters
+  placed_as = refl
+
+  places_fulfil : FulfilsPlaces (header_record t)
+  unfolding header_record
+  places_fulfil =
+      placed_fulfil (header_record t) (masters_of t (map (λ axis. axis.name) (axes_of t)))
+      placed_as all_differ all_mapped
+
+  whole_record : IsHeader (header_record t)
+  unfolding header_record
+  whole_record =
+      let units = units_within t in
+      let family = family_within t sound.local in
+      let axes = laws.axes t (sound_axes t sound) in
+      let instances = laws.instances t (length (axes_of t)) (sound_instances t sound) in
+      record {
+        units = units;
+        family = family;
+        major = (natural-within t 0 32767 1 (find_in t t.top (codes "versionMajor")) (lit≤ tt)
+            (lit≤ tt, lit≤ tt)).1;
+        minor = (natural-within t 0 999 0 (find_in t t.top (codes "versionMinor")) (lit≤ tt)
+            (lit≤ tt, lit≤ tt)).1;
+        few_axes = axes.few;
+        axes = axes.names;
+        tags = axes.tags;
+        few_masters = few_placed t sound laws.masters;
+        masters = each_placed t sound laws.masters;
+        origin = origin_placed t sound laws.masters;
+        few_instances = instances.few;
+        instances = instances.each;
+        kerning = λ k d within. absurd (omega (arith, within));
+        kerning_values = λ k d within. absurd (omega (arith, within));
+        one_value = λ i j d below within. absurd (omega (arith, below, within));
+        locations = places_fulfil.locations;
+        different = places_fulfil.different;
+        maps = places_fulfil.maps;
+      }
+
+-- ---- what is read
+
+module _ (t : Tree) (failures : List Failure) (h : Header) (e : header_by t failures ≡ Ok h) where
+  abbrev Whole : Option Failure
+  Whole = or_next (source_failure t) (place_failure_of t (placed_masters t))
+
+  record IsAnswer : Type 0 where
+    local : failures ≡ []
+    source : source_failure t ≡ None
+    places : place_failure_of t (placed_masters t) ≡ None
+    is : header_record t ≡ h
+
+  answered : IsAnswer
+  unfolding header_by judged_header
+  answered =
+      let parts =
+      judged_ok (refusal_of HEADER []) (first_of failures) Whole (header_record t) h e in
+      let rules =
+      or_none (source_failure t) (place_failure_of t (placed_masters t)) parts.1 in
+      record {
+        local = first_of_none failures parts.0;
+        source = rules.0;
+        places = rules.1;
+        is = parts.2;
+      }
+
+pub read_whole : Laws → (t : Tree) (h : Header) → header_of t ≡ Ok h → IsHeader h
 unfolding header_of
-read_header t h e =
-    let parts =
-    judged_ok (refusal_of HEADER []) (first_of (header_failures t))
-    (foremost (header_whole_failures t))
-    (header_record t) h e in
-    subst IsReadHeader parts.2 (read_record t parts.0 parts.1)
+read_whole laws t h e =
+    let answer = answered t (header_failures t) h e in
+    let sound : HasSoundHeader t = record { local = answer.local; whole = answer.source } in
+    subst IsHeader answer.is (whole_record laws t sound answer.places)
 
--- the same of what a call answers
-pub given_header : (t : Tree) (r : Result Header ReadError)
-    → Gives (λ header. header) r (header_of t)
+pub built_read : (t : Tree) (h : Header) → built_header_of t ≡ Ok h → header_of t ≡ Ok h
+unfolding header_of built_header_of header_by judged_header
+built_read t h e =
+    let answer = answered t (header_failures t ++ header_forms t) h e in
+    let none : header_failures t ≡ [] = first_empty (header_failures t) (header_forms t) answer.local
+    in
+    ap (λ (fs : List Failure). judged (refusal_of HEADER []) (first_of fs)
+    (or_next (source_failure t) (place_failure_of t (placed_masters t))) (header_record t)) none
+    ∙ ap (λ (o : Option Failure). judged (refusal_of HEADER []) None
+    (or_next o (place_failure_of t (placed_masters t))) (header_record t)) answer.source
+    ∙ ap (λ (o : Option Failure). judged (refusal_of HEADER []) None o (header_record t))
+    answer.places
+    ∙ ap (λ (x : Header). Ok x) answer.is
+
+-- ---- one master
+
+empty_list : {X : Type 0} (xs : List X) → length xs ≡ 0 → xs ≡ []
+empty_list [] e = refl
+empty_list (x ∷ xs) e = absurd (omega (arith, e))
+
+one_master_read : (h : Header) → IsHeader h → h.axes ≡ [] → length h.masters ≡ 1
+    → h.instances ≡ [] → h.kerning ≡ [] → IsReadHeader h
+one_master_read h whole no_axes one no_instances no_kerning =
+    by h.masters (λ m e. read m e) one
+  where
+    read : (m : Master) → h.masters ≡ m ∷ [] → IsReadHeader h
+    read m e =
+        let all = subst (All (IsMaster (length h.axes))) e whole.masters in
+        let its = All-head (IsMaster (length h.axes)) m [] all in
+        let none : length h.axes ≡ 0 = ap length no_axes in
+        let there : h.origin < 1 = subst (λ (n : ℕ). h.origin < n) one whole.origin in
+        record {
+          numbers = record {
+            units_from = whole.units.0;
+            units = whole.units.1;
+            family_from = whole.family.0;
+            family = whole.family.1;
+            major = whole.major;
+            minor = whole.minor;
+            metrics = subst (AllByRecursion HasMetricsInRange) (sym e) (
+              record {
+                ascender = its.ascender;
+                descender = its.descender;
+                cap = its.cap;
+                xheight = its.xheight;
+              },
+              tt,
+            );
+          };
+          one_master = ap (map (λ (master : Master). master.location)) e
+              ∙ ap (λ (l : List F2Dot14). l ∷ []) (empty_list m.location (its.location ∙ none));
+          no_design = ap (map (λ (master : Master). master.design)) e
+              ∙ ap (λ (l : List Fixed). l ∷ []) (empty_list m.design (its.design ∙ none));
+          no_user = ap (map (λ (master : Master). master.user)) e
+              ∙ ap (λ (l : List Fixed). l ∷ []) (empty_list m.user (its.user ∙ none));
+          no_axes = no_axes;
+          origin = omega (arith, there);
+          no_instances = no_instances;
+          no_kerning = no_kerning;
+        }
+
+    by : (masters : List Master) → ((m : Master) → masters ≡ m ∷ [] → IsReadHeader h)
+        → length masters ≡ 1 → IsReadHeader h
+    by [] found size = absurd (omega (arith, size))
+    by (m ∷ []) found size = found m refl
+    by (m ∷ n ∷ ms) found size = absurd (omega (arith, size))
+
+-- a form that isn't taken is told unless the list is empty
+passed : (b : Bool) (f : Failure) → cond b [] (f ∷ []) ≡ [] → b ≡ true
+passed true f e = refl
+passed false f e = absurd cc
+
+no_length : (n : ℕ) → (n == 0) ≡ true → n ≡ 0
+no_length n e = grind (arith, nat_tests, e)
+
+no_items : (t : Tree) (n : ℕ) (o : Option (List ℕ))
+    → cond (is_empty_list o) [] (fails WrongShape t n) ≡ [] → unwrap_or o [] ≡ []
+no_items t n None e = absurd cc
+no_items t n (Some items) e =
+    empty_list items (no_length (length items) (passed (length items == 0) _ e))
+
+none_under : (t : Tree) (o : Option ℕ) → under_by (empty_list_failures t) [] o ≡ []
+    → unwrap_or (option_and_then (items_at t) o) [] ≡ []
+unfolding empty_list_failures
+none_under t None e = refl
+none_under t (Some n) e = no_items t n (items_at t n) e
+
+at_most_one : (t : Tree) (ms : List ℕ) → second_master_forms t ms ≡ [] → length ms ≤ 1
+at_most_one t [] e = omega arith
+at_most_one t (m ∷ []) e = omega arith
+at_most_one t (m ∷ n ∷ ms) e = absurd cc
+
+module _ (t : Tree) (forms : header_forms t ≡ []) where
+  no_axes : axis_numbers t ≡ []
+  unfolding header_forms axis_numbers
+  no_axes =
+      none_under t (find_in t t.top (codes "axes"))
+      (first_empty _ _ (first_empty _ _ (first_empty _ _ (first_empty _ _ forms))))
+
+  one_number : length (master_numbers t) ≤ 1
+  unfolding header_forms master_forms master_numbers
+  one_number =
+      at_most_one t (items_under t t.top (codes "fontMaster"))
+      (last_empty (first_master_forms t (items_under t t.top (codes "fontMaster"))) _
+      (last_empty _ _ forms))
+
+  record_axes : (header_record t).axes ≡ []
+  unfolding header_record axes_of
+  record_axes = ap (map (axis_of t)) no_axes
+
+  record_instances : (header_record t).instances ≡ []
+  unfolding header_record instances_of kept_instances
+  record_instances =
+      ap (λ (ns : List ℕ). map (instance_of t) (cond (length ns == 0) []
+      (filter (is_kept t) (items_under t t.top (codes "instances"))))) no_axes
+
+  record_masters : (axes : List (List ℕ)) → length (masters_of t axes) ≤ 1
+  unfolding masters_of
+  record_masters axes =
+      subst (λ (n : ℕ). n ≤ 1)
+      (sym (length-map (master_numbers t) (master_with t axes (default_heights t)))) one_number
+
+  no_kerning : (header_record t).kerning ≡ []
+  unfolding header_record
+  no_kerning = refl
+
+  one_there : SoundMastersAreRead → HasSoundHeader t → length (header_record t).masters ≡ 1
+  unfolding header_record placed_masters
+  one_there law sound =
+      let names = map (λ (axis : Axis). axis.name) (axes_of t) in
+      let most : length (masters_of t names) ≤ 1 = record_masters names in
+      let least : 1 ≤ length (masters_of t names) = (masters_read t sound law).some in
+      let one : length (masters_of t names) ≡ 1 = omega (arith, most, least) in
+      length-placed (origin_at t) (length (axes_of t)) (masters_of t names) ∙ one
+
+pub built_one : ((t : Tree) (h : Header) → header_of t ≡ Ok h → IsHeader h) → SoundMastersAreRead
+    → (t : Tree) (h : Header) → built_header_of t ≡ Ok h → IsReadHeader h
+unfolding built_header_of
+built_one whole law t h e =
+    let answer = answered t (header_failures t ++ header_forms t) h e in
+    let sound : HasSoundHeader t = record {
+      local = first_empty (header_failures t) (header_forms t) answer.local;
+      whole = answer.source;
+    } in
+    let forms : header_forms t ≡ [] = last_empty (header_failures t) (header_forms t) answer.local in
+    let is : IsHeader (header_record t) = subst IsHeader (sym answer.is)
+    (whole t h (built_read t h e)) in
+    subst IsReadHeader answer.is
+    (one_master_read (header_record t) is (record_axes t forms) (one_there t forms law sound)
+    (record_instances t forms) (no_kerning t forms))
+
+-- ---- what functions need
+
+-- where nothing is noted, there is nothing to note
+pub none_noted : (start first : Option Failure) (fs : List Failure) → start ≡ None
+    → first ≡ noted start fs → first ≡ None → fs ≡ []
+none_noted start first fs s f e =
+    first_of_none fs (sym (ap (λ (o : Option Failure). noted o fs) s) ∙ sym f ∙ e)
+
+pub none_noted_before : (start first last : Option Failure) (fs gs : List Failure) → start ≡ None
+    → first ≡ noted start fs → last ≡ noted first gs → last ≡ None → fs ≡ []
+none_noted_before start first last fs gs s f l e =
+    first_empty fs gs
+    (none_noted start last (fs ++ gs) s
+    (l ∙ ap (λ (o : Option Failure). noted o gs) f ∙ sym (noted-append start fs gs)) e)
+
+-- what is answered of both the failures and the forms
+pub built_answer : (t : Tree) (r : Result Header ReadError) (start first last : Option Failure)
+    → start ≡ None → first ≡ noted start (header_failures t)
+    → last ≡ noted first (header_forms t) → Gives (λ header. header) r (judged_header t last)
+    → Gives (λ header. header) r (built_header_of t)
+unfolding built_header_of header_by
+built_answer t r start first last s f l g =
+    subst (λ (o : Option Failure). Gives (λ (header : Header). header) r (judged_header t o))
+    (l ∙ ap (λ (o : Option Failure). noted o (header_forms t)) f
+    ∙ sym (noted-append start (header_failures t) (header_forms t))
+    ∙ ap (λ (o : Option Failure). noted o (header_failures t ++ header_forms t)) s) g
+
+pub few_masters : (t : Tree) → HasSoundHeader t → foremost (too_many_masters t) ≡ None
+few_masters t sound = (none_fails t sound.whole).masters
+
+module _ (t : Tree) (sound : HasSoundHeader t) (law : SoundMastersAreRead) where
+  abbrev named : List Axis → List Master
+  named axes = masters_of t (map (λ (axis : Axis). axis.name) axes)
+
+  pub unplaced_origin : (axes : List Axis) (ms : List Master) (o : ℕ) → axes ≡ axes_of t
+      → ms ≡ named axes → o ≡ origin_at t → o < length ms
+  unplaced_origin axes ms o ea em eo =
+      subst (λ (n : ℕ). n < length ms) (sym eo)
+      (subst (λ (xs : List Master). origin_at t < length xs) (sym (em ∙ ap named ea))
+      (origin_within t sound law))
+
+  pub unplaced_axes_of : (axes : List Axis) (ms : List Master) → axes ≡ axes_of t
+      → ms ≡ named axes → All (HasAxes (length axes)) ms
+  unplaced_axes_of axes ms ea em =
+      subst (λ (xs : List Axis). All (HasAxes (length xs)) ms) (sym ea)
+      (subst (All (HasAxes (length (axes_of t)))) (sym (em ∙ ap named ea))
+      (unplaced_axes t sound law))
+
+  pub placed_origin : (ms : List Master) (o : ℕ) → ms ≡ placed_masters t → o ≡ origin_at t
+      → o < length ms
+  placed_origin ms o em eo =
+      subst (λ (n : ℕ). n < length ms) (sym eo)
+      (subst (λ (xs : List Master). origin_at t < length xs) (sym em) (origin_placed t sound law))
+
+  pub placed_axes_of : (axes : ℕ) (ms : List Master) → axes ≡ length (axes_of t)
+      → ms ≡ placed_masters t → All (HasAxes axes) ms
+  placed_axes_of axes ms ea em =
+      subst (λ (n : ℕ). All (HasAxes n) ms) (sym ea)
+      (subst (All (HasAxes (length (axes_of t)))) (sym em) (placed_axes t sound law))
+
+-- ---- what calls answer
+
+pub given_whole : ((t : Tree) (h : Header) → header_of t ≡ Ok h → IsHeader h) → (t : Tree)
+    (r : Result Header ReadError) → Gives (λ header. header) r (header_of t) → IfOk r IsHeader
+given_whole law t (Ok header) g = law t header g
+given_whole law t (Err error) g = tt
+
+pub given_built : ((t : Tree) (h : Header) → built_header_of t ≡ Ok h → IsReadHeader h)
+    → (t : Tree) (r : Result Header ReadError) → Gives (λ header. header) r (built_header_of t)
     → IfOk r IsReadHeader
-given_header t (Ok header) g = read_header t header g
-given_header t (Err error) g = tt
+given_built law t (Ok header) g = law t header g
+given_built law t (Err error) g = tt
 
-pub given_whole : (t : Tree) (r : Result Header ReadError)
-    → Gives (λ header. header) r (header_of t)
-    → IfOk r IsHeader
-given_whole t (Ok header) g = read_header_is_whole header (read_header t header g)
-given_whole t (Err error) g = tt
+pub given_built_whole : ((t : Tree) (h : Header) → header_of t ≡ Ok h → IsHeader h) → (t : Tree)
+    (r : Result Header ReadError) → Gives (λ header. header) r (built_header_of t) → IfOk r IsHeader
+given_built_whole law t (Ok header) g = law t header (built_read t header g)
+given_built_whole law t (Err error) g = tt

@@ -1,7 +1,7 @@
 pub mod Examples
 pub mod HeaderLaws
-pub mod IndexNames
 pub mod IndexLaws
+pub mod IndexNames
 pub mod LocalRules
 pub mod RepeatLaws
 pub mod Repeating

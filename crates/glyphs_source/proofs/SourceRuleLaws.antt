@@ -5,30 +5,33 @@ use Rattle.std.specs.Prelude.{codes}
 use Rattle.plist_reader.specs.declared.tree.Tree.{Tree}
 use Rattle.refusal_codes.specs.declared.rule.Rule.{Rule}
 use Rattle.refusal_codes.specs.declared.rule.Rule.TheVariants.{MissingKey, NotWhole, WrongVersion}
-use Rattle.refusal_codes.specs.declared.rule.Rule.TheVariants.{OutOfRange}
+use Rattle.refusal_codes.specs.declared.rule.Rule.TheVariants.{OutOfRange, BadTag}
 use Rattle.refusal_codes.specs.declared.first.Failure.{Failure}
 use Rattle.source_values.specs.Asking.{dictionary}
-use Rattle.source_values.specs.Ways.{Step, Row, FailsRow, Fails, rows_of, has}
+use Rattle.source_values.specs.Ways.{IsOneOf, Step, Row, FailsRow, Fails, rows_of, has}
 use Rattle.source_values.specs.WayLaws.{by_rule}
 use Rattle.source_values.specs.declared.kinds.Range.TheVariants.{Code}
 use Rattle.source_values.specs.Decimals.{is_whole}
 use Rattle.source_values.specs.Tables.{decimal_passes, text_passes, is_within, has_name_length}
 use Rattle.source_values.specs.Tables.{has_fraction, is_outside, has_other_length}
 use Rattle.source_values.specs.Words.{fraction, outside, other_length, none_outside_any}
-use Rattle.glyphs_source.specs.HeaderReading.{is_version, top_failures}
+use Rattle.source_axes.specs.AxisReading.{axes_failures}
+use Rattle.source_axes.specs.AxisTables.{AxesAreTabled, InstancesAreTabled}
+use Rattle.source_masters.specs.Parameters.{font_parameters_failures}
+use Rattle.source_masters.specs.Metrics.{used_metrics}
+use Rattle.source_masters.specs.MasterRules.{masters_failures}
+use Rattle.source_masters.specs.MasterTables.{MetricsAreTabled, FontParametersAreTabled}
+use Rattle.source_masters.specs.MasterTables.{MastersAreTabled}
+use Rattle.glyphs_source.specs.HeaderReading.{is_version}
 use Rattle.glyphs_source.specs.IndexReading.{glyph_list_failures}
-use Rattle.glyphs_source.specs.SourceTables.{header_table, HeaderIsTabled, index_table}
+use Rattle.glyphs_source.specs.SourceTables.{header_table, FailsInDesign, index_table}
 use Rattle.glyphs_source.specs.SourceTables.{IndexIsTabled, IsInSource, lacks, to_font, to_version}
-use Rattle.glyphs_source.specs.SourceTables.{to_master, to_glyphs, MissingKeysOfTheHeader}
+use Rattle.glyphs_source.specs.SourceTables.{to_glyphs, MissingKeysOfTheHeader}
 use Rattle.glyphs_source.specs.SourceTables.{is_other_version, WrongVersions, MissingKeysOfTheIndex}
 use Rattle.glyphs_source.specs.SourceTables.{to_top, to_glyph, to_codes, to_code}
 use Rattle.glyphs_source.specs.SourceTables.{FractionsOfTheHeader, FractionsOfTheIndex}
 use Rattle.glyphs_source.specs.SourceTables.{RangesOfTheIndex}
-use Rattle.glyphs_source.proofs.SourceTableLaws.{header_told, index_told}
-
-pub header_by_rule : HeaderIsTabled
-header_by_rule t rule place =
-    by_rule header_table (dictionary top_failures) header_told.tells t t.top rule place
+use Rattle.glyphs_source.proofs.SourceTableLaws.{header_by_rule, index_told}
 
 pub index_by_rule : IndexIsTabled
 index_by_rule t rule place =
@@ -82,9 +85,7 @@ module _ (t : Tree) (place : ℕ) where
   Missed =
       lacking to_font (codes ".formatVersion")
       ⊎ (lacking to_font (codes "unitsPerEm")
-      ⊎ (lacking to_font (codes "familyName")
-      ⊎ (lacking to_font (codes "fontMaster")
-      ⊎ lacking to_master (codes "id"))))
+      ⊎ (lacking to_font (codes "familyName") ⊎ lacking to_font (codes "fontMaster")))
 
   to_missed : HeaderFails t MissingKey place → Missed
   to_missed (inl p) = inl (to_words t MissingKey place to_font (has (codes ".formatVersion")) p)
@@ -92,11 +93,9 @@ module _ (t : Tree) (place : ℕ) where
       (has (codes "unitsPerEm")) p))
   to_missed (inr (inr (inl p))) = inr (inr (inl (to_words t MissingKey place to_font
       (has (codes "familyName")) p)))
-  to_missed (inr (inr (inr (inl p)))) = inr (inr (inr (inl (to_words t MissingKey place to_font
-      (has (codes "fontMaster")) p))))
-  to_missed (inr (inr (inr (inr (inl p))))) = inr (inr (inr (inr (to_words t MissingKey place
-      to_master (has (codes "id")) p))))
-  to_missed (inr (inr (inr (inr (inr p))))) = absurd p
+  to_missed (inr (inr (inr (inl p)))) = inr (inr (inr (to_words t MissingKey place to_font
+      (has (codes "fontMaster")) p)))
+  to_missed (inr (inr (inr (inr p)))) = absurd p
 
   of_missed : Missed → HeaderFails t MissingKey place
   of_missed (inl p) = inl (of_words t MissingKey place to_font (has (codes ".formatVersion")) p)
@@ -104,10 +103,8 @@ module _ (t : Tree) (place : ℕ) where
       (has (codes "unitsPerEm")) p))
   of_missed (inr (inr (inl p))) = inr (inr (inl (of_words t MissingKey place to_font
       (has (codes "familyName")) p)))
-  of_missed (inr (inr (inr (inl p)))) = inr (inr (inr (inl (of_words t MissingKey place to_font
+  of_missed (inr (inr (inr p))) = inr (inr (inr (inl (of_words t MissingKey place to_font
       (has (codes "fontMaster")) p))))
-  of_missed (inr (inr (inr (inr p)))) = inr (inr (inr (inr (inl (of_words t MissingKey place
-      to_master (has (codes "id")) p)))))
 
   to_version_told : HeaderFails t WrongVersion place
       → IsInSource t to_version is_other_version place
@@ -125,16 +122,60 @@ module _ (t : Tree) (place : ℕ) where
   of_nameless : lacking to_glyphs (codes "glyphname") → IndexFails t MissingKey place
   of_nameless p = inl (of_words t MissingKey place to_glyphs (has (codes "glyphname")) p)
 
+-- the header's own failures in words, and those of its design space beside them
+beside : {A B C : Type 0} → (A → B) → A ⊎ C → B ⊎ C
+beside f (inl a) = inl (f a)
+beside f (inr c) = inr c
+
 pub missing_keys : MissingKeysOfTheHeader
 missing_keys t place = (
-  λ p. to_missed t place ((header_by_rule t MissingKey place).0 p),
-  λ p. (header_by_rule t MissingKey place).1 (of_missed t place p),
+  λ p. beside (to_missed t place) ((header_by_rule t MissingKey place).0 p),
+  λ p. (header_by_rule t MissingKey place).1 (beside (of_missed t place) p),
 )
 
-pub wrong_versions : WrongVersions
-wrong_versions t place = (
-  λ p. to_version_told t place ((header_by_rule t WrongVersion place).0 p),
-  λ p. (header_by_rule t WrongVersion place).1 (of_version_told t place p),
+-- nothing of the design space is a version
+module _ (axes : AxesAreTabled) (instances : InstancesAreTabled) (metrics : MetricsAreTabled)
+    (parameters : FontParametersAreTabled) (masters : MastersAreTabled) (t : Tree) (place : ℕ) where
+  abbrev version : Failure
+  version = record { rule = WrongVersion; place = place }
+
+  no_axis : (n : ℕ) → IsOneOf (axes_failures t n) version → ⊥
+  no_axis n p = elim ((axes t n WrongVersion place).0 p) [
+    | inl q ↦ absurd q
+    | inr q ↦ (let e : WrongVersion ≡ BadTag = q.0 in cc)
+  ]
+
+  no_parameter : (n : ℕ) → IsOneOf (font_parameters_failures t n) version → ⊥
+  no_parameter n p = elim ((parameters t n WrongVersion place).0 p) [
+    | inl q ↦ absurd q
+    | inr q ↦ (let (v, at, r) = q in absurd r)
+  ]
+
+  no_master : (n : ℕ) → IsOneOf (masters_failures (used_metrics t) t n) version → ⊥
+  no_master n p = elim ((masters (used_metrics t) t n WrongVersion place).0 p) [
+    | inl q ↦ absurd q
+    | inr (inl q) ↦ (let (i, used, v, reaches, r) = q in absurd r)
+    | inr (inr q) ↦ (let (k, reaches, r) = q in let (v, at, s) = r in absurd s)
+  ]
+
+  no_version : FailsInDesign t version → ⊥
+  no_version (inl (n, e, p)) = no_axis n p
+  no_version (inr (inl (n, e, p))) = (metrics t n WrongVersion place).0 p
+  no_version (inr (inr (inl (n, e, p)))) = (instances t n WrongVersion place).0 p
+  no_version (inr (inr (inr (inl (n, e, p))))) = no_parameter n p
+  no_version (inr (inr (inr (inr (n, e, p))))) = no_master n p
+
+  version_alone : HeaderFails t WrongVersion place ⊎ FailsInDesign t version
+      → HeaderFails t WrongVersion place
+  version_alone (inl p) = p
+  version_alone (inr p) = absurd (no_version p)
+
+pub wrong_versions : AxesAreTabled → InstancesAreTabled → MetricsAreTabled
+    → FontParametersAreTabled → MastersAreTabled → WrongVersions
+wrong_versions axes instances metrics parameters masters t place = (
+  λ p. to_version_told t place (version_alone axes instances metrics parameters masters t place
+      ((header_by_rule t WrongVersion place).0 p)),
+  λ p. (header_by_rule t WrongVersion place).1 (inl (of_version_told t place p)),
 )
 
 pub nameless_glyphs : MissingKeysOfTheIndex
@@ -246,8 +287,8 @@ module _ (t : Tree) (place : ℕ) where
 
 pub fractions_of_header : FractionsOfTheHeader
 fractions_of_header t place = (
-  λ p. to_broken_header t place ((header_by_rule t NotWhole place).0 p),
-  λ p. (header_by_rule t NotWhole place).1 (of_broken_header t place p),
+  λ p. beside (to_broken_header t place) ((header_by_rule t NotWhole place).0 p),
+  λ p. (header_by_rule t NotWhole place).1 (beside (of_broken_header t place) p),
 )
 
 pub fractions_of_index : FractionsOfTheIndex

@@ -1,33 +1,42 @@
 -- What a source says of the whole font, and the rules that it may fail there (Glyphs file format,
--- version 3; the rules and the defaults are fontc's own). One master is read, without axes: a form
--- that isn't built is of a wrong shape.
-use Rattle.std.specs.Prelude.{◌≡◌, ℕ, ◌*◌, ◌/◌, ◌≤◌, Bool, not, ◌&&◌, ◌||◌, ◌==◌, nat_lt, List, []}
-use Rattle.std.specs.Prelude.{◌∷◌, ◌++◌, length, slice_get, map, Option, Some, None, Result, ℤ, pos}
-use Rattle.std.specs.Prelude.{neg_ℤ, ◌-ℤ◌, ◌≤ℤ◌, codes, option_and_then, if◌then◌else◌}
+-- version 3; the rules and the defaults are fontc's own). Feature code and kerning aren't built: a
+-- form of theirs is of a wrong shape.
+use Rattle.std.specs.Prelude.{◌≡◌, ℕ, ◌≤◌, Bool, not, ◌&&◌, ◌==◌, List, [], ◌∷◌, ◌++◌, length, map}
+use Rattle.std.specs.Prelude.{slice_get, slice_index, unwrap_or, Option, Some, None, Result, ℤ, pos}
+use Rattle.std.specs.Prelude.{neg_ℤ, ◌≤ℤ◌, codes, if◌then◌else◌}
 use Rattle.std.specs.Option.{option_map_or}
 use Rattle.std.specs.List.{AllByRecursion}
 use Rattle.plist_reader.specs.declared.tree.Tree.{Tree}
 use Rattle.plist_reader.specs.Tree.{find_in}
 use Rattle.font_ir.specs.declared.header.Header.{Header}
 use Rattle.font_ir.specs.declared.header.Master.{Master}
+use Rattle.axis_space.specs.Placing.{placed}
+use Rattle.axis_space.specs.Repeats.{first_repeat}
+use Rattle.axis_space.specs.UnmappedAxes.{first_unmapped}
 use Rattle.refusal_codes.specs.declared.refusal.Refusal.{Refusal}
-use Rattle.refusal_codes.specs.declared.rule.Rule.TheVariants.{WrongShape, WrongVersion, OutOfRange}
-use Rattle.refusal_codes.specs.declared.rule.Rule.TheVariants.{NoMaster, AxisCount}
+use Rattle.refusal_codes.specs.declared.rule.Rule.TheVariants.{WrongShape, WrongVersion}
+use Rattle.refusal_codes.specs.declared.rule.Rule.TheVariants.{SameLocation, AxisMapNotRising}
 use Rattle.refusal_codes.specs.declared.first.Failure.{Failure}
-use Rattle.refusal_codes.specs.First.{first_of, foremost, refusal_of, judged}
+use Rattle.refusal_codes.specs.First.{first_of, foremost, or_next, refusal_of, judged}
 use Rattle.refusal_codes.specs.declared.job.TheConstants.{HEADER}
 use Rattle.refusal_codes.specs.declared.limits.TheConstants.{NAME_BYTES}
 use Rattle.source_values.specs.declared.decimals.Decimal.{Decimal}
 use Rattle.source_values.specs.declared.kinds.Range.TheVariants.{Natural}
 use Rattle.source_values.specs.Decimals.{is_whole}
-use Rattle.source_values.specs.Values.{place_at, items_at, decimal_at, natural_or, items_under}
-use Rattle.source_values.specs.Values.{text_or_empty}
-use Rattle.source_values.specs.Asking.{fails, whole_failures, text_failures, name_failures}
-use Rattle.source_values.specs.Asking.{dictionary_failures, empty_list_failures}
-use Rattle.source_values.specs.Asking.{empty_dictionary_failures, each, dictionary, required}
-use Rattle.source_values.specs.Asking.{optional}
+use Rattle.source_values.specs.Values.{place_at, decimal_at, natural_or, text_or_empty}
+use Rattle.source_values.specs.Asking.{fails, whole_failures, name_failures, empty_list_failures}
+use Rattle.source_values.specs.Asking.{empty_dictionary_failures, dictionary, required, optional}
+use Rattle.source_axes.specs.AxisReading.{axes_failures, axis_numbers, axes_of, too_many_axes}
+use Rattle.source_axes.specs.InstanceReading.{instances_failures, instances_of}
+use Rattle.source_axes.specs.InstanceReading.{instance_count_failures}
+use Rattle.source_masters.specs.Parameters.{font_parameters_failures}
+use Rattle.source_masters.specs.Metrics.{metrics_failures, used_metrics}
+use Rattle.source_masters.specs.MasterRules.{masters_failures}
+use Rattle.source_masters.specs.WholeRules.{too_many_masters, no_master, duplicate_masters}
+use Rattle.source_masters.specs.WholeRules.{axis_counts, origin_of, unknown_origin}
+use Rattle.source_masters.specs.MasterReading.{units_per_em, masters_place, masters_of}
 
--- ---- rules of single values
+-- ---- local rules
 
 -- the version of the format is 3
 abbrev pub is_version : Decimal → Bool
@@ -40,41 +49,6 @@ version_failures_by t n (Some d) = if is_version d then [] else fails WrongVersi
 unfoldable pub version_failures : Tree → ℕ → List Failure
 version_failures t n = version_failures_by t n (decimal_at t n)
 
--- a coordinate of an axis is from -32767 to 32767
-abbrev pub is_axis_value : Decimal → Bool
-is_axis_value d = nat_lt d.whole 32767 || (d.whole == 32767 && is_whole d)
-
-abbrev pub axis_value_failures_by : Tree → ℕ → Option Decimal → List Failure
-axis_value_failures_by t n None = fails WrongShape t n
-axis_value_failures_by t n (Some d) = if is_axis_value d then [] else fails OutOfRange t n
-
-unfoldable pub axis_value_failures : Tree → ℕ → List Failure
-axis_value_failures t n = axis_value_failures_by t n (decimal_at t n)
-
--- ---- masters
-
-unfoldable pub master_parts_failures : Tree → ℕ → List Failure
-master_parts_failures t m =
-    required (codes "id") text_failures t m
-    ++ optional (codes "axesValues") (each axis_value_failures) t m
-    ++ optional (codes "metricValues") (each dictionary_failures) t m
-    ++ optional (codes "customParameters") empty_list_failures t m
-
-abbrev pub master_failures : Tree → ℕ → List Failure
-master_failures = dictionary master_parts_failures
-
--- a second master isn't built
-abbrev pub masters_failures_by : Tree → ℕ → Option (List ℕ) → List Failure
-masters_failures_by t n None = fails WrongShape t n
-masters_failures_by t n (Some masters) =
-    option_map_or (master_failures t) (slice_get masters 0) []
-    ++ option_map_or (fails WrongShape t) (slice_get masters 1) []
-
-unfoldable pub masters_failures : Tree → ℕ → List Failure
-masters_failures t n = masters_failures_by t n (items_at t n)
-
--- ---- the top dictionary
-
 unfoldable pub name_and_numbers_failures : Tree → ℕ → List Failure
 name_and_numbers_failures t top =
     required (codes ".formatVersion") version_failures t top
@@ -83,12 +57,14 @@ name_and_numbers_failures t top =
     ++ optional (codes "versionMajor") (whole_failures (Natural 0 32767)) t top
     ++ optional (codes "versionMinor") (whole_failures (Natural 0 999)) t top
 
-unfoldable pub design_forms_failures : Tree → ℕ → List Failure
-design_forms_failures t top =
-    optional (codes "axes") empty_list_failures t top
-    ++ optional (codes "metrics") empty_list_failures t top
-    ++ optional (codes "instances") empty_list_failures t top
-    ++ optional (codes "customParameters") empty_list_failures t top
+-- the design space: axes, metrics, instances, the font's parameters, masters
+unfoldable pub design_failures : Tree → ℕ → List Failure
+design_failures t top =
+    optional (codes "axes") axes_failures t top
+    ++ optional (codes "metrics") metrics_failures t top
+    ++ optional (codes "instances") instances_failures t top
+    ++ optional (codes "customParameters") font_parameters_failures t top
+    ++ required (codes "fontMaster") (masters_failures (used_metrics t)) t top
 
 unfoldable pub feature_forms_failures : Tree → ℕ → List Failure
 feature_forms_failures t top =
@@ -99,62 +75,69 @@ feature_forms_failures t top =
 
 unfoldable pub top_failures : Tree → ℕ → List Failure
 top_failures t top =
-    name_and_numbers_failures t top
-    ++ design_forms_failures t top
-    ++ feature_forms_failures t top
-    ++ required (codes "fontMaster") masters_failures t top
+    name_and_numbers_failures t top ++ design_failures t top ++ feature_forms_failures t top
 
 -- the local rules that the header fails
 abbrev pub header_failures : Tree → List Failure
 header_failures t = dictionary top_failures t t.top
 
--- ---- whole rules: there is a master, and it has one coordinate per axis, which is none
+-- ---- whole rules, in their order
 
-abbrev pub axis_count_by : Tree → ℕ → Option (List ℕ) → List Failure
-axis_count_by t m None = []
-axis_count_by t m (Some values) = if length values == 0 then [] else fails AxisCount t m
+-- the masters and kept instances that haven't one coordinate per axis
+unfoldable pub count_failures : Tree → List Failure
+count_failures t =
+    axis_counts (length (axis_numbers t)) t ++ instance_count_failures t (length (axis_numbers t))
 
-unfoldable pub axis_count_failures : Tree → ℕ → List Failure
-axis_count_failures t m = axis_count_by t m
-    (option_and_then (items_at t) (find_in t m (codes "axesValues")))
+-- those of counts, ids and the origin. Of the coordinates the least place counts
+unfoldable pub source_failure : Tree → Option Failure
+source_failure t =
+    or_next (foremost (too_many_axes t))
+    (or_next (foremost (too_many_masters t))
+    (or_next (foremost (no_master t))
+    (or_next (foremost (duplicate_masters t))
+    (or_next (first_of (count_failures t)) (foremost (unknown_origin t))))))
 
-abbrev pub whole_rules_by : Tree → ℕ → Option (List ℕ) → List Failure
-whole_rules_by t n None = []
-whole_rules_by t n (Some []) = fails NoMaster t n
-whole_rules_by t n (Some (m ∷ ms)) = axis_count_failures t m
+-- the position of the default master
+unfoldable pub origin_at : Tree → ℕ
+origin_at t = unwrap_or (origin_of t) 0
 
-unfoldable pub header_whole_failures : Tree → List Failure
-header_whole_failures t = option_map_or (λ n. whole_rules_by t n (items_at t n))
-    (find_in t t.top (codes "fontMaster")) []
+-- a source that fails no local rule, and none of those before places
+pub record HasSoundHeader (t : Tree) : Type 0 where
+  pub local : header_failures t ≡ []
+  pub whole : source_failure t ≡ None
+
+-- the masters with their locations
+unfoldable pub placed_masters : Tree → List Master
+placed_masters t =
+    placed (origin_at t) (length (axes_of t))
+    (masters_of t (map (λ axis. axis.name) (axes_of t)))
+
+-- a master that lies where an earlier one does, where it is the one with this position
+abbrev pub same_location_by : List Master → Option ℕ → Option Failure
+same_location_by masters None = None
+same_location_by masters (Some i) = Some (record {
+  rule = SameLocation;
+  place = option_map_or (λ master. master.place) (slice_get masters i) 0;
+})
+
+-- an axis without a map from user to design coordinates, where it is the one with this number
+abbrev pub not_rising_by : Tree → Option ℕ → Option Failure
+not_rising_by t None = None
+not_rising_by t (Some axis) = Some (record {
+  rule = AxisMapNotRising;
+  place = place_at t (slice_index (axis_numbers t) axis);
+})
+
+-- those of these masters' places: the first master that lies where an earlier one does, else the
+-- first axis without a map
+unfoldable pub place_failure_of : Tree → List Master → Option Failure
+place_failure_of t masters =
+    or_next (same_location_by masters (first_repeat (map (λ master. master.location) masters)))
+    (not_rising_by t (first_unmapped masters (origin_at t) (length (axes_of t))))
 
 -- ---- the record
 
-unfoldable pub units_per_em : Tree → ℕ
-units_per_em t = natural_or 16 16384 16 t t.top (codes "unitsPerEm")
-
--- without metrics the ascender is four fifths of the em, rounded down, and the descender is that
--- less the em
-unfoldable pub master_record : Tree → ℕ → Master
-master_record t m = record {
-  id = text_or_empty t m (codes "id");
-  design = [];
-  user = [];
-  location = [];
-  ascender = pos (units_per_em t * 4 / 5);
-  descender = pos (units_per_em t * 4 / 5) -ℤ pos (units_per_em t);
-  cap = pos 0;
-  xheight = pos 0;
-  place = place_at t m;
-}
-
-abbrev pub first_master : Tree → List ℕ → List Master
-first_master t [] = []
-first_master t (m ∷ ms) = master_record t m ∷ []
-
--- the values of the list of masters
-unfoldable pub master_numbers : Tree → List ℕ
-master_numbers t = items_under t t.top (codes "fontMaster")
-
+-- the place of the value under a key of the top dictionary, 0 where there is none
 unfoldable pub place_under : Tree → List ℕ → ℕ
 place_under t key = option_map_or (place_at t) (find_in t t.top key) 0
 
@@ -164,22 +147,30 @@ header_record t = record {
   family = text_or_empty t t.top (codes "familyName");
   major = natural_or 0 32767 1 t t.top (codes "versionMajor");
   minor = natural_or 0 999 0 t t.top (codes "versionMinor");
-  axes = [];
-  masters = first_master t (master_numbers t);
-  masters_place = place_under t (codes "fontMaster");
-  origin = 0;
-  instances = [];
+  axes = axes_of t;
+  masters = placed_masters t;
+  masters_place = masters_place t;
+  origin = origin_at t;
+  instances = instances_of t;
   kerning = [];
   kern_place = place_under t (codes "kerningLTR");
   features = [];
 }
 
+-- what is answered where this is the least local failure
+unfoldable pub judged_header : Tree → Option Failure → Result Header Refusal
+judged_header t least = judged (refusal_of HEADER []) least
+    (or_next (source_failure t) (place_failure_of t (placed_masters t))) (header_record t)
+
+-- what is answered where these are the local failures
+unfoldable pub header_by : Tree → List Failure → Result Header Refusal
+header_by t failures = judged_header t (first_of failures)
+
 -- what the job of the header answers
 unfoldable pub header_of : Tree → Result Header Refusal
-header_of t = judged (refusal_of HEADER []) (first_of (header_failures t))
-    (foremost (header_whole_failures t)) (header_record t)
+header_of t = header_by t (header_failures t)
 
--- ---- what each header that is read fulfils
+-- ---- what a header fulfils that has one master and no axes
 
 -- a metric is from -16383 to 16383
 abbrev pub IsMetric : ℤ → Type 0

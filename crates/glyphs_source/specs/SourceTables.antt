@@ -2,43 +2,31 @@
 -- (Glyphs file format, version 3; the rules are fontc's own). They tell of each local rule where it
 -- fails: exactly at the values that a row of that rule reaches, and of which it doesn't hold. So
 -- they know no order, and no walk.
-use Rattle.std.specs.Prelude.{◌≡◌, ℕ, Bool, true, false, not, List, [], ◌∷◌, ◌++◌, codes, ◌⊎◌, ◌↔◌}
+use Rattle.std.specs.Prelude.{◌≡◌, ℕ, Bool, true, false, not, List, [], ◌∷◌, ◌++◌, codes, Some, ◌⊎◌, ◌↔◌}
 use Rattle.plist_reader.specs.declared.tree.Tree.{Tree}
 use Rattle.refusal_codes.specs.declared.rule.Rule.{Rule}
 use Rattle.refusal_codes.specs.declared.rule.Rule.TheVariants.{WrongShape, MissingKey, WrongVersion}
 use Rattle.refusal_codes.specs.declared.rule.Rule.TheVariants.{NotWhole, OutOfRange}
 use Rattle.source_values.specs.declared.kinds.Range.TheVariants.{Any, Natural, Code}
 use Rattle.source_values.specs.Values.{place_at, is_list, is_dictionary}
-use Rattle.source_values.specs.Ways.{IsOneOf, Step, under, each_item, item, when, Reaches, Row}
+use Rattle.source_values.specs.Ways.{IsOneOf, Step, under, each_item, when, Reaches, Row}
 use Rattle.source_values.specs.Ways.{Fails, rows_of, here, behind, has}
 use Rattle.source_values.specs.Tables.{decimal_passes, whole_table, decimal_table, text_table}
-use Rattle.source_values.specs.Tables.{name_table, dictionary_table, empty_list_table}
+use Rattle.source_values.specs.Tables.{name_table, empty_list_table}
 use Rattle.source_values.specs.Tables.{empty_dictionary_table, required_table, optional_table}
 use Rattle.source_values.specs.Tables.{each_table, inside_table, has_fraction, is_outside}
 use Rattle.source_values.specs.Tables.{has_other_length}
-use Rattle.glyphs_source.specs.HeaderReading.{is_version, is_axis_value, header_failures}
+use Rattle.plist_reader.specs.Tree.{find_in}
+use Rattle.refusal_codes.specs.declared.first.Failure.{Failure}
+use Rattle.source_axes.specs.AxisReading.{axes_failures}
+use Rattle.source_axes.specs.InstanceReading.{instances_failures}
+use Rattle.source_masters.specs.Parameters.{font_parameters_failures}
+use Rattle.source_masters.specs.Metrics.{metrics_failures, used_metrics}
+use Rattle.source_masters.specs.MasterRules.{masters_failures}
+use Rattle.glyphs_source.specs.HeaderReading.{is_version, header_failures}
 use Rattle.glyphs_source.specs.IndexReading.{index_failures}
 
 -- ---- the header
-
--- a master: its coordinates are those of no axis, but each is looked at, and so are its metrics; it
--- has no parameters
-abbrev pub master_table : List Row
-master_table =
-    required_table (codes "id") text_table
-    ++ optional_table (codes "axesValues") (each_table (decimal_table OutOfRange is_axis_value))
-    ++ optional_table (codes "metricValues") (each_table dictionary_table)
-    ++ optional_table (codes "customParameters") empty_list_table
-
--- nothing passes: a second master isn't built
-abbrev pub nothing : Tree → ℕ → Bool
-nothing t n = false
-
--- the list of masters
-abbrev pub masters_table : List Row
-masters_table =
-    here WrongShape is_list
-    ++ (behind (item 0) (inside_table master_table) ++ behind (item 1) (here WrongShape nothing))
 
 -- the versions of the format and of the font, the em and the name of the family
 abbrev pub name_and_numbers_table : List Row
@@ -49,14 +37,6 @@ name_and_numbers_table =
     ++ optional_table (codes "versionMajor") (whole_table (Natural 0 32767))
     ++ optional_table (codes "versionMinor") (whole_table (Natural 0 999))
 
--- the design space and what is set of the font: these aren't built
-abbrev pub design_forms_table : List Row
-design_forms_table =
-    optional_table (codes "axes") empty_list_table
-    ++ optional_table (codes "metrics") empty_list_table
-    ++ optional_table (codes "instances") empty_list_table
-    ++ optional_table (codes "customParameters") empty_list_table
-
 -- feature code and kerning: these aren't built
 abbrev pub feature_forms_table : List Row
 feature_forms_table =
@@ -65,23 +45,36 @@ feature_forms_table =
     ++ optional_table (codes "features") empty_list_table
     ++ optional_table (codes "kerningLTR") empty_dictionary_table
 
-abbrev pub top_table : List Row
-top_table =
-    name_and_numbers_table
-    ++ design_forms_table
-    ++ feature_forms_table
-    ++ required_table (codes "fontMaster") masters_table
-
--- the whole value of a source, as the header reads it
+-- the whole value of a source, as the header reads it, but for the values of its design space: of
+-- these it asks that there is a list of masters
 abbrev pub header_table : List Row
-header_table = inside_table top_table
+header_table =
+    inside_table
+    (name_and_numbers_table ++ required_table (codes "fontMaster") [] ++ feature_forms_table)
 
--- a local rule of the header fails at a place exactly where a row of that rule says so
+-- the value under a key of the font fails
+abbrev pub FailsUnder : Tree → List ℕ → (Tree → ℕ → List Failure) → Failure → Type 0
+FailsUnder t key failures f =
+    (n : ℕ) × (find_in t t.top key ≡ Some n) × IsOneOf (failures t n) f
+
+-- something of the design space fails: its axes and instances, of which the tables of `source_axes`
+-- tell, or its metrics, parameters and masters, of which those of `source_masters` do
+abbrev pub FailsInDesign : Tree → Failure → Type 0
+FailsInDesign t f =
+    FailsUnder t (codes "axes") axes_failures f
+    ⊎ (FailsUnder t (codes "metrics") metrics_failures f
+    ⊎ (FailsUnder t (codes "instances") instances_failures f
+    ⊎ (FailsUnder t (codes "customParameters") font_parameters_failures f
+    ⊎ FailsUnder t (codes "fontMaster") (masters_failures (used_metrics t)) f)))
+
+-- a local rule of the header fails at a place exactly where a row of that rule says so, or where
+-- something of the design space does
 abbrev pub HeaderIsTabled : Type 0
 HeaderIsTabled =
     (t : Tree) (rule : Rule) (place : ℕ)
     → IsOneOf (header_failures t) (record { rule = rule; place = place })
-    ↔ Fails (rows_of rule header_table) t t.top (record { rule = rule; place = place })
+    ↔ (Fails (rows_of rule header_table) t t.top (record { rule = rule; place = place })
+    ⊎ FailsInDesign t (record { rule = rule; place = place }))
 
 -- ---- the index
 
@@ -125,32 +118,28 @@ IsInSource t way test place =
 abbrev pub lacks : List ℕ → Tree → ℕ → Bool
 lacks key t n = not (has key t n)
 
--- the ways to the dictionary of the whole font, to its version of the format, to that of the first
--- master, and to those of the glyphs
+-- the ways to the dictionary of the whole font, to its version of the format, and to those of the
+-- glyphs
 abbrev pub to_font : List Step
 to_font = when is_dictionary ∷ []
 
 abbrev pub to_version : List Step
 to_version = when is_dictionary ∷ under (codes ".formatVersion") ∷ []
 
-abbrev pub to_master : List Step
-to_master =
-    when is_dictionary ∷ under (codes "fontMaster") ∷ item 0 ∷ when is_dictionary ∷ []
-
 abbrev pub to_glyphs : List Step
 to_glyphs = when is_dictionary ∷ under (codes "glyphs") ∷ each_item ∷ when is_dictionary ∷ []
 
 -- a key of the header is missing exactly where the font lacks its version of the format, its em,
--- its family's name or its masters, or where the first master lacks its id
+-- its family's name or its masters, or where its design space lacks one
 abbrev pub MissingKeysOfTheHeader : Type 0
 MissingKeysOfTheHeader =
     (t : Tree) (place : ℕ)
     → IsOneOf (header_failures t) (record { rule = MissingKey; place = place })
-    ↔ (IsInSource t to_font (lacks (codes ".formatVersion")) place
+    ↔ ((IsInSource t to_font (lacks (codes ".formatVersion")) place
     ⊎ (IsInSource t to_font (lacks (codes "unitsPerEm")) place
     ⊎ (IsInSource t to_font (lacks (codes "familyName")) place
-    ⊎ (IsInSource t to_font (lacks (codes "fontMaster")) place
-    ⊎ IsInSource t to_master (lacks (codes "id")) place))))
+    ⊎ IsInSource t to_font (lacks (codes "fontMaster")) place)))
+    ⊎ FailsInDesign t (record { rule = MissingKey; place = place }))
 
 -- the version is wrong exactly where a decimal stands under its key that isn't 3
 abbrev pub is_other_version : Tree → ℕ → Bool
@@ -170,7 +159,7 @@ MissingKeysOfTheIndex =
     ↔ IsInSource t to_glyphs (lacks (codes "glyphname")) place
 
 -- a number of the header isn't whole exactly where the em or a part of the font's version has a
--- fraction
+-- fraction, or where one of its design space has
 abbrev pub to_top : List ℕ → List Step
 to_top key = when is_dictionary ∷ under key ∷ []
 
@@ -178,9 +167,10 @@ abbrev pub FractionsOfTheHeader : Type 0
 FractionsOfTheHeader =
     (t : Tree) (place : ℕ)
     → IsOneOf (header_failures t) (record { rule = NotWhole; place = place })
-    ↔ (IsInSource t (to_top (codes "unitsPerEm")) has_fraction place
+    ↔ ((IsInSource t (to_top (codes "unitsPerEm")) has_fraction place
     ⊎ (IsInSource t (to_top (codes "versionMajor")) has_fraction place
     ⊎ IsInSource t (to_top (codes "versionMinor")) has_fraction place))
+    ⊎ FailsInDesign t (record { rule = NotWhole; place = place }))
 
 -- the ways to the values of glyphs under a key, to the codes of glyphs that have a list of them,
 -- and

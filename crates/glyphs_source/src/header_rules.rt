@@ -1,23 +1,26 @@
-ghost use Rattle.std.specs.Prelude.{◌≡◌, ◌≤◌, slice_get, [], codes};
-ghost use Rattle.std.specs.Option.{option_map_or};
-ghost use Rattle.refusal_codes.specs.First.{noted, foremost};
-ghost use Rattle.source_values.specs.Asking.{fails};
+ghost use Rattle.std.specs.Prelude.{◌≡◌, ◌≤◌, IfOk, codes};
+ghost use Rattle.refusal_codes.specs.First.{noted, first_of};
 ghost use Rattle.source_values.specs.Values.{natural_or};
-ghost use Rattle.glyphs_source.specs.HeaderReading.{version_failures, axis_value_failures};
-ghost use Rattle.glyphs_source.specs.HeaderReading.{master_parts_failures, master_failures};
-ghost use Rattle.glyphs_source.specs.HeaderReading.{masters_failures, name_and_numbers_failures};
-ghost use Rattle.glyphs_source.specs.HeaderReading.{design_forms_failures, feature_forms_failures};
+ghost use Rattle.source_axes.specs.AxisReading.{axes_failures};
+ghost use Rattle.source_values.specs.Asking.{optional};
+ghost use Rattle.source_masters.specs.MasterReading.{units_per_em};
+ghost use Rattle.glyphs_source.specs.HeaderReading.{version_failures, name_and_numbers_failures};
+ghost use Rattle.glyphs_source.specs.HeaderReading.{design_failures, feature_forms_failures};
 ghost use Rattle.glyphs_source.specs.HeaderReading.{top_failures, header_failures};
-ghost use Rattle.glyphs_source.specs.HeaderReading.{axis_count_failures, header_whole_failures};
-ghost use Rattle.glyphs_source.specs.HeaderReading.{units_per_em};
+ghost use Rattle.glyphs_source.specs.HeaderReading.{count_failures, source_failure};
 
 use plist_reader::Tree;
 use refusal_codes::{Failure, FirstFailure, Rule};
-use source_values::{
-    AnyDictionary, Asked, Dictionary, Each, EmptyDictionary, EmptyList, NameText, NaturalOr,
-    PlainText, decimal_at, is_dictionary, items_at, note_at, optional, optional_natural, place_at,
-    required, required_natural,
+use source_axes::{Instances, axis_numbers, note_axes, note_instance_counts, too_many_axes};
+use source_masters::{
+    FontParameters, Metrics, duplicate_master, no_master, note_axis_counts, note_masters,
+    too_many_masters, unknown_origin,
 };
+use source_values::{
+    Asked, EmptyDictionary, EmptyList, NameText, NaturalOr, decimal_at, is_dictionary, note_at,
+    optional, optional_natural, required, required_natural,
+};
+use std::alloc::{AllocError, Global};
 
 /// The numbers that a source gives of the whole font.
 #[derive(Clone, Copy, Debug)]
@@ -31,42 +34,54 @@ pub struct Numbers {
 }
 
 /// The numbers of the header, as it has them where nothing fails. Notes the local rules that the
-/// header fails.
-#[tactic(auto, unfolding(crate::specs::HeaderReading::units_per_em))]
-pub fn read_numbers(tree: &Tree, first: &mut FirstFailure) -> Numbers
-    ensures units { result.units ≡ units_per_em tree.now }
-    ensures small { result.units ≤ 16384 }
-    ensures major { result.major ≡ natural_or 0 32767 1 tree.now tree.now.top
-        (codes "versionMajor") }
-    ensures minor { result.minor ≡ natural_or 0 999 0 tree.now tree.now.top (codes "versionMinor") }
-    ensures failures { first.new ≡ noted first.old (header_failures tree.now) }
+/// header fails. The error is want of memory.
+pub fn read_numbers(
+    alloc: Global,
+    tree: &Tree,
+    first: &mut FirstFailure,
+) -> Result<Numbers, AllocError>
+    ensures units { IfOk result (λ numbers. numbers.units ≡ units_per_em tree.now) }
+    ensures small { IfOk result (λ numbers. numbers.units ≤ 16384) }
+    ensures major { IfOk result (λ numbers. numbers.major
+        ≡ natural_or 0 32767 1 tree.now tree.now.top (codes "versionMajor")) }
+    ensures minor { IfOk result (λ numbers. numbers.minor
+        ≡ natural_or 0 999 0 tree.now tree.now.top (codes "versionMinor")) }
+    ensures failures { IfOk result (λ _. first.new ≡ noted first.old (header_failures tree.now)) }
 {
     if is_dictionary(tree, tree.top) {
-        read_top(tree, tree.top, first)
+        read_top(alloc, tree, tree.top, first)
     } else {
         note_at(tree, tree.top, Rule::WrongShape, first);
-        Numbers {
+        Ok(Numbers {
             units: 16,
             major: 1,
             minor: 0,
-        }
+        })
     }
 }
 
 /// What the top dictionary says of the whole font.
 #[tactic(auto, using(refusal_codes::specs::FirstLaws::noting), unfolding(crate::specs::HeaderReading::top_failures))]
-fn read_top(tree: &Tree, top: u32, first: &mut FirstFailure) -> Numbers
-    ensures units { result.units ≡ natural_or 16 16384 16 tree.now top (codes "unitsPerEm") }
-    ensures small { result.units ≤ 16384 }
-    ensures major { result.major ≡ natural_or 0 32767 1 tree.now top (codes "versionMajor") }
-    ensures minor { result.minor ≡ natural_or 0 999 0 tree.now top (codes "versionMinor") }
-    ensures failures { first.new ≡ noted first.old (top_failures tree.now top) }
+fn read_top(
+    alloc: Global,
+    tree: &Tree,
+    top: u32,
+    first: &mut FirstFailure,
+) -> Result<Numbers, AllocError>
+    requires { top ≡ tree.now.top }
+    ensures units { IfOk result (λ numbers. numbers.units
+        ≡ natural_or 16 16384 16 tree.now top (codes "unitsPerEm")) }
+    ensures small { IfOk result (λ numbers. numbers.units ≤ 16384) }
+    ensures major { IfOk result (λ numbers. numbers.major
+        ≡ natural_or 0 32767 1 tree.now top (codes "versionMajor")) }
+    ensures minor { IfOk result (λ numbers. numbers.minor
+        ≡ natural_or 0 999 0 tree.now top (codes "versionMinor")) }
+    ensures failures { IfOk result (λ _. first.new ≡ noted first.old (top_failures tree.now top)) }
 {
     let numbers = read_name_and_numbers(tree, top, first);
-    note_design_forms(tree, top, first);
+    note_design(alloc, tree, top, first)?;
     note_feature_forms(tree, top, first);
-    required(tree, top, b"fontMaster", &Masters, first);
-    numbers
+    Ok(numbers)
 }
 
 #[tactic(auto, using(refusal_codes::specs::FirstLaws::noting), unfolding(crate::specs::HeaderReading::name_and_numbers_failures))]
@@ -104,14 +119,38 @@ fn read_name_and_numbers(tree: &Tree, top: u32, first: &mut FirstFailure) -> Num
     }
 }
 
-#[tactic(auto, using(refusal_codes::specs::FirstLaws::noting), unfolding(crate::specs::HeaderReading::design_forms_failures))]
-fn note_design_forms(tree: &Tree, top: u32, first: &mut FirstFailure)
-    ensures { first.new ≡ noted first.old (design_forms_failures tree.now top) }
+/// Notes what fails of the design space: axes, metrics, instances, the font's parameters, masters.
+#[tactic(auto, using(refusal_codes::specs::FirstLaws::noting), unfolding(crate::specs::HeaderReading::design_failures))]
+fn note_design(
+    alloc: Global,
+    tree: &Tree,
+    top: u32,
+    first: &mut FirstFailure,
+) -> Result<(), AllocError>
+    requires { top ≡ tree.now.top }
+    ensures { IfOk result (λ _. first.new ≡ noted first.old (design_failures tree.now top)) }
 {
-    optional(tree, top, b"axes", &EmptyList, first);
-    optional(tree, top, b"metrics", &EmptyList, first);
-    optional(tree, top, b"instances", &EmptyList, first);
-    optional(tree, top, b"customParameters", &EmptyList, first);
+    note_axes_under(alloc, tree, top, first)?;
+    optional(tree, top, b"metrics", &Metrics, first);
+    optional(tree, top, b"instances", &Instances, first);
+    optional(tree, top, b"customParameters", &FontParameters, first);
+    note_masters(tree, first);
+    Ok(())
+}
+
+fn note_axes_under(
+    alloc: Global,
+    tree: &Tree,
+    top: u32,
+    first: &mut FirstFailure,
+) -> Result<(), AllocError>
+    ensures { IfOk result (λ _. first.new
+        ≡ noted first.old (optional (codes "axes") axes_failures tree.now top)) }
+{
+    match tree.find(top, b"axes") {
+        Some(number) => note_axes(alloc, tree, number, first),
+        None => Ok(()),
+    }
 }
 
 #[tactic(auto, using(refusal_codes::specs::FirstLaws::noting), unfolding(crate::specs::HeaderReading::feature_forms_failures))]
@@ -144,108 +183,37 @@ impl Asked for Version {
     }
 }
 
-/// The list of masters. A second one isn't built.
-#[derive(Clone, Copy)]
-struct Masters;
-
-impl Asked for Masters {
-    ghost failures = { λ asked. masters_failures };
-
-    #[tactic(auto, using(refusal_codes::specs::FirstLaws::noting), unfolding(crate::specs::HeaderReading::masters_failures))]
-    fn note(&self, tree: &Tree, number: u32, first: &mut FirstFailure) {
-        match items_at(tree, number) {
-            None => note_at(tree, number, Rule::WrongShape, first),
-            Some(masters) => {
-                note_first_master(tree, masters, first);
-                note_second_master(tree, masters, first);
-            }
-        }
-    }
-}
-
-fn note_first_master(tree: &Tree, masters: &[u32], first: &mut FirstFailure)
-    ensures { first.new ≡ noted first.old (option_map_or (master_failures tree.now)
-        (slice_get masters.now 0) []) }
+/// The first of the whole rules on counts, ids and the origin that fails.
+#[tactic(auto, unfolding(crate::specs::HeaderReading::source_failure))]
+pub fn source_failure(tree: &Tree) -> Option<Failure>
+    ensures { result ≡ source_failure tree.now }
 {
-    if let Some(master) = masters.first() {
-        Dictionary(MasterParts).note(tree, *master, first);
+    if let Some(failure) = too_many_axes(tree) {
+        return Some(failure);
     }
+    if let Some(failure) = too_many_masters(tree) {
+        return Some(failure);
+    }
+    if let Some(failure) = no_master(tree) {
+        return Some(failure);
+    }
+    if let Some(failure) = duplicate_master(tree) {
+        return Some(failure);
+    }
+    if let Some(failure) = count_failure(tree) {
+        return Some(failure);
+    }
+    unknown_origin(tree)
 }
 
-/// A second master isn't built.
-fn note_second_master(tree: &Tree, masters: &[u32], first: &mut FirstFailure)
-    ensures { first.new ≡ noted first.old (option_map_or (fails Rule.WrongShape tree.now)
-        (slice_get masters.now 1) []) }
+/// The first master or kept instance, by place, that hasn't one coordinate per axis.
+#[tactic(auto, using(refusal_codes::specs::FirstLaws::noting), unfolding(crate::specs::HeaderReading::count_failures))]
+fn count_failure(tree: &Tree) -> Option<Failure>
+    ensures { result ≡ first_of (count_failures tree.now) }
 {
-    if let Some(second) = masters.get(1) {
-        note_at(tree, *second, Rule::WrongShape, first);
-    }
-}
-
-/// What the dictionary of a master holds.
-#[derive(Clone, Copy)]
-struct MasterParts;
-
-impl Asked for MasterParts {
-    ghost failures = { λ asked. master_parts_failures };
-
-    #[tactic(auto, using(refusal_codes::specs::FirstLaws::noting), unfolding(crate::specs::HeaderReading::master_parts_failures))]
-    fn note(&self, tree: &Tree, master: u32, first: &mut FirstFailure) {
-        required(tree, master, b"id", &PlainText, first);
-        optional(tree, master, b"axesValues", &Each(AxisValue), first);
-        optional(tree, master, b"metricValues", &Each(AnyDictionary), first);
-        optional(tree, master, b"customParameters", &EmptyList, first);
-    }
-}
-
-/// A coordinate on an axis: from -32767 to 32767.
-#[derive(Clone, Copy)]
-struct AxisValue;
-
-impl Asked for AxisValue {
-    ghost failures = { λ asked. axis_value_failures };
-
-    #[tactic(auto, unfolding(crate::specs::HeaderReading::axis_value_failures))]
-    fn note(&self, tree: &Tree, number: u32, first: &mut FirstFailure) {
-        match decimal_at(tree, number) {
-            None => note_at(tree, number, Rule::WrongShape, first),
-            Some(value) => {
-                if value.whole > 32767 || (value.whole == 32767 && value.billionths != 0) {
-                    note_at(tree, number, Rule::OutOfRange, first);
-                }
-            }
-        }
-    }
-}
-
-/// The first of the header's whole rules that fails.
-#[tactic(auto, unfolding(crate::specs::HeaderReading::header_whole_failures))]
-pub fn whole_failure(tree: &Tree) -> Option<Failure>
-    ensures { result ≡ foremost (header_whole_failures tree.now) }
-{
-    let number = tree.find(tree.top, b"fontMaster")?;
-    let masters = items_at(tree, number)?;
-    match masters {
-        [] => Some(Failure {
-            rule: Rule::NoMaster,
-            place: place_at(tree, number),
-        }),
-        [master, ..] => axis_count_failure(tree, *master),
-    }
-}
-
-#[tactic(auto, unfolding(crate::specs::HeaderReading::axis_count_failures))]
-fn axis_count_failure(tree: &Tree, master: u32) -> Option<Failure>
-    ensures { result ≡ foremost (axis_count_failures tree.now master) }
-{
-    let number = tree.find(master, b"axesValues")?;
-    let values = items_at(tree, number)?;
-    if values.is_empty() {
-        None
-    } else {
-        Some(Failure {
-            rule: Rule::AxisCount,
-            place: place_at(tree, master),
-        })
-    }
+    let mut first = FirstFailure::new();
+    let axes = axis_numbers(tree).len();
+    note_axis_counts(tree, axes, &mut first);
+    note_instance_counts(tree, axes, &mut first);
+    first.get()
 }

@@ -3,6 +3,7 @@
 
 mod entries;
 mod font_header;
+mod header_places;
 mod header_rules;
 mod index;
 mod index_rules;
@@ -10,9 +11,12 @@ mod laws;
 mod rule_laws;
 
 pub use entries::IndexEntry;
-pub use font_header::{header, headers_have_one_master};
+pub use font_header::{built_header, header};
 pub use index::{GlyphIndex, glyph_index};
-pub use laws::{glyph_names_are_short, read_headers_are_whole};
+pub use laws::{
+    built_headers_are_read, built_headers_have_one_master, glyph_names_are_short,
+    read_headers_are_whole,
+};
 pub use rule_laws::{
     fractions_of_the_header_are_refused, fractions_of_the_index_are_refused,
     glyphs_without_a_name_are_refused, header_rules_are_tabled, index_rules_are_tabled,

@@ -3,8 +3,13 @@ ghost use Rattle.glyphs_source.specs.SourceTables.{MissingKeysOfTheHeader, Wrong
 ghost use Rattle.glyphs_source.specs.SourceTables.{MissingKeysOfTheIndex, FractionsOfTheHeader};
 ghost use Rattle.glyphs_source.specs.SourceTables.{FractionsOfTheIndex, RangesOfTheIndex};
 
+use source_axes::{axis_rules_are_tabled, instance_rules_are_tabled};
+use source_masters::{
+    font_parameter_rules_are_tabled, master_rules_are_tabled, metric_rules_are_tabled,
+};
+
 /// A local rule of the header fails at a place exactly where the table of what is asked of a header
-/// says so. A law: the function does nothing.
+/// says so, or where something of its design space does. A law: the function does nothing.
 pub fn header_rules_are_tabled()
     ensures { HeaderIsTabled }
 {}
@@ -16,8 +21,8 @@ pub fn index_rules_are_tabled()
 {}
 
 /// A key of the header is missing exactly where the font lacks its version of the format, its em,
-/// its family's name or its masters, or where the first master lacks its id. A law: the function
-/// does nothing.
+/// its family's name or its masters, or where its design space lacks one. A law: the function does
+/// nothing.
 pub fn missing_keys_of_the_header_are_refused()
     ensures { MissingKeysOfTheHeader }
 {}
@@ -26,7 +31,13 @@ pub fn missing_keys_of_the_header_are_refused()
 /// function does nothing.
 pub fn wrong_versions_are_refused()
     ensures { WrongVersions }
-{}
+{
+    axis_rules_are_tabled();
+    instance_rules_are_tabled();
+    metric_rules_are_tabled();
+    font_parameter_rules_are_tabled();
+    master_rules_are_tabled();
+}
 
 /// A key of the index is missing exactly where a glyph has no name. A law: the function does
 /// nothing.
@@ -35,7 +46,7 @@ pub fn glyphs_without_a_name_are_refused()
 {}
 
 /// A number of the header isn't whole exactly where the em or a part of the font's version has a
-/// fraction. A law: the function does nothing.
+/// fraction, or where one of its design space has. A law: the function does nothing.
 pub fn fractions_of_the_header_are_refused()
     ensures { FractionsOfTheHeader }
 {}

@@ -86,7 +86,7 @@ fn read_axis(alloc: Global, tree: &Tree, axis: u32) -> Result<Axis, AllocError>
 
 /// The values of the list of axes.
 #[tactic(auto, unfolding(crate::specs::AxisReading::axis_numbers))]
-pub(crate) fn axis_numbers(tree: &Tree) -> &[u32]
+pub fn axis_numbers(tree: &Tree) -> &[u32]
     ensures { result.now ≡ axis_numbers tree.now }
 {
     items_under(tree, tree.top, b"axes")

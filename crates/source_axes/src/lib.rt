@@ -7,7 +7,7 @@ mod instances;
 mod laws;
 mod tags;
 
-pub use axes::{note_axes, read_axes, too_many_axes};
+pub use axes::{axis_numbers, note_axes, read_axes, too_many_axes};
 pub use coordinates::{AxisCoordinate, coordinate, read_coordinates};
 pub use instances::{Instances, note_instance_counts, read_instances};
 pub use laws::{

@@ -1,4 +1,4 @@
-use Rattle.glyphs_source.proofs.SourceRuleLaws.{header_by_rule}
+use Rattle.glyphs_source.proofs.SourceTableLaws.{header_by_rule}
 use Rattle.glyphs_source.proofs.rule_laws.header_rules_are_tabled.Goals as goal
 
 pub returns : goal.returns
