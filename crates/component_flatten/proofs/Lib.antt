@@ -1,2 +1,5 @@
-mod FlatLaws
+pub mod ShapeLaws
+pub mod BaseLemmas
+pub mod FlatLaws
+pub mod LimitLaws
 mod WorkedRows

@@ -1,27 +1,36 @@
-ghost use Rattle.std.specs.Prelude.{◌≡◌, ◌<◌, [], length, slice_get, Err, IfOk, IfSome};
-ghost use Rattle.font_ir.specs.FlatGlyphs.{IsFlatGlyph};
+ghost use Rattle.std.specs.Prelude.{◌≡◌, ◌<◌, [], length, slice_get, IfOk, IfSome};
+ghost use Rattle.std.specs.List.{All};
+ghost use Rattle.font_ir.specs.FlatGlyphs.{IsFlatGlyph, glyphs_of};
 ghost use Rattle.font_ir.specs.ReadGlyphs.{IsReadGlyph, HasNoComponents, HasNoAnchors};
-ghost use Rattle.refusal_codes.specs.First.{foremost};
 ghost use Rattle.refusal_codes.specs.Gives.{Gives};
-ghost use Rattle.component_flatten.specs.Flattening.{flat_record, limit_failures, flat_of};
+ghost use Rattle.component_flatten.specs.Drawing.{glyph_drawn};
+ghost use Rattle.component_flatten.specs.Flattening.{IsBase, HasBases, flat_of, made_of};
+ghost use Rattle.component_flatten.specs.Judging.{GivesDrawn, rule_of};
 
+use crate::between::betweens;
+use crate::composites::kept;
+use crate::counting::has_many_points;
 use crate::drawing::{drawn, widths};
-use crate::limits::{all_small, too_many_points};
-use font_ir::{FlatGlyph, GlyphIr, Name, copied_locations};
+use crate::limits::LimitError;
+use font_ir::{Contour, FlatGlyph, GlyphIr, Name, copied_locations};
 use glyphs_source::GlyphIndex;
 use plain_lists::Sequence;
 use refusal_codes::{Failure, NoMemory, ReadError, Rule, job};
 use std::alloc::Global;
 use std::sync::Arc;
 
-/// The glyph with its contours drawn.
+/// The glyph with its contours drawn at each of its places, in 16.16 font units, the components
+/// that stay, and its anchors. Anchors aren't built, so the glyph must have none: this is the
+/// condition `anchors`.
 ///
-/// Components and anchors aren't built, so the glyph must have none: these are the conditions
-/// `components` and `anchors`. `bases` are the flat glyphs of its components, and aren't looked at.
-/// `index` has the glyph's number, and gives the name that a refusal tells.
+/// `bases` are the flat glyphs of its components, in the order in which a layer has these, each
+/// with as many axes as the glyph. At a place that a base lacks, its contours are those that its
+/// variation model gives there. `index` has the glyph's number, gives the name that a refusal
+/// tells, and says which bases are exported.
 ///
-/// The error is that a place has more than 8,000 drawn points, else that a drawn coordinate is
-/// beyond 16383 in size; it stands at the glyph. Or it is want of memory.
+/// The error is the first of these, at the glyph: a place has more than 8,000 drawn points; a delta
+/// of a base that lacks one of the places is outside an `i16`; a drawn coordinate is beyond 16383
+/// in size. Or it is want of memory. It takes time for the points that are drawn.
 pub fn flatten(
     alloc: Global,
     glyph: &GlyphIr,
@@ -30,66 +39,85 @@ pub fn flatten(
 ) -> Result<FlatGlyph, ReadError>
     requires number { glyph.now.number < length index.now }
     requires read { IsReadGlyph glyph.now }
-    requires components { HasNoComponents glyph.now }
+    requires enough { HasBases glyph.now (glyphs_of bases.now) }
+    requires bases { All (IsBase glyph.now.places) (glyphs_of bases.now) }
     requires anchors { HasNoAnchors glyph.now }
-    ensures record { IfSome (slice_get index.now glyph.now.number)
-        (λ entry. Gives (λ flat. flat) result (flat_of entry.0 glyph.now)) }
+    ensures record { IfSome (slice_get index.now glyph.now.number) (λ entry. Gives (λ flat. flat)
+        result (flat_of index.now entry.0 glyph.now (glyphs_of bases.now))) }
     ensures flat { IfOk result IsFlatGlyph }
     ensures places { IfOk result (λ flat. flat.places ≡ glyph.now.places) }
-    ensures kept { IfOk result (λ flat. flat.kept ≡ []) }
+    ensures kept { HasNoComponents glyph.now → IfOk result (λ flat. flat.kept ≡ []) }
 {
-    // A glyph without components has no bases.
-    let _ = bases;
     let (name, _) = index.at(glyph.number).unwrap();
-    draw(alloc, glyph, name)
+    draw(alloc, glyph, index, bases, name)
 }
 
 /// The glyph with its contours drawn, where it has this name.
-#[tactic(auto, unfolding(crate::specs::Flattening::flat_of))]
-fn draw(alloc: Global, glyph: &GlyphIr, name: &Name) -> Result<FlatGlyph, ReadError>
-    ensures record { Gives (λ flat. flat) result (flat_of name.now glyph.now) }
+#[tactic(auto, using(crate::proofs::FlatLaws::flat_made))]
+fn draw(
+    alloc: Global,
+    glyph: &GlyphIr,
+    index: &GlyphIndex,
+    bases: &[Arc<FlatGlyph>],
+    name: &Name,
+) -> Result<FlatGlyph, ReadError>
+    requires read { IsReadGlyph glyph.now }
+    requires enough { HasBases glyph.now (glyphs_of bases.now) }
+    requires bases { All (IsBase glyph.now.places) (glyphs_of bases.now) }
+    requires anchors { HasNoAnchors glyph.now }
+    ensures record { Gives (λ flat. flat) result
+        (flat_of index.now name.now glyph.now (glyphs_of bases.now)) }
     ensures places { IfOk result (λ flat. flat.places ≡ glyph.now.places) }
-    ensures kept { IfOk result (λ flat. flat.kept ≡ []) }
 {
-    let flat = record(alloc, glyph)?;
-    match failure_in(&flat) {
-        Some(failure) => Err(failure.refused(job::FLAT, name.copy(alloc)?)),
-        None => Ok(flat),
+    match within_limits(alloc, glyph, bases) {
+        Ok(drawn) => Ok(record(alloc, index, glyph, drawn)?),
+        Err(LimitError::Broken(rule)) => {
+            let place = glyph.place;
+            Err(Failure { rule, place }.refused(job::FLAT, name.copy(alloc)?))
+        }
+        Err(LimitError::NoMemory) => Err(ReadError::NoMemory),
     }
 }
 
-/// The first rule that a drawn glyph fails.
-fn failure_in(flat: &FlatGlyph) -> Option<Failure>
-    ensures { result ≡ foremost (limit_failures flat.now) }
-{
-    if too_many_points(flat.drawn.as_slice()) {
-        Some(Failure {
-            rule: Rule::TooManyPoints,
-            place: flat.place,
-        })
-    } else if all_small(flat.drawn.as_slice()) {
-        None
-    } else {
-        Some(Failure {
-            rule: Rule::CoordinateTooLarge,
-            place: flat.place,
-        })
-    }
-}
-
-#[tactic(auto, unfolding(crate::specs::Flattening::flat_record))]
-fn record(alloc: Global, glyph: &GlyphIr) -> Result<FlatGlyph, NoMemory>
-    ensures record { IfOk result (λ flat. flat ≡ flat_record glyph.now) }
+/// The glyph that draws these contours.
+#[tactic(auto, using(crate::specs::BaseLaws::no_anchors))]
+fn record(
+    alloc: Global,
+    index: &GlyphIndex,
+    glyph: &GlyphIr,
+    drawn: Sequence<Sequence<Contour>>,
+) -> Result<FlatGlyph, NoMemory>
+    requires read { IsReadGlyph glyph.now }
+    requires anchors { HasNoAnchors glyph.now }
+    ensures record { IfOk result (λ flat. flat ≡ made_of index.now glyph.now drawn) }
     ensures places { IfOk result (λ flat. flat.places ≡ glyph.now.places) }
-    ensures kept { IfOk result (λ flat. flat.kept ≡ []) }
 {
     Ok(FlatGlyph {
         number: glyph.number,
         place: glyph.place,
         places: copied_locations(alloc, glyph.places.as_slice())?,
         widths: widths(alloc, glyph.layers.as_slice())?,
-        drawn: drawn(alloc, glyph.layers.as_slice())?,
-        kept: Sequence::new(alloc),
+        drawn,
+        kept: kept(alloc, index, glyph)?,
         anchors: Sequence::new(alloc),
     })
+}
+
+/// What the glyph draws at each of its places, or the first rule that this breaks.
+fn within_limits(
+    alloc: Global,
+    glyph: &GlyphIr,
+    bases: &[Arc<FlatGlyph>],
+) -> Result<Sequence<Sequence<Contour>>, LimitError>
+    requires read { IsReadGlyph glyph.now }
+    requires enough { HasBases glyph.now (glyphs_of bases.now) }
+    requires bases { All (IsBase glyph.now.places) (glyphs_of bases.now) }
+    ensures { GivesDrawn (rule_of glyph.now (glyphs_of bases.now))
+        (glyph_drawn glyph.now (glyphs_of bases.now)) result }
+{
+    if has_many_points(glyph, bases) {
+        return Err(LimitError::Broken(Rule::TooManyPoints));
+    }
+    let made = betweens(alloc, glyph.places.as_slice(), bases)?;
+    drawn(alloc, glyph, bases, made.as_slice())
 }

@@ -1,8 +1,12 @@
 //! Draws the contours of a glyph.
 #![tactic(auto)]
 
+mod between;
+mod composites;
+mod counting;
 mod drawing;
 mod flat;
 mod limits;
+mod transform;
 
 pub use flat::flatten;

@@ -2,7 +2,7 @@
 use Rattle.std.proofs.Common.{◌≡◌, ◌-◌, ◌^◌, min, take, length}
 use Rattle.std.specs.List.{sum_by}
 use Rattle.font_ir.specs.declared.glyph.Contour.{Contour}
-use Rattle.component_flatten.proofs.limits.has_many_points.Given as goal
+use Rattle.component_flatten.proofs.limits.count_points.Given as goal
 
 abbrev pub invariant-loop-contour : goal.invariant-loop-contour
 invariant-loop-contour l = l.count ≡ min

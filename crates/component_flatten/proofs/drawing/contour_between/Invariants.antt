@@ -1,0 +1,17 @@
+use Rattle.std.proofs.Common.{◌≡◌, ◌++◌, drop, map}
+use Rattle.std.specs.List.{list_all}
+use Rattle.component_flatten.specs.Transforms.{transformed_point}
+use Rattle.component_flatten.specs.Places.{point_between}
+use Rattle.component_flatten.specs.Flattening.{is_small_point}
+use Rattle.component_flatten.proofs.drawing.contour_between.Given as goal
+
+abbrev pub invariant-loop-point : goal.invariant-loop-point
+invariant-loop-point l = record {
+  so_far : l.points ++ map (transformed_point l.transform)
+      (map (point_between l.model l.at) (drop l.point-index l.deltas.points))
+      ≡ map (transformed_point l.transform) (map (point_between l.model l.at) l.deltas.points);
+  small : list_all is_small_point (map (transformed_point l.transform)
+      (map (point_between l.model l.at) (drop l.point-index l.deltas.points)))
+      ≡ list_all is_small_point (map (transformed_point l.transform)
+      (map (point_between l.model l.at) l.deltas.points));
+}
