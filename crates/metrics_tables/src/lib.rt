@@ -8,6 +8,7 @@ mod fields;
 mod glyph_names;
 mod measures;
 mod measuring;
+mod nesting;
 mod outline;
 mod style_metrics;
 mod tables;

@@ -1,16 +1,20 @@
-ghost use Rattle.std.specs.Prelude.{◌≡◌, ◌<◌, ℕ, [], length, map, unsigned_abs, IfOk};
+ghost use Rattle.std.specs.Prelude.{◌≡◌, ◌≤◌, ◌<◌, [], length, map, max, unsigned_abs, IfOk};
 ghost use Rattle.std.specs.List.{All};
-ghost use Rattle.metrics_tables.specs.Comparisons.{greatest_count};
-ghost use Rattle.font_ir.specs.FlatGlyphs.{glyphs_of};
-ghost use Rattle.metrics_tables.specs.Measuring.{measures_of, maxima_of, width_at, IsStatic};
-ghost use Rattle.metrics_tables.specs.Measuring.{IsMeasurable, HasMastersPlaces, Measured};
-ghost use Rattle.font_ir.specs.Outlines.{contours_at, points_at, bounds_of};
-ghost use Rattle.metrics_tables.specs.Tables.{AreMeasures};
-ghost use Rattle.metrics_tables.specs.Hvar.{AreMeasuresFor};
-ghost use Rattle.font_ir.specs.FlatGlyphs.{IsFlatGlyph};
+ghost use Rattle.font_ir.specs.FlatGlyphs.{glyphs_of, IsFlatGlyph};
 ghost use Rattle.font_ir.specs.Headers.{IsHeader};
+ghost use Rattle.font_ir.specs.Outlines.{points_at, bounds_of};
+ghost use Rattle.metrics_tables.specs.Comparisons.{greatest_count};
+ghost use Rattle.metrics_tables.specs.Hvar.{AreMeasuresFor};
+ghost use Rattle.metrics_tables.specs.Measuring as spec;
+ghost use Rattle.metrics_tables.specs.Measuring.{IsMeasurable, HasMastersPlaces, Measured};
+ghost use Rattle.metrics_tables.specs.Measuring.{measured_of, width_at};
+ghost use Rattle.metrics_tables.specs.Nesting.{bases_in, bases_of, greatest_depth};
+ghost use Rattle.metrics_tables.specs.Nesting.{NoneLeadsToItself};
+ghost use Rattle.metrics_tables.specs.Tables.{AreMeasures};
+ghost use Rattle.metrics_tables.specs.Walks.{AreBases};
 
 use crate::measures::{Maxima, MeasureError, Measures};
+use crate::nesting::{all_bases, greatest_depth};
 use crate::outline::{advance_at, bounds_at, contours_of, points_of};
 use font_ir::{FlatGlyph, GlyphOrder, Header};
 use plain_lists::Sequence;
@@ -59,61 +63,131 @@ fn no_rows(alloc: Global, glyphs: &[Arc<FlatGlyph>]) -> Result<Vec<Sequence<i16>
     Ok(rows)
 }
 
-/// The most points of a glyph.
-fn most_points(glyphs: &[Arc<FlatGlyph>], place: u32) -> u16
-    requires { All (λ glyph. IsMeasurable place glyph.value) glyphs.now }
-    ensures { result ≡ greatest_count (map (λ glyph. length (points_at place glyph.value))
-        glyphs.now) }
+/// The counts of a glyph, without its depth.
+fn counts_of(glyph: &FlatGlyph, place: u32) -> Maxima
+    requires { IsMeasurable place glyph.now }
+    ensures points { result.points ≡ spec.simple_points place glyph.now }
+    ensures contours { result.contours ≡ spec.simple_contours place glyph.now }
+    ensures composite_points { result.composite_points ≡ spec.composite_points place glyph.now }
+    ensures composite_contours { result.composite_contours
+        ≡ spec.composite_contours place glyph.now }
+    ensures components { result.components ≡ length glyph.now.kept }
 {
-    let mut so_far = 0;
+    let points = points_of(glyph, place);
+    let contours = contours_of(glyph, place);
+    let components = glyph.kept.len() as u16;
+    if glyph.kept.is_empty() {
+        Maxima {
+            points,
+            contours,
+            composite_points: 0,
+            composite_contours: 0,
+            components,
+            depth: 0,
+        }
+    } else {
+        Maxima {
+            points: 0,
+            contours: 0,
+            composite_points: points,
+            composite_contours: contours,
+            components,
+            depth: 0,
+        }
+    }
+}
+
+/// The greater of each two counts, without the depth.
+fn greater(a: Maxima, b: Maxima) -> Maxima
+    ensures points { result.points ≡ max a.points b.points }
+    ensures contours { result.contours ≡ max a.contours b.contours }
+    ensures composite_points { result.composite_points
+        ≡ max a.composite_points b.composite_points }
+    ensures composite_contours { result.composite_contours
+        ≡ max a.composite_contours b.composite_contours }
+    ensures components { result.components ≡ max a.components b.components }
+{
+    Maxima {
+        points: a.points.max(b.points),
+        contours: a.contours.max(b.contours),
+        composite_points: a.composite_points.max(b.composite_points),
+        composite_contours: a.composite_contours.max(b.composite_contours),
+        components: a.components.max(b.components),
+        depth: 0,
+    }
+}
+
+/// The greatest counts over all glyphs, without the depth.
+fn greatest_counts(glyphs: &[Arc<FlatGlyph>], place: u32) -> Maxima
+    requires { All (λ glyph. IsMeasurable place glyph.value) glyphs.now }
+    ensures points { result.points
+        ≡ greatest_count (map (λ glyph. spec.simple_points place glyph.value) glyphs.now) }
+    ensures contours { result.contours
+        ≡ greatest_count (map (λ glyph. spec.simple_contours place glyph.value) glyphs.now) }
+    ensures composite_points { result.composite_points
+        ≡ greatest_count (map (λ glyph. spec.composite_points place glyph.value) glyphs.now) }
+    ensures composite_contours { result.composite_contours
+        ≡ greatest_count (map (λ glyph. spec.composite_contours place glyph.value) glyphs.now) }
+    ensures components { result.components
+        ≡ greatest_count (map (λ glyph. length glyph.value.kept) glyphs.now) }
+{
+    let mut so_far = Maxima {
+        points: 0,
+        contours: 0,
+        composite_points: 0,
+        composite_contours: 0,
+        components: 0,
+        depth: 0,
+    };
     for glyph in glyphs {
-        so_far = so_far.max(points_of(glyph, place));
+        so_far = greater(so_far, counts_of(glyph, place));
     }
     so_far
 }
 
-/// The most contours of a glyph.
-fn most_contours(glyphs: &[Arc<FlatGlyph>], place: u32) -> u16
-    requires { All (λ glyph. IsMeasurable place glyph.value) glyphs.now }
-    ensures { result ≡ greatest_count (map (λ glyph. length (contours_at place glyph.value))
-        glyphs.now) }
+/// The greatest counts over all glyphs.
+fn maxima_of(
+    alloc: Global,
+    order: &GlyphOrder,
+    glyphs: &[Arc<FlatGlyph>],
+    place: u32,
+) -> Result<Maxima, NoMemory>
+    requires glyphs { All (λ glyph. IsMeasurable place glyph.value) glyphs.now }
+    requires one_glyph { length glyphs.now ≡ length order.now.names }
+    requires nesting { NoneLeadsToItself (bases_in order.now.names (glyphs_of glyphs.now)) }
+    ensures { IfOk result (λ maxima. maxima
+        ≡ spec.maxima_of order.now.names (glyphs_of glyphs.now) place) }
 {
-    let mut so_far = 0;
-    for glyph in glyphs {
-        so_far = so_far.max(contours_of(glyph, place));
-    }
-    so_far
+    let _count = order.len();
+    let bases = all_bases(alloc, order, glyphs)?;
+    let depth = greatest_depth(alloc, bases.as_slice())?;
+    let counts = greatest_counts(glyphs, place);
+    Ok(Maxima { depth, ..counts })
 }
 
-/// The measures of simple glyphs at a place, without regions.
-fn measures_at(alloc: Global, glyphs: &[Arc<FlatGlyph>], place: u32) -> Result<Measures, NoMemory>
-    requires { All (λ glyph. IsMeasurable place glyph.value) glyphs.now }
+/// The measures of glyphs at a place, without regions.
+fn measures_at(
+    alloc: Global,
+    order: &GlyphOrder,
+    glyphs: &[Arc<FlatGlyph>],
+    place: u32,
+) -> Result<Measures, NoMemory>
+    requires glyphs { All (λ glyph. IsMeasurable place glyph.value) glyphs.now }
+    requires one_glyph { length glyphs.now ≡ length order.now.names }
+    requires nesting { NoneLeadsToItself (bases_in order.now.names (glyphs_of glyphs.now)) }
     ensures advances { IfOk result (λ measures. measures.advances
         ≡ map (λ glyph. unsigned_abs (width_at place glyph.value)) glyphs.now) }
     ensures bounds { IfOk result (λ measures. measures.bounds
         ≡ map (λ glyph. bounds_of (points_at place glyph.value)) glyphs.now) }
     ensures regions { IfOk result (λ measures. measures.regions ≡ []) }
     ensures rows { IfOk result (λ measures. measures.rows ≡ map (λ glyph. []) glyphs.now) }
-    ensures maxima { IfOk result (λ measures. measures.maxima ≡ record {
-      points = greatest_count (map (λ glyph. length (points_at place glyph.value)) glyphs.now);
-      contours = greatest_count (map (λ glyph. length (contours_at place glyph.value)) glyphs.now);
-      composite_points = 0;
-      composite_contours = 0;
-      components = 0;
-      depth = 0;
-    }) }
+    ensures maxima { IfOk result (λ measures. measures.maxima
+        ≡ spec.maxima_of order.now.names (glyphs_of glyphs.now) place) }
 {
     let advances = advances_of(alloc, glyphs, place)?;
     let bounds = all_bounds(alloc, glyphs, place)?;
     let rows = no_rows(alloc, glyphs)?;
-    let maxima = Maxima {
-        points: most_points(glyphs, place),
-        contours: most_contours(glyphs, place),
-        composite_points: 0,
-        composite_contours: 0,
-        components: 0,
-        depth: 0,
-    };
+    let maxima = maxima_of(alloc, order, glyphs, place)?;
     Ok(Measures {
         advances: Sequence::from_vec(advances),
         bounds: Sequence::from_vec(bounds),
@@ -123,11 +197,11 @@ fn measures_at(alloc: Global, glyphs: &[Arc<FlatGlyph>], place: u32) -> Result<M
     })
 }
 
-/// Measures the glyphs of a font of one master, without axes and without components, at its default
-/// master.
+/// Measures the glyphs of a font of one master, without axes, at its default master.
 ///
-/// The glyphs stand in the order of their glyph numbers, one for each name of the order. A font of
-/// one master has no regions, so no error but want of memory comes.
+/// The glyphs stand in the order of their glyph numbers, one for each name of the order, and none
+/// leads to itself by its components, which are found by their names. A font of one master has no
+/// regions, so no error but want of memory comes.
 pub fn measure(
     alloc: Global,
     header: &Header,
@@ -135,14 +209,17 @@ pub fn measure(
     glyphs: &[Arc<FlatGlyph>],
 ) -> Result<Measures, MeasureError>
     requires header { IsHeader header.now }
-    requires static_font { IsStatic header.now (glyphs_of glyphs.now) }
+    requires one_master { length header.now.masters ≡ 1 }
+    requires no_axes { header.now.axes ≡ [] }
     requires flat { All IsFlatGlyph (glyphs_of glyphs.now) }
     requires places { All (HasMastersPlaces header.now) (glyphs_of glyphs.now) }
     requires one_glyph { length glyphs.now ≡ length order.now.names }
-    ensures measured { Measured result (measures_of header.now (glyphs_of glyphs.now)) }
+    requires nesting { NoneLeadsToItself (bases_in order.now.names (glyphs_of glyphs.now)) }
+    ensures measured { Measured result
+        (measured_of header.now order.now.names (glyphs_of glyphs.now)) }
     ensures measures { IfOk result AreMeasures }
     ensures for_header { IfOk result (AreMeasuresFor header.now) }
 {
     let _count = order.len();
-    Ok(measures_at(alloc, glyphs, header.origin)?)
+    Ok(measures_at(alloc, order, glyphs, header.origin)?)
 }
