@@ -108,7 +108,8 @@ fn measured(
         Ok(measures) => Ok(measures),
         Err(MeasureError::NoMemory) => Err(NoMemory),
         // A font of one master has no deltas and no regions.
-        Err(MeasureError::TooLarge { .. } | MeasureError::Regions(_)) => unreachable!(),
+        Err(MeasureError::TooLarge { .. }) => unreachable!(),
+        Err(MeasureError::Regions(_)) => unreachable!(),
     }
 }
 
