@@ -1,8 +1,7 @@
 -- The laws of what is read.
-use Rattle.std.proofs.Common.{◌≡◌, ◌≢◌, ℕ, ℤ, zero, suc, ◌+◌, ◌-◌, ◌<◌, ◌≤◌, Bool, true, false}
+use Rattle.std.proofs.Common.{◌≡◌, ◌≢◌, ℕ, ℤ, zero, suc, ◌+◌, ◌<◌, ◌≤◌, true}
 use Rattle.std.proofs.Common.{List}
 use Rattle.std.proofs.Common.{length, Option, Some, None, Result, Ok, refl, arith, pos, ap, ◌∙◌}
-use Rattle.std.specs.Prelude.{nat_eq, ◌&&◌, if◌then◌else◌}
 use Rattle.std.specs.Ordering.{int_eq}
 use Rattle.std.proofs.lemmas.Int.{ints}
 use Rattle.std.proofs.lemmas.Bool.Decides.{eqb_tells, nat_tests}
@@ -10,7 +9,6 @@ use Rattle.std.proofs.Math.Bool.{or-true}
 use Rattle.std.proofs.Common.{inl, inr}
 use Rattle.variation_model.specs.Scalar.{axis_scalar}
 use Rattle.fixed_math.specs.declared.F2Dot14.{F2Dot14}
-use Rattle.fixed_math.specs.declared.Fixed.{Fixed}
 use Rattle.fixed_math.specs.ProductLaws.{product_one_right}
 use Rattle.font_reader.specs.declared.faults.FontFault.{FontFault}
 use Rattle.font_reader.specs.declared.directory.TheConstants.{GVAR}
@@ -22,7 +20,7 @@ use Rattle.font_reader.specs.Directory.{table_in_entry}
 use Rattle.font_reader.specs.Fold.{folded}
 use Rattle.font_reader.specs.Search.{first_some}
 use Rattle.font_reader.specs.Stores.{coordinate, one}
-use Rattle.font_reader.specs.Tuples.{no_offset, offset_in, point_offset, tuple_scalar, tuple_side}
+use Rattle.font_reader.specs.Tuples.{no_offset, offset_in, point_offset, tuple_scalar}
 use Rattle.font_reader.specs.Tuples.{variations_of, with_tuple_axis}
 use Rattle.font_reader.specs.Laws.{IsAtPeak, IsFirstOfTag}
 

@@ -1,11 +1,10 @@
 -- The mean of two deltas is no greater than they can be.
-use Rattle.std.proofs.Common.{◌≡◌, ℕ, ℤ, pos, negsuc, ◌+◌, ◌*◌, ◌<◌, ◌≤◌, ◌+ℤ◌, ◌*ℤ◌, ◌<ℤ◌, ◌≤ℤ◌}
-use Rattle.std.proofs.Common.{arith, refl}
+use Rattle.std.proofs.Common.{◌≡◌, ℕ, ℤ, pos, negsuc, ◌+◌, ◌<◌, ◌≤◌, ◌+ℤ◌, ◌*ℤ◌, ◌<ℤ◌, ◌≤ℤ◌}
+use Rattle.std.proofs.Common.{arith}
 use Rattle.std.specs.Prelude.{unsigned_abs}
 use Rattle.std.proofs.lemmas.Int.{ints}
-use Rattle.fixed_math.specs.FixedPoint.{floor_quotient, half_up}
-use Rattle.fixed_math.specs.FloorLaws.{times_monotone, floor_monotone, floor_unique, half_up_low}
-use Rattle.fixed_math.specs.FloorLaws.{half_up_high}
+use Rattle.fixed_math.specs.FixedPoint.{floor_quotient}
+use Rattle.fixed_math.specs.FloorLaws.{times_monotone, floor_monotone, floor_unique}
 
 -- a multiple over the width
 exact : (m : ℤ) (w : ℕ) → 0 < w → floor_quotient (m *ℤ pos w) (pos w) ≡ m

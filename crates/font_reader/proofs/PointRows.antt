@@ -2,7 +2,10 @@
 use Rattle.std.proofs.Common.{◌≡◌, ℕ, ℤ, pos, List, [], ◌∷◌, map, Result, Ok, Err, refl}
 use Rattle.fixed_math.specs.declared.F2Dot14.{F2Dot14}
 use Rattle.font_reader.specs.declared.faults.FontFault.{FontFault}
-use Rattle.font_reader.specs.declared.faults.FaultKind.TheVariants.{NoPoint, CoordCount}
+use Rattle.font_reader.specs.declared.faults.FaultKind.TheVariants.{BadFormat, NoPoint}
+use Rattle.font_reader.specs.declared.faults.FaultKind.TheVariants.{CoordCount}
+use Rattle.font_reader.specs.declared.fields.Table.{Table}
+use Rattle.font_reader.specs.declared.packed.DeltaRun.{DeltaRun}
 use Rattle.font_reader.specs.declared.points.Point.{Point}
 use Rattle.font_reader.specs.Advances.{metric_count, stored_advance}
 use Rattle.font_reader.specs.Directory.{entry_table, entry_tag, table_in_entry, table_of}
@@ -26,6 +29,7 @@ use Rattle.font_reader.specs.Tuples.{shared_points, tuple_points, offset_by, tup
 use Rattle.font_reader.specs.Tuples.{variations_of, peak_place, tuple_header, tuple_side}
 use Rattle.font_reader.specs.Tuples.{with_tuple, glyph_offset, offset_in, point_offset}
 use Rattle.font_reader.specs.Tuples.{with_tuple_axis, tuple_scalar, listed_points, points_at}
+use Rattle.font_reader.specs.Tuples.{tuple_count, tuple_index}
 use Rattle.font_reader.specs.Versions.{axes_in, axis_count, axes_for}
 use Rattle.font_reader.specs.Versions.{expect_u16, expect_u32, required, glyph_count, glyph_among}
 use Rattle.font_reader.proofs.Fonts.{triangle, varying_triangle, composite}
@@ -58,9 +62,9 @@ unfolding rising inferred read_flag next_flag size_of short_difference differenc
     tuple_points offset_by tuple_offset with_tuple glyph_offset offset_in point_offset u16_at
     u32_at read_byte read_i8 read_u16 read_i16 read_u32 entry_table entry_tag table_in_entry
     table_of whole_entries expect_u16 expect_u32 required glyph_count glyph_among axes_in
-    axis_count axes_for glyph_data points_to simple_points last_component component_count
-    simple_shape composite_shape shape_at shape_in shape_of own_points room_for metric_count
-    stored_advance
+    axis_count axes_for tuple_count tuple_index glyph_data points_to simple_points last_component
+    component_count simple_shape composite_shape shape_at shape_in shape_of own_points room_for
+    metric_count stored_advance
 points = record {
   one_master = refl;
   half_way = refl;
@@ -69,3 +73,27 @@ points = record {
   no_glyph = refl;
   component = refl;
 }
+
+-- ---- reserved bits of a tuple's data, in tables of two bytes and of one
+
+abbrev table_of_size : ℕ → Table
+table_of_size size = record { offset = 0; length = size }
+
+abbrev bad_format : {A : Type 0} → Result A FontFault
+bad_format = Err (fault BadFormat 0)
+
+abbrev run_of : ℕ → ℕ → ℕ → DeltaRun
+run_of at left width = record { at = at; left = left; width = width; before = pos 0; after = pos 0 }
+
+pub record ReservedBits : Type 0 where
+  pub of_count : map (λ high. tuple_count (high ∷ 1 ∷ []) (table_of_size 2) 0)
+      (143 ∷ 144 ∷ 160 ∷ 192 ∷ []) ≡ Ok 36609 ∷ bad_format ∷ bad_format ∷ bad_format ∷ []
+  pub of_index : map (λ high. tuple_index (high ∷ 0 ∷ []) (table_of_size 2) 0)
+      (239 ∷ 16 ∷ 240 ∷ []) ≡ Ok 61184 ∷ bad_format ∷ bad_format ∷ []
+  pub of_run : map (λ control. delta_control (control ∷ []) (table_of_size 1) (run_of 0 0 0))
+      (63 ∷ 64 ∷ 191 ∷ 192 ∷ 255 ∷ []) ≡ Ok (run_of 1 64 1) ∷ Ok (run_of 1 1 2)
+      ∷ Ok (run_of 1 64 0) ∷ bad_format ∷ bad_format ∷ []
+
+pub reserved_bits : ReservedBits
+unfolding read_byte read_u16 u16_at tuple_count tuple_index delta_control
+reserved_bits = record { of_count = refl; of_index = refl; of_run = refl }

@@ -1,13 +1,12 @@
 -- Packed numbers of points and packed deltas (OpenType 1.9, "Font variations common table formats",
 -- "Packed point numbers" and "Packed deltas"): runs of up to 128 and of up to 64 numbers. A run
 -- that goes on after the last number that is asked for is read no further.
-use Rattle.std.specs.Prelude.{ℕ, ℤ, pos, ◌+◌, ◌-◌, ◌*◌, ◌/◌, ◌%◌, Bool, true, false, List, Option}
+use Rattle.std.specs.Prelude.{ℕ, ℤ, pos, ◌+◌, ◌-◌, ◌%◌, Bool, true, false, List, Option}
 use Rattle.std.specs.Prelude.{Some, None, Result, Ok, Err, nat_eq, nat_lt, nat_le, if◌then◌else◌}
-use Rattle.std.specs.Prelude.{◌&&◌, ◌||◌}
+use Rattle.std.specs.Prelude.{◌||◌}
 use Rattle.font_reader.specs.declared.faults.FontFault.{FontFault}
 use Rattle.font_reader.specs.declared.faults.FaultKind.TheVariants.{BadFormat}
 use Rattle.font_reader.specs.declared.fields.Table.{Table}
-use Rattle.font_reader.specs.declared.outlines.Contour.{Contour}
 use Rattle.font_reader.specs.declared.packed.NamedPoint.{NamedPoint}
 use Rattle.font_reader.specs.declared.packed.Nearest.{Nearest}
 use Rattle.font_reader.specs.declared.packed.PointRun.{PointRun}
@@ -102,15 +101,17 @@ unfoldable pub named_points : List ℕ → Table → Target → ℕ → ℕ → 
 named_points bytes gvar target at count = folded (next_named bytes gvar target) 0 count
     (record { at = at; left = 0; words = false; number = 0; near = none_named })
 
--- ---- packed deltas, of which those of two named points are kept
+-- ---- packed deltas, of which those of two named points are kept. A run can't be both of zeros and
+-- of words.
 
 unfoldable pub delta_control : List ℕ → Table → DeltaRun → Result DeltaRun FontFault
 delta_control bytes gvar run = if nat_lt 0 run.left then Ok run else
-    (read_byte bytes gvar run.at >>= λ control. Ok (record run {
+    (read_byte bytes gvar run.at >>= λ control.
+    (if nat_le 192 control then Err (fault BadFormat (gvar.offset + run.at)) else Ok (record run {
       at = run.at + 1;
       left = control % 64 + 1;
       width = if nat_le 128 control then 0 else (if nat_le 64 control then 2 else 1);
-    }))
+    })))
 
 unfoldable pub delta_of_width : List ℕ → Table → ℕ → ℕ → Result ℤ FontFault
 delta_of_width bytes gvar width at = if nat_eq width 0 then Ok (pos 0)

@@ -2,8 +2,8 @@
 -- the point that is stored, and how far the glyph's tuples move it. Of a composite glyph the points
 -- are its components, and each is where the component is put. Four phantom points follow, of which
 -- the second is at the advance, and the others are at zero.
-use Rattle.std.specs.Prelude.{◌≡◌, ℕ, ℤ, pos, ◌+◌, ◌-◌, ◌*◌, ◌≤◌, ◌+ℤ◌, ◌*ℤ◌, Bool, List, []}
-use Rattle.std.specs.Prelude.{length, slice_index_or, take, Result, Ok, Err, nat_eq, nat_lt, min}
+use Rattle.std.specs.Prelude.{◌≡◌, ℕ, ℤ, pos, ◌+◌, ◌-◌, ◌*◌, ◌≤◌, ◌+ℤ◌, ◌*ℤ◌, List, []}
+use Rattle.std.specs.Prelude.{length, take, Result, Ok, Err, nat_eq, nat_lt, min}
 use Rattle.std.specs.Prelude.{if◌then◌else◌}
 use Rattle.fixed_math.specs.declared.F2Dot14.{F2Dot14}
 use Rattle.font_reader.specs.declared.directory.TheConstants.{GLYF}

@@ -1,7 +1,7 @@
 -- What a glyph's tuples say of one of its points at a place of the design space, in 16.16 (OpenType
 -- 1.9, "gvar" and "Font variations common table formats", "Tuple variation store").
-use Rattle.std.specs.Prelude.{ℕ, ℤ, pos, ◌+◌, ◌-◌, ◌*◌, ◌/◌, ◌%◌, ◌^◌, ◌<◌, ◌≤◌, ◌+ℤ◌, Bool, true}
-use Rattle.std.specs.Prelude.{false, List, length, slice_index_or, Option, Some, None, Result, Ok}
+use Rattle.std.specs.Prelude.{ℕ, ℤ, pos, ◌+◌, ◌-◌, ◌*◌, ◌/◌, ◌%◌, ◌^◌, ◌<◌, ◌+ℤ◌, Bool}
+use Rattle.std.specs.Prelude.{List, length, slice_index_or, Option, Some, None, Result, Ok}
 use Rattle.std.specs.Prelude.{Err, nat_eq, nat_lt, nat_le, int_lt, if◌then◌else◌}
 use Rattle.fixed_math.specs.declared.F2Dot14.{F2Dot14}
 use Rattle.fixed_math.specs.declared.Fixed.{Fixed}
@@ -51,7 +51,13 @@ variations_of bytes gvar gid axes glyphs = do
   to ← read_u32 bytes gvar (24 + 4 * gid)
   Ok (between shared_count shared_at array from to)
 
--- ---- TupleVariationHeader: the peak is its own, or a shared one by the low 12 bits
+-- ---- TupleVariationHeader: the peak is its own, or a shared one by the low 12 bits. Of the others
+-- one is reserved.
+
+unfoldable pub tuple_index : List ℕ → Table → ℕ → Result ℕ FontFault
+tuple_index bytes gvar at = do
+  index ← read_u16 bytes gvar at
+  (if nat_eq ((index / 4096) % 2) 0 then Ok index else Err (fault BadFormat (gvar.offset + at)))
 
 abbrev pub own_peak : ℕ → Bool
 own_peak index = nat_le 32768 index
@@ -77,7 +83,7 @@ is_private index = nat_eq ((index / 8192) % 2) 1
 unfoldable pub tuple_header : List ℕ → Table → Variations → ℕ → ℕ → Result TupleHeader FontFault
 tuple_header bytes gvar variations axes at = do
   size ← read_u16 bytes gvar at
-  index ← read_u16 bytes gvar (at + 2)
+  index ← tuple_index bytes gvar (at + 2)
   peak ← peak_place gvar variations axes at index
   Ok (record {
     size = size;
@@ -195,11 +201,18 @@ with_tuple bytes gvar variations target shared place xs ys i run = do
 abbrev pub offset_of : TupleRun → Offset
 offset_of run = record { x = run.x; y = run.y }
 
+-- tupleVariationCount: how many tuples there are in the low 12 bits, and whether they share points
+-- in the highest one. The others are reserved.
+unfoldable pub tuple_count : List ℕ → Table → ℕ → Result ℕ FontFault
+tuple_count bytes gvar at = do
+  count ← read_u16 bytes gvar at
+  (if nat_eq ((count / 4096) % 8) 0 then Ok count else Err (fault BadFormat (gvar.offset + at)))
+
 -- GlyphVariationData: all tuples
 unfoldable pub glyph_offset : List ℕ → Table → Variations → Target → List F2Dot14 → List ℤ
     → List ℤ → Result Offset FontFault
 glyph_offset bytes gvar variations target place xs ys = do
-  count ← read_u16 bytes gvar variations.at
+  count ← tuple_count bytes gvar variations.at
   offset ← read_u16 bytes gvar (variations.at + 2)
   shared ← shared_points bytes gvar target count (variations.at + offset)
   run ← folded (with_tuple bytes gvar variations target shared place xs ys) 0 (count % 4096)

@@ -282,7 +282,7 @@ pub fn named_points(
     Ok(run)
 }
 
-/// The run of the next delta.
+/// The run of the next delta, which can't be both of zeros and of words.
 #[tactic(auto, unfolding(crate::specs::Packed::delta_control))]
 fn delta_control(bytes: &[u8], gvar: Table, run: DeltaRun) -> Result<DeltaRun, FontFault>
     requires within { IsWithin bytes.now gvar }
@@ -296,6 +296,9 @@ fn delta_control(bytes: &[u8], gvar: Table, run: DeltaRun) -> Result<DeltaRun, F
         Ok(run)
     } else {
         let control = read_byte(bytes, gvar, run.at)?;
+        if control >= 192 {
+            return Err(bad_format(gvar, run.at));
+        }
         Ok(DeltaRun {
             at: run.at + 1,
             left: usize::from(control % 64) + 1,

@@ -8,8 +8,8 @@ ghost use Rattle.font_reader.specs.Tuples.{AreNear, all_points, around, glyph_of
 ghost use Rattle.font_reader.specs.Tuples.{known, listed_points, offset_by, offset_in};
 ghost use Rattle.font_reader.specs.Tuples.{own_peak, own_size, peak_place, point_offset, points_at};
 ghost use Rattle.font_reader.specs.Tuples.{shared_points, sides_size, tuple_header, tuple_offset};
-ghost use Rattle.font_reader.specs.Tuples.{tuple_points, tuple_scalar, tuple_side, variations_of};
-ghost use Rattle.font_reader.specs.Tuples.{with_tuple, with_tuple_axis};
+ghost use Rattle.font_reader.specs.Tuples.{tuple_count, tuple_index, tuple_points, tuple_scalar};
+ghost use Rattle.font_reader.specs.Tuples.{tuple_side, variations_of, with_tuple, with_tuple_axis};
 
 use crate::directory::{GVAR, table_of};
 use crate::faults::FontFault;
@@ -165,6 +165,21 @@ fn sides_size(axes: usize, index: u16) -> usize
     if is_between(index) { 4 * axes } else { 0 }
 }
 
+/// The flags of a tuple and the number of its shared peak.
+#[tactic(auto, unfolding(crate::specs::Tuples::tuple_index))]
+fn tuple_index(bytes: &[u8], gvar: Table, at: usize) -> Result<u16, FontFault>
+    requires within { IsWithin bytes.now gvar }
+    requires at { at < 2 ^ 41 }
+    ensures { result ≡ tuple_index bytes.now gvar at }
+{
+    let index = read_u16(bytes, gvar, at)?;
+    if index / 4096 % 2 == 0 {
+        Ok(index)
+    } else {
+        Err(bad_format(gvar, at))
+    }
+}
+
 /// A tuple.
 #[tactic(auto, unfolding(crate::specs::Tuples::tuple_header))]
 fn tuple_header(
@@ -184,7 +199,7 @@ fn tuple_header(
     ensures next { IfOk result (λ header. header.next ≤ at + 393220) }
 {
     let size = read_u16(bytes, gvar, at)?;
-    let index = read_u16(bytes, gvar, at + 2)?;
+    let index = tuple_index(bytes, gvar, at + 2)?;
     let peak = peak_place(gvar, variations, axes, at, index)?;
     let sides = at + 4 + own_size(axes, index);
     Ok(TupleHeader {
@@ -571,6 +586,21 @@ fn all_tuples(
     Ok(run)
 }
 
+/// How many tuples a glyph has, and whether they share points.
+#[tactic(auto, unfolding(crate::specs::Tuples::tuple_count))]
+fn tuple_count(bytes: &[u8], gvar: Table, at: usize) -> Result<u16, FontFault>
+    requires within { IsWithin bytes.now gvar }
+    requires at { at < 2 ^ 41 }
+    ensures { result ≡ tuple_count bytes.now gvar at }
+{
+    let count = read_u16(bytes, gvar, at)?;
+    if count / 4096 % 8 == 0 {
+        Ok(count)
+    } else {
+        Err(bad_format(gvar, at))
+    }
+}
+
 /// How far the tuples of a glyph move a point.
 #[tactic(auto, unfolding(crate::specs::Tuples::glyph_offset))]
 fn glyph_offset(
@@ -591,7 +621,7 @@ fn glyph_offset(
     ensures x { IfOk result (λ offset. unsigned_abs offset.x ≤ 17592186044416) }
     ensures y { IfOk result (λ offset. unsigned_abs offset.y ≤ 17592186044416) }
 {
-    let count = read_u16(bytes, gvar, variations.at)?;
+    let count = tuple_count(bytes, gvar, variations.at)?;
     let offset = read_u16(bytes, gvar, variations.at + 2)?;
     let body = variations.at + usize::from(offset);
     let shared = shared_points(bytes, gvar, target, count, body)?;

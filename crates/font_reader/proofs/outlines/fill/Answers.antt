@@ -1,4 +1,4 @@
-use Rattle.std.proofs.Common.{arith, ◌≡◌, sym, ◌<◌, length, FitsSigned, ℤ}
+use Rattle.std.proofs.Common.{arith, sym, ◌<◌, length, FitsSigned}
 use Rattle.std.specs.Int.{w32}
 use Rattle.std.proofs.lemmas.Int.{ints, to_z-of_z}
 use Rattle.font_reader.specs.Outlines.{coordinates}

@@ -1,4 +1,4 @@
-use Rattle.std.proofs.Common.{◌≡◌, ◌-◌, ◌≤◌, ◌+◌, ◌*◌, ◌^◌, take, length, pos, ◌-ℤ◌, ◌≤ℤ◌}
+use Rattle.std.proofs.Common.{◌≡◌, ◌-◌, ◌≤◌, ◌+◌, ◌*◌, ◌^◌, take, pos, ◌-ℤ◌, ◌≤ℤ◌}
 use Rattle.font_reader.specs.Outlines.{coordinates}
 use Rattle.font_reader.proofs.Fills.{put_before}
 use Rattle.font_reader.proofs.outlines.fill.Given as goal
