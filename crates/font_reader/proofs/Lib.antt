@@ -4,4 +4,5 @@ pub mod LawProofs
 pub mod Means
 pub mod PointRows
 pub mod Rows
+pub mod StayingPoints
 pub mod Turns

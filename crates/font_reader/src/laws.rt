@@ -1,5 +1,5 @@
-ghost use Rattle.font_reader.specs.Laws.{PeaksAreWhole, StaysWithoutTable, StaysWithoutTuples};
-ghost use Rattle.font_reader.specs.Laws.{TablesAreFound};
+ghost use Rattle.font_reader.specs.Laws.{PeaksAreWhole, PointsStay, StaysWithoutTable};
+ghost use Rattle.font_reader.specs.Laws.{StaysWithoutTuples, TablesAreFound};
 
 /// A table that lies within the file is read where the first entry with its tag says. A law: the
 /// function does nothing.
@@ -12,6 +12,7 @@ pub fn tables_are_found()
 pub fn points_stay_without_tuples()
     ensures table { StaysWithoutTable }
     ensures tuples { StaysWithoutTuples }
+    ensures points { PointsStay }
 {}
 
 /// At the peak of a tuple its deltas count whole. A law: the function does nothing.
