@@ -1,3 +1,6 @@
+ghost use Rattle.std.specs.Prelude.{◌≡◌};
+ghost use Rattle.font_reader.specs.Texts.{fault_name};
+
 /// What is wrong with a font that can't be read, or with what is asked of it. Each kind has a
 /// place: a byte of the file unless something else is said.
 #[derive(Clone, Copy, Debug, PartialEq, Eq)]
@@ -18,6 +21,23 @@ pub enum FaultKind {
     CoordCount,
     /// The file is longer than what is read. The place is the greatest length.
     TooLarge,
+}
+
+impl FaultKind {
+    /// The kind's name, as `NotSfnt`.
+    pub fn name(self) -> &'static str
+        ensures { result.now ≡ fault_name self }
+    {
+        match self {
+            FaultKind::NotSfnt => "NotSfnt",
+            FaultKind::NoTable => "NoTable",
+            FaultKind::OutOfTable => "OutOfTable",
+            FaultKind::BadFormat => "BadFormat",
+            FaultKind::NoPoint => "NoPoint",
+            FaultKind::CoordCount => "CoordCount",
+            FaultKind::TooLarge => "TooLarge",
+        }
+    }
 }
 
 /// Why a font can't be read: the first fault on the way to what is asked for.
