@@ -1,6 +1,7 @@
-pub mod LastFirst
-pub mod LayerRuleLaws
-pub mod LayerTableLaws
+pub mod BuiltLaws
+pub mod FormLaws
+pub mod FormsGone
+pub mod PlaceLaws
 pub mod ReadLaws
-mod Triangle
+pub mod TableLaws
 mod WorkedRows

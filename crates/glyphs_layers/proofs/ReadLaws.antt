@@ -1,382 +1,430 @@
 -- What holds of each glyph whose layers are read: the limits that the readers above rely on.
-use Rattle.std.proofs.Common.{◌≡◌, ℕ, ◌<◌, ◌≤◌, Bool, true, false, ◌&&◌, List, [], ◌∷◌, ◌++◌}
-use Rattle.std.proofs.Common.{length, map, Option, Some, None, Result, Ok, Err, suc, not, ltb, cond}
-use Rattle.std.proofs.Common.{refl, sym, ap, ◌∙◌, ◌^◌, subst, arith, lit<}
-use Rattle.std.specs.Prelude.{◌*◌, codes, is_some, flat_map, pos, neg_ℤ, ◌≤ℤ◌, if◌then◌else◌, ◌==◌}
-use Rattle.std.specs.Prelude.{slice_index, IfOk}
-use Rattle.std.specs.List.{All, AllByRecursion, count_by, list_all}
-use Rattle.std.specs.Option.{option_map_or}
-use Rattle.std.proofs.lemmas.List.Elements.{All-from_recursion, All-nil}
+use Rattle.std.proofs.Common.{◌≡◌, ◌≢◌, ℕ, ◌+◌, ◌<◌, ◌≤◌, Bool, true, false, ◌&&◌, cond, List, []}
+use Rattle.std.proofs.Common.{◌∷◌, ◌++◌, zero, suc, length, map, get_or, replicate, Option, Some}
+use Rattle.std.proofs.Common.{None, Result, Ok, Err, refl, sym, ap, ◌∙◌, subst, arith, true≢false}
+use Rattle.std.proofs.Common.{append-nil}
+use Rattle.std.specs.Prelude.{flat_map, is_some, nat_lt, nat_eq, slice_get, IfOk, pos, ◌≤ℤ◌}
+use Rattle.std.specs.Option.{option_map, option_map_or}
+use Rattle.std.specs.List.{All, AllByRecursion, AllPairs, Contains, count_by, list_all}
 use Rattle.std.proofs.lemmas.Bool.Decides.{nat_tests}
-use Rattle.std.proofs.lemmas.Int.{ints}
+use Rattle.std.proofs.lemmas.List.{length-map, length-append}
+use Rattle.std.proofs.lemmas.List.Elements.{All-map, All-append, All-from_recursion}
+use Rattle.std.proofs.lemmas.List.Elements.{Contains-append_left}
 use Rattle.plist_reader.specs.declared.tree.Tree.{Tree}
 use Rattle.fixed_math.specs.declared.F2Dot14.{F2Dot14}
-use Rattle.fixed_math.specs.declared.Fixed.{Fixed}
 use Rattle.font_ir.specs.declared.header.Header.{Header}
 use Rattle.font_ir.specs.declared.header.Master.{Master}
-use Rattle.font_ir.specs.declared.glyph.Anchor.{Anchor}
-use Rattle.font_ir.specs.declared.glyph.Shape.{Shape}
-use Rattle.font_ir.specs.declared.glyph.Shape.TheVariants.{Path, Component}
 use Rattle.font_ir.specs.declared.glyph.LayerIr.{LayerIr}
 use Rattle.font_ir.specs.declared.glyph.GlyphIr.{GlyphIr}
-use Rattle.font_ir.specs.PlaceLaws.{origin_alone}
-use Rattle.font_ir.specs.FlatGlyphs.{IsSmall, IsSmallFixed, IsSmallPoint}
-use Rattle.font_ir.specs.ReadGlyphs.{IsReadGlyph, HasNoComponents, HasNoAnchors, HasPoints}
-use Rattle.font_ir.specs.ReadGlyphs.{IsInRange, is_component, IsPath}
+use Rattle.font_ir.specs.declared.glyph.Anchor.{Anchor}
+use Rattle.font_ir.specs.Headers.{IsHeader}
+use Rattle.font_ir.specs.FlatGlyphs.{IsFlatGlyph, IsSmall}
+use Rattle.font_ir.specs.Notdef.{made_notdef_of}
+use Rattle.font_ir.specs.Places.{AreGlyphPlaces, axis_count, zero_number}
+use Rattle.font_ir.specs.ReadGlyphs.{IsReadGlyph, HasPoints, IsInRange, is_component, layer_form}
+use Rattle.refusal_codes.specs.declared.refusal.Refusal.{Refusal}
 use Rattle.refusal_codes.specs.declared.errors.ReadError.{ReadError}
-use Rattle.refusal_codes.specs.declared.rule.Rule.TheVariants.{MissingLayer}
 use Rattle.refusal_codes.specs.declared.first.Failure.{Failure}
-use Rattle.refusal_codes.specs.First.{first_of, foremost, refusal_of}
-use Rattle.refusal_codes.specs.declared.job.TheConstants.{RAW}
-use Rattle.refusal_codes.specs.declared.limits.TheConstants.{COORDINATE}
-use Rattle.refusal_codes.specs.Gives.{Gives}
+use Rattle.refusal_codes.specs.First.{first_of, foremost, or_next, refusal_of, judged}
+use Rattle.refusal_codes.specs.FirstLaws.{first_of_none}
 use Rattle.refusal_codes.specs.JudgedLaws.{judged_ok}
-use Rattle.source_values.specs.declared.decimals.Decimal.{Decimal}
-use Rattle.source_values.specs.declared.kinds.Range.TheVariants.{Coordinate}
-use Rattle.source_values.specs.Decimals.{is_whole, is_natural_in}
-use Rattle.source_values.specs.Values.{place_at, items_at, decimal_at, in_range, natural_by}
-use Rattle.source_values.specs.Values.{natural_in, natural_or, items_under}
-use Rattle.plist_reader.specs.Tree.{find_in}
-use Rattle.glyphs_source.specs.HeaderReading.{IsReadHeader}
-use Rattle.glyphs_layers.specs.LayerRules.{is_node, layer_numbers, layer_of, glyph_failures}
-use Rattle.glyphs_layers.specs.LayerRules.{glyph_whole_failures}
-use Rattle.glyphs_layers.specs.LayerReading.{coordinate_by, coordinate_of, point_by, origin}
-use Rattle.glyphs_layers.specs.LayerReading.{node_point, point_of, behind_first, last_first}
-use Rattle.glyphs_layers.specs.LayerReading.{contour_of, path_by, paths_of, shapes_of, all_shapes}
-use Rattle.glyphs_layers.specs.LayerReading.{layer_record, master_layers, glyph_record, glyph_of}
+use Rattle.refusal_codes.specs.Gives.{Gives}
+use Rattle.refusal_codes.specs.declared.job.TheConstants.{RAW}
+use Rattle.refusal_codes.specs.declared.rule.Rule.TheVariants.{TooManyLayers, TooManyComponents}
+use Rattle.source_values.specs.Asking.{fails}
+use Rattle.glyphs_source.specs.declared.entries.IndexEntry.{IndexEntry}
+use Rattle.axis_space.specs.PlacingLaws.{length-place_of}
+use Rattle.axis_space.specs.Repeats.{TellsRepeat, first_repeat}
+use Rattle.layer_shapes.specs.declared.kind.LayerKind.{LayerKind}
+use Rattle.layer_shapes.specs.declared.kind.LayerKind.TheVariants as a
+use Rattle.layer_shapes.specs.LayerReading.{layer_record}
+use Rattle.layer_shapes.specs.ReadLayers.{IsReadLayer}
+use Rattle.glyphs_layers.specs.declared.layers.SourceLayer.{SourceLayer}
+use Rattle.glyphs_layers.specs.SourceLayers.{layer_numbers, layer_of, masters_layer}
+use Rattle.glyphs_layers.specs.SourceLayers.{masters_layers, is_intermediate, if_intermediate}
+use Rattle.glyphs_layers.specs.SourceLayers.{intermediate_layers, source_layers}
+use Rattle.glyphs_layers.specs.GlyphPlaces.{missing_layer, design_of, own_place, places_of}
+use Rattle.glyphs_layers.specs.GlyphPlaces.{at_same_place, layer_at, same_place}
+use Rattle.glyphs_layers.specs.GlyphPlaces.{layers_failure, places_failure}
+use Rattle.glyphs_layers.specs.Forms.{same_form, record_of, unlike_first, incompatible}
+use Rattle.glyphs_layers.specs.Bases.{unknown_components, too_many_components}
+use Rattle.glyphs_layers.specs.GlyphReading.{name_in, glyph_in, shapes_failure, whole_failure}
+use Rattle.glyphs_layers.specs.GlyphReading.{glyph_record, judged_glyph}
+use Rattle.glyphs_layers.proofs.FormLaws.{compared}
 
--- ---- single layers
+-- ---- failures that aren't there
 
-natural_small : (low high : ℕ) (o : Option Decimal) → low ≤ high → natural_by low high o ≤ high
-natural_small low high None le = le
-natural_small low high (Some d) le = chosen (is_whole d && is_natural_in low high d) refl
-  where
-    chosen : (b : Bool) → (is_whole d && is_natural_in low high d) ≡ b
-        → (if b then d.whole else low) ≤ high
-    chosen true e = grind (arith, nat_tests)
-    chosen false e = le
+first_none : (f next : Option Failure) → or_next f next ≡ None → f ≡ None
+first_none None next e = refl
+first_none (Some f) next e = absurd cc
 
-number_small : (t : Tree) (o : Option ℕ) → option_map_or (natural_in 0 32767 t) o 0 ≤ 32767
-unfolding natural_in
-number_small t None = omega arith
-number_small t (Some n) = natural_small 0 32767 (decimal_at t n) (omega arith)
+next_none : (f next : Option Failure) → or_next f next ≡ None → next ≡ None
+next_none None next e = e
+next_none (Some f) next e = absurd cc
 
--- a coordinate is within 16383 units, in 16.16
-signed_range : (negative : Bool) (n : ℕ) → n ≤ 16383
-    → IsSmallFixed (record { 0 = if negative then neg_ℤ (pos (65536 * n)) else pos (65536 * n) })
-signed_range true n le = (omega (arith, ints), omega (arith, ints))
-signed_range false n le = (omega (arith, ints), omega (arith, ints))
+-- a list of failures, one for each item that fails a test, is empty
+none_fails : (b : Bool) (f : Failure) (rest : List Failure)
+    → foremost (cond b [] (f ∷ []) ++ rest) ≡ None → (b ≡ true) × (foremost rest ≡ None)
+none_fails true f rest e = (refl, e)
+none_fails false f rest e = absurd cc
 
-abbrev fixed_of : Bool → ℕ → Fixed
-fixed_of negative n = record { 0 = if negative then neg_ℤ (pos (65536 * n)) else pos (65536 * n) }
+only_fails : (b : Bool) (f : Failure) → foremost (cond b [] (f ∷ [])) ≡ None → b ≡ true
+only_fails true f e = refl
+only_fails false f e = absurd cc
 
-coordinate_range : (o : Option Decimal) → IsSmallFixed (record { 0 = coordinate_by o })
-coordinate_range None = (omega (arith, ints), omega (arith, ints))
-coordinate_range (Some d) = chosen (is_whole d && in_range Coordinate d) refl
-  where
-    chosen : (b : Bool) → (is_whole d && in_range Coordinate d) ≡ b
-        → IsSmallFixed (record { 0 = if b then (fixed_of d.negative d.whole).0 else pos 0 })
-    chosen true e =
-        let small : d.whole ≤ COORDINATE = grind (arith, nat_tests) in
-        signed_range d.negative d.whole small
-    chosen false e = (omega (arith, ints), omega (arith, ints))
+-- ---- the layers and their places
 
-parts_range : (t : Tree) (x y : ℕ) → IsSmallPoint (point_by t x y)
-unfolding coordinate_of
-parts_range t x y = (coordinate_range (decimal_at t x), coordinate_range (decimal_at t y))
+abbrev location_of : Master → List F2Dot14
+location_of m = m.location
 
-origin_range : IsSmallPoint origin
-origin_range = (
-  (omega (arith, ints), omega (arith, ints)),
-  (omega (arith, ints), omega (arith, ints)),
-)
+module _ (t : Tree) (h : Header) where
+  abbrev own : List SourceLayer → List (List F2Dot14)
+  own layers = flat_map (own_place t h) layers
 
-node_range : (t : Tree) (o : Option (List ℕ)) → IsSmallPoint (node_point t o)
-node_range t None = origin_range
-node_range t (Some parts) = chosen (is_node parts)
-  where
-    chosen : (b : Bool)
-        → IsSmallPoint (if b then point_by t (slice_index parts 0) (slice_index parts 1) else
-        origin)
-    chosen true = parts_range t (slice_index parts 0) (slice_index parts 1)
-    chosen false = origin_range
+  -- the layers of masters have no place of their own
+  none_own_by : (o : Option ℕ) (behind rest : List SourceLayer) (places : List (List F2Dot14))
+      → own (behind ++ rest) ≡ places
+      → own ((option_map_or masters_layer o [] ++ behind) ++ rest) ≡ places
+  none_own_by None behind rest places e = e
+  none_own_by (Some n) behind rest places e = e
 
-points_range : (t : Tree) (nodes : List ℕ) → AllByRecursion IsSmallPoint (map (point_of t) nodes)
-unfolding point_of
-points_range t [] = tt
-points_range t (n ∷ ns) = (node_range t (items_at t n), points_range t ns)
+  none_own : (ns : List ℕ) (ms : List Master) (rest : List SourceLayer)
+      → own (masters_layers t ms ns ++ rest) ≡ own rest
+  none_own ns [] rest = refl
+  none_own ns (m ∷ ms) rest =
+      none_own_by (layer_of t ns m) (masters_layers t ms ns) rest (own rest) (none_own ns ms rest)
 
--- what holds of each item holds of each after the last one has gone first
-all_behind : {X : Type 0} (P : X → Type 0) (x : X) (ys : List X) → P x → AllByRecursion P ys
-    → AllByRecursion P (behind_first x ys)
-all_behind P x [] p h = (p, tt)
-all_behind P x (y ∷ ys) p h = (h.0, (p, h.1))
+  -- where each master has a layer, there are as many of them
+  many_by : (o : Option ℕ) (all : Bool) (behind rest : List SourceLayer) (n : ℕ)
+      → (is_some o && all) ≡ true → (all ≡ true → length (behind ++ rest) ≡ n)
+      → length ((option_map_or masters_layer o [] ++ behind) ++ rest) ≡ suc n
+  many_by None all behind rest n e f = absurd (true≢false (sym e))
+  many_by (Some k) all behind rest n e f = let same = f e in omega (arith, same)
 
-all_last_first : {X : Type 0} (P : X → Type 0) (xs : List X) → AllByRecursion P xs
-    → AllByRecursion P (last_first xs)
-all_last_first P [] h = tt
-all_last_first P (x ∷ xs) h = all_behind P x (last_first xs) h.0 (all_last_first P xs h.1)
+  many : (ns : List ℕ) (ms : List Master) (rest : List SourceLayer)
+      → list_all (λ (m : Master). is_some (layer_of t ns m)) ms ≡ true
+      → length (masters_layers t ms ns ++ rest) ≡ length ms + length rest
+  many ns [] rest e = omega arith
+  many ns (m ∷ ms) rest e =
+      many_by (layer_of t ns m) (list_all (λ (m : Master). is_some (layer_of t ns m)) ms)
+      (masters_layers t ms ns) rest (length ms + length rest) e (λ f. many ns ms rest f)
+      ∙ omega arith
 
-path_range : (t : Tree) (o : Option (List ℕ)) → AllByRecursion IsInRange (path_by t o)
-unfolding contour_of
-path_range t None = tt
-path_range t (Some []) = tt
-path_range t (Some (n ∷ ns)) = (
-  All-from_recursion IsSmallPoint _ (all_last_first IsSmallPoint (map (point_of t) (n ∷ ns))
-      (points_range t (n ∷ ns))),
-  tt,
-)
+  -- an intermediate layer has a place of its own
+  each_own_by : (n : ℕ) (b : Bool) (behind : List SourceLayer)
+      → length (own behind) ≡ length behind
+      → length (own (cond b (record { kind = a.Intermediate; number = n } ∷ []) [] ++ behind))
+      ≡ length (cond b (record { kind = a.Intermediate; number = n } ∷ []) [] ++ behind)
+  each_own_by n true behind e = omega (arith, e)
+  each_own_by n false behind e = e
 
--- a path that stands has points
-some_behind : {X : Type 0} (x : X) (ys : List X) → 0 < length (behind_first x ys)
-some_behind x [] = omega arith
-some_behind x (y ∷ ys) = omega arith
+  each_own : (ms : List Master) (ns : List ℕ)
+      → length (own (flat_map (if_intermediate t ms) ns))
+      ≡ length (flat_map (if_intermediate t ms) ns)
+  each_own ms [] = refl
+  each_own ms (n ∷ ns) =
+      each_own_by n (is_intermediate t ms n) (flat_map (if_intermediate t ms) ns) (each_own ms ns)
 
-path_stands : (t : Tree) (o : Option (List ℕ)) → AllByRecursion HasPoints (path_by t o)
-unfolding contour_of
-path_stands t None = tt
-path_stands t (Some []) = tt
-path_stands t (Some (n ∷ ns)) = (some_behind (point_of t n) (last_first (map (point_of t) ns)), tt)
+  intermediate_own : (ns : List ℕ)
+      → length (own (intermediate_layers t h ns)) ≡ length (intermediate_layers t h ns)
+  intermediate_own ns = by (nat_eq (length h.axes) 0)
+    where
+      by : (b : Bool) → length (own (cond b [] (flat_map (if_intermediate t h.masters) ns)))
+          ≡ length (cond b [] (flat_map (if_intermediate t h.masters) ns))
+      by true = refl
+      by false = each_own h.masters ns
 
-path_plain : (t : Tree) (o : Option (List ℕ)) → AllByRecursion IsPath (path_by t o)
-path_plain t None = tt
-path_plain t (Some []) = tt
-path_plain t (Some (n ∷ ns)) = (tt, tt)
+  -- each of these places has a number for each axis
+  own_long_by : (kind : LayerKind) (n : ℕ) (behind : List SourceLayer)
+      → AllByRecursion (λ place. length place ≡ length h.axes) (own behind)
+      → AllByRecursion (λ place. length place ≡ length h.axes)
+      (own (record { kind = kind; number = n } ∷ behind))
+  own_long_by a.Master n behind e = e
+  own_long_by a.Intermediate n behind e =
+      (length-place_of h.masters h.origin (length h.axes) (design_of t n), e)
 
--- what holds of each path holds of each shape
-module _ (P : Shape → Type 0) (t : Tree)
-    (path : (o : Option (List ℕ)) → AllByRecursion P (path_by t o)) where
-  shape_under : (o : Option ℕ) → AllByRecursion P (option_map_or (paths_of t) o [])
-  shape_under None = tt
-  shape_under (Some n) = path (items_at t n)
+  own_long : (layers : List SourceLayer)
+      → AllByRecursion (λ place. length place ≡ length h.axes) (own layers)
+  own_long [] = tt
+  own_long (layer ∷ layers) = own_long_by layer.kind layer.number layers (own_long layers)
 
-all_append : {X : Type 0} (P : X → Type 0) (xs ys : List X) → AllByRecursion P xs
-    → AllByRecursion P ys → AllByRecursion P (xs ++ ys)
-all_append P [] ys a b = b
-all_append P (x ∷ xs) ys a b = (a.0, all_append P xs ys a.1 b)
+  -- ---- where no rule on layers and places fails
 
-of_shapes : (P : Shape → Type 0) (t : Tree)
-    → ((o : Option (List ℕ)) → AllByRecursion P (path_by t o))
-    → (ns : List ℕ) → AllByRecursion P (flat_map (shapes_of t) ns)
-unfolding shapes_of
-of_shapes P t path [] = tt
-of_shapes P t path (n ∷ ns) =
-    all_append P _ _ (shape_under P t path (find_in t n (codes "nodes"))) (of_shapes P t path ns)
+  module _ (g : ℕ) (there : layers_failure t h g ≡ None) where
+    all_there : list_all (λ (m : Master). is_some (layer_of t (layer_numbers t g) m)) h.masters
+        ≡ true
+    unfolding layers_failure missing_layer
+    all_there = only_fails
+        (list_all (λ (m : Master). is_some (layer_of t (layer_numbers t g) m)) h.masters) _
+        (first_none _ _ there)
 
--- paths are no components
-no_components : (shapes : List Shape) → AllByRecursion IsPath shapes
-    → count_by is_component shapes ≡ 0
-no_components [] h = refl
-no_components (Path contour ∷ shapes) h = omega (arith, no_components shapes h.1)
-no_components (Component base at scale quarters ∷ shapes) h = absurd h.0
+    pub layer_each : length (places_of t h g) ≡ length (source_layers t h g)
+    unfolding places_of source_layers
+    layer_each =
+        let ns = layer_numbers t g in
+        let rest = intermediate_layers t h ns in
+        length-append (map location_of h.masters) (own (masters_layers t h.masters ns ++ rest))
+        ∙ ap (λ (k : ℕ). k + length (own (masters_layers t h.masters ns ++ rest)))
+        (length-map h.masters location_of)
+        ∙ ap (λ (ps : List (List F2Dot14)). length h.masters + length ps)
+        (none_own ns h.masters rest)
+        ∙ ap (λ (k : ℕ). length h.masters + k) (intermediate_own ns)
+        ∙ sym (many ns h.masters rest all_there)
 
--- ---- a glyph at one place
+    pub masters_first : length h.masters ≤ length (places_of t h g)
+    unfolding places_of
+    masters_first =
+        let all = length-append (map location_of h.masters) (own (source_layers t h g)) in
+        let ms = length-map h.masters location_of in
+        omega (arith, all, ms)
 
--- what holds of a glyph that is read
-pub record Facts (given : ℕ) (glyph : GlyphIr) : Type 0 where
-  pub number : glyph.number ≡ given
-  pub read : IsReadGlyph glyph
-  pub components : HasNoComponents glyph
-  pub anchors : HasNoAnchors glyph
+    no_repeat : TellsRepeat (places_of t h g) (first_repeat (places_of t h g))
+        → same_place t (source_layers t h g) (places_of t h g) ≡ None
+        → AllPairs (λ x y. x ≢ y) (places_of t h g)
+    unfolding same_place
+    no_repeat tells none = by (first_repeat (places_of t h g)) tells none
+      where
+        get_none : (layers : List SourceLayer) (i : ℕ) → slice_get layers i ≡ None
+            → i < length layers → ⊥
+        get_none [] i is within = omega (arith, within)
+        get_none (layer ∷ layers) zero is within = cc
+        get_none (layer ∷ layers) (suc i) is within = get_none layers i is (omega (arith, within))
 
-abbrev glyph_at : ℕ → ℕ → List (List F2Dot14) → List LayerIr → GlyphIr
-glyph_at number place places layers = record
-    { number = number; place = place; masters = 1; places = places; layers = layers }
+        found : (o : Option SourceLayer) (i : ℕ) → slice_get (source_layers t h g) i ≡ o
+            → i < length (source_layers t h g) → option_map (at_same_place t) o ≡ None
+            → AllPairs (λ x y. x ≢ y) (places_of t h g)
+        found None i is within e = absurd (get_none (source_layers t h g) i is within)
+        found (Some layer) i is within e = absurd cc
 
-width_range : (t : Tree) (n : ℕ) → (pos 0 ≤ℤ (layer_record t n).width)
-    × ((layer_record t n).width ≤ℤ pos 32767)
-unfolding layer_record
-width_range t n =
-    let small : natural_or 0 32767 0 t n (codes "width") ≤ 32767
-    = number_small t (find_in t n (codes "width")) in
-    (omega (arith, ints), omega (arith, ints))
+        by : (o : Option ℕ) → TellsRepeat (places_of t h g) o
+            → option_map (at_same_place t) (layer_at (source_layers t h g) o) ≡ None
+            → AllPairs (λ x y. x ≢ y) (places_of t h g)
+        by None told e = told
+        by (Some i) told e =
+            let within = told.within in
+            let same = layer_each in
+            found (slice_get (source_layers t h g) i) i refl (omega (arith, within, same)) e
 
-layer_points : (t : Tree) (n : ℕ) → All HasPoints (layer_record t n).shapes
-unfolding layer_record
-layer_points t n = All-from_recursion HasPoints _
-    (of_shapes HasPoints t (path_stands t) (items_under t n (codes "shapes")))
+    few : places_failure t g (source_layers t h g) (places_of t h g) ≡ None
+        → length (places_of t h g) ≤ 64
+    unfolding places_failure
+    few none = by (nat_lt 64 (length (places_of t h g))) refl (next_none _ _ none)
+      where
+        by : (b : Bool) → nat_lt 64 (length (places_of t h g)) ≡ b
+            → cond b (foremost (fails TooManyLayers t g)) None ≡ None
+            → length (places_of t h g) ≤ 64
+        by true is e = absurd cc
+        by false is e = grind (arith, nat_tests)
 
-layer_paths : (t : Tree) (n : ℕ) → All IsPath (layer_record t n).shapes
-unfolding layer_record
-layer_paths t n = All-from_recursion IsPath _
-    (of_shapes IsPath t (path_plain t) (items_under t n (codes "shapes")))
+    pub are_places : IsHeader h → IsFlatGlyph (made_notdef_of h)
+        → TellsRepeat (places_of t h g) (first_repeat (places_of t h g))
+        → places_failure t g (source_layers t h g) (places_of t h g) ≡ None
+        → AreGlyphPlaces (places_of t h g)
+    unfolding places_failure places_of
+    are_places is flat tells none =
+        let origin = flat.places.are_places in
+        let all = length-append (map location_of h.masters) (own (source_layers t h g)) in
+        let ms = length-map h.masters location_of in
+        let some = is.origin in
+        let most = few none in
+        record {
+          few = most;
+          are_places = record {
+            few = omega (arith, most);
+            one_length = λ i within.
+                long i [] within ∙ sym (long 0 [] (omega (arith, some, all, ms)));
+            different = λ i j below within.
+                no_repeat tells (first_none _ _ none) i j [] below within;
+            has_zero = subst (λ (n : ℕ). Contains (places_of t h g) (replicate n zero_number))
+                (first_long (omega (arith, some, ms)) ∙ sym (long 0 [] (omega (arith, some, all, ms))))
+                (Contains-append_left (map location_of h.masters) (own (source_layers t h g)) _
+                origin.has_zero);
+          };
+        }
+      where
+        masters_long : All (λ place. length place ≡ length h.axes) (map location_of h.masters)
+        masters_long = All-map (λ (place : List F2Dot14). length place ≡ length h.axes) location_of
+            h.masters (λ k d within. (is.masters k d within).location)
 
-layer_range : (t : Tree) (n : ℕ) → All IsInRange (layer_record t n).shapes
-unfolding layer_record
-layer_range t n = All-from_recursion IsInRange _
-    (of_shapes IsInRange t (path_range t) (items_under t n (codes "shapes")))
+        long : All (λ place. length place ≡ length h.axes) (places_of t h g)
+        long = All-append (λ (place : List F2Dot14). length place ≡ length h.axes)
+            (map location_of h.masters) (own (source_layers t h g)) masters_long
+            (All-from_recursion _ (own (source_layers t h g)) (own_long (source_layers t h g)))
 
-layer_components : (t : Tree) (n : ℕ) → count_by is_component (layer_record t n).shapes ≤ 256
-unfolding layer_record
-layer_components t n =
-    let ns = items_under t n (codes "shapes") in
-    omega (arith, no_components (all_shapes t n) (of_shapes IsPath t (path_plain t) ns))
+        first_long : 0 < length (map location_of h.masters)
+            → axis_count (map location_of h.masters) ≡ length h.axes
+        first_long within = masters_long 0 [] within
 
-layer_anchors : (t : Tree) (n : ℕ) → All (λ (anchor : Anchor). IsSmall anchor.x × IsSmall anchor.y)
-    (layer_record t n).anchors
-unfolding layer_record
-layer_anchors t n = All-nil (λ (anchor : Anchor). IsSmall anchor.x × IsSmall anchor.y)
+-- ---- the shapes
 
-layer_bare : (t : Tree) (n : ℕ) → length (layer_record t n).anchors ≡ 0
-unfolding layer_record
-layer_bare t n = refl
+module _ (t : Tree) (ranges : (kind : LayerKind) (t : Tree) (n : ℕ)
+    → IsReadLayer (layer_record kind t n)) where
+  abbrev first_like : LayerIr → LayerIr → Type 0
+  first_like first layer = layer_form first ≡ layer_form layer
 
-one_layer_facts : (t : Tree) (number place n : ℕ)
-    → Facts number (glyph_at number place ([] ∷ []) (layer_record t n ∷ []))
-one_layer_facts t number place n = record {
-  number = refl;
-  read = record {
-    places = origin_alone;
-    masters = omega arith;
-    layers = refl;
-    one_form = λ i j d below within. absurd (omega arith);
-    widths = All-from_recursion (λ (layer : LayerIr). (pos 0 ≤ℤ layer.width)
-        × (layer.width ≤ℤ pos 32767)) (layer_record t n ∷ []) (width_range t n, tt);
-    points = All-from_recursion (λ (layer : LayerIr). All HasPoints layer.shapes)
-        (layer_record t n ∷ []) (layer_points t n, tt);
-    ranges = All-from_recursion (λ (layer : LayerIr). All IsInRange layer.shapes)
-        (layer_record t n ∷ []) (layer_range t n, tt);
-    few_components = All-from_recursion (λ (layer : LayerIr). count_by is_component layer.shapes ≤
-        256) (layer_record t n ∷ []) (layer_components t n, tt);
-    small_anchors =
-        All-from_recursion (λ (layer : LayerIr). All
-        (λ (anchor : Anchor). IsSmall anchor.x × IsSmall anchor.y) layer.anchors)
-        (layer_record t n ∷ []) (layer_anchors t n, tt);
-  };
-  components = All-from_recursion (λ (layer : LayerIr). All IsPath layer.shapes)
-      (layer_record t n ∷ []) (layer_paths t n, tt);
-  anchors = All-from_recursion (λ (layer : LayerIr). length layer.anchors ≡ 0)
-      (layer_record t n ∷ []) (layer_bare t n, tt);
-}
+  alike : (first : LayerIr) (layers : List SourceLayer)
+      → foremost (flat_map (unlike_first t first) layers) ≡ None
+      → AllByRecursion (first_like first) (map (record_of t) layers)
+  alike first [] e = tt
+  alike first (layer ∷ layers) e =
+      let parts = none_fails (same_form first (record_of t layer)) _
+      (flat_map (unlike_first t first) layers) e in
+      ((compared first (record_of t layer)).0 parts.0, alike first layers parts.1)
 
--- the layer that the master has
-one_layer : (t : Tree) (o : Option ℕ) → (is_some o && true) ≡ true
-    → (n : ℕ) × (option_map_or (λ n. layer_record t n ∷ []) o [] ++ [] ≡ layer_record t n ∷ [])
-one_layer t None e = absurd cc
-one_layer t (Some n) e = (n, refl)
+  pub one_form : (layers : List SourceLayer) → foremost (incompatible t layers) ≡ None
+      → AllPairs (λ x y. layer_form x ≡ layer_form y) (map (record_of t) layers)
+  one_form [] e = λ i j d below within. absurd (omega (arith, below, within))
+  one_form (layer ∷ layers) e =
+      let first = record_of t layer in
+      let all = All-from_recursion (first_like first) (map (record_of t) (layer ∷ layers))
+      (refl, alike first layers e) in
+      λ i j d below within. sym (all i d (omega (arith, below, within))) ∙ all j d within
 
-no_failure : (b : Bool) (f : Failure) → foremost (if b then [] else f ∷ []) ≡ None → b ≡ true
-no_failure true f e = refl
-no_failure false f e = absurd cc
+  few_by : (layer : SourceLayer) (b : Bool) (rest : List Failure)
+      → nat_lt 256 (count_by is_component (record_of t layer).shapes) ≡ b
+      → (cond b (fails TooManyComponents t layer.number) [] ++ rest) ≡ []
+      → (count_by is_component (record_of t layer).shapes ≤ 256) × (rest ≡ [])
+  few_by layer true rest is e = absurd cc
+  few_by layer false rest is e = (grind (arith, nat_tests), e)
 
-layer_there : (t : Tree) (m : Master) (g : ℕ) → foremost (glyph_whole_failures t (m ∷ []) g) ≡ None
-    → (is_some (layer_of t (layer_numbers t g) m) && true) ≡ true
-unfolding glyph_whole_failures
-layer_there t m g e = no_failure (is_some (layer_of t (layer_numbers t g) m) && true) _ e
+  few_components : (layers : List SourceLayer)
+      → flat_map (too_many_components t) layers ≡ []
+      → AllByRecursion (λ layer. count_by is_component layer.shapes ≤ 256)
+      (map (record_of t) layers)
+  few_components [] e = tt
+  few_components (layer ∷ layers) e =
+      let parts = few_by layer _ (flat_map (too_many_components t) layers) refl e in
+      (parts.0, few_components layers parts.1)
 
-record_facts : (t : Tree) (m : Master) (number g : ℕ) → m.location ≡ []
-    → (is_some (layer_of t (layer_numbers t g) m) && true) ≡ true
-    → Facts number (glyph_record t (m ∷ []) number g)
-unfolding glyph_record
-record_facts t m number g at there =
-    let found = one_layer t (layer_of t (layer_numbers t g) m) there in
-    let here : Facts number (glyph_at number (place_at t g) (m.location ∷ [])
-    (layer_record t found.0 ∷ [])) =
-    subst (λ (place : List F2Dot14). Facts number
-    (glyph_at number (place_at t g) (place ∷ []) (layer_record t found.0 ∷ []))) (sym at)
-    (one_layer_facts t number (place_at t g) found.0) in
-    subst (λ (layers : List LayerIr). Facts number
-    (glyph_at number (place_at t g) (m.location ∷ []) layers)) (sym found.1) here
+  -- what holds of each layer that is read
+  each : (P : LayerIr → Type 0) → ((layer : LayerIr) → IsReadLayer layer → P layer)
+      → (layers : List SourceLayer) → All P (map (record_of t) layers)
+  each P from layers = All-map P (record_of t) layers
+      (λ k d within. from (record_of t (get_or layers k d)) (ranges (get_or layers k d).kind t
+      (get_or layers k d).number))
 
-one_master_facts : (t : Tree) (m : Master) (name : List ℕ) (number g : ℕ) (x : GlyphIr)
-    → m.location ≡ [] → glyph_of t (m ∷ []) name number g ≡ Ok x → Facts number x
-unfolding glyph_of
-one_master_facts t m name number g x at e =
-    let parts = judged_ok (refusal_of RAW name) (first_of (glyph_failures t (m ∷ []) g))
-    (foremost (glyph_whole_failures t (m ∷ []) g)) (glyph_record t (m ∷ []) number g) x e in
-    subst (λ (y : GlyphIr). Facts number y) parts.2
-    (record_facts t m number g at (layer_there t m g parts.1))
+  pub record_read : (h : Header) (index : List (List ℕ × IndexEntry)) (number g : ℕ) → IsHeader h
+      → IsFlatGlyph (made_notdef_of h)
+      → ((places : List (List F2Dot14)) → TellsRepeat places (first_repeat places))
+      → whole_failure t h index g ≡ None → IsReadGlyph (glyph_record t h number g)
+  unfolding whole_failure shapes_failure glyph_record
+  record_read h index number g is flat tells none =
+      let layers = source_layers t h g in
+      let lies = places_failure t g layers (places_of t h g) in
+      let shapes = shapes_failure t index layers in
+      let unlike = foremost (incompatible t layers) in
+      let unknown = first_of (flat_map (unknown_components t index) layers) in
+      let many = first_of (flat_map (too_many_components t) layers) in
+      let there = first_none (layers_failure t h g) (or_next lies shapes) none in
+      let others = next_none (layers_failure t h g) (or_next lies shapes) none in
+      let shaped = next_none lies shapes others in
+      let counted = next_none unknown many (next_none unlike (or_next unknown many) shaped) in
+      let crowded = first_of_none (flat_map (too_many_components t) layers) counted in
+      record {
+        places = are_places t h g there is flat (tells (places_of t h g))
+            (first_none lies shapes others);
+        masters = masters_first t h g there;
+        layers = length-map layers (record_of t) ∙ sym (layer_each t h g there);
+        one_form = one_form layers (first_none unlike (or_next unknown many) shaped);
+        widths = each (λ (layer : LayerIr). (pos 0 ≤ℤ layer.width) × (layer.width ≤ℤ pos 32767))
+            (λ layer r. r.width) layers;
+        points = each (λ (layer : LayerIr). All HasPoints layer.shapes) (λ layer r. r.points)
+            layers;
+        ranges = each (λ (layer : LayerIr). All IsInRange layer.shapes) (λ layer r. r.ranges)
+            layers;
+        few_components = All-from_recursion
+            (λ (layer : LayerIr). count_by is_component layer.shapes ≤ 256)
+            (map (record_of t) layers) (few_components layers crowded);
+        small_anchors = each (λ (layer : LayerIr). All
+            (λ (anchor : Anchor). IsSmall anchor.x × IsSmall anchor.y) layer.anchors)
+            (λ layer r. r.small_anchors) layers;
+      }
 
--- one location, which has no coordinates, is that of one master
-one_alone : (ms : List Master) → map (λ (master : Master). master.location) ms ≡ [] ∷ []
-    → (m : Master) × (ms ≡ m ∷ []) × (m.location ≡ [])
-one_alone [] e = absurd cc
-one_alone (m ∷ []) e = (m, refl, cc)
-one_alone (m ∷ n ∷ ms) e = absurd cc
+  -- what is answered as a glyph
+  pub record Facts (h : Header) (number g : ℕ) (glyph : GlyphIr) : Type 0 where
+    pub number_is : glyph.number ≡ number
+    pub places : glyph.places ≡ places_of t h g
+    pub read : IsReadGlyph glyph
 
-pub few_masters : (h : Header) → IsReadHeader h → length h.masters < 2 ^ 32
-few_masters h is =
-    let found = one_alone h.masters is.one_master in
-    subst (λ (ms : List Master). length ms < 2 ^ 32) (sym found.1) (lit< tt)
+  pub judged_facts : (local : List Failure) (h : Header) (index : List (List ℕ × IndexEntry))
+      (number : ℕ) → IsHeader h → IsFlatGlyph (made_notdef_of h)
+      → ((places : List (List F2Dot14)) → TellsRepeat places (first_repeat places))
+      → (r : Result GlyphIr ReadError)
+      → Gives (λ (x : GlyphIr). x) r (judged_glyph local t h index number)
+      → IfOk r (Facts h number (glyph_in index number))
+  unfolding judged_glyph glyph_record
+  judged_facts local h index number is flat tells (Err e) given = tt
+  judged_facts local h index number is flat tells (Ok glyph) given =
+      let g = glyph_in index number in
+      let parts = judged_ok (refusal_of RAW (name_in index number)) (first_of local)
+      (whole_failure t h index g) (glyph_record t h number g) glyph given in
+      let read = record_read h index number g is flat tells parts.1 in
+      let made : Facts h number g (glyph_record t h number g) = record {
+        number_is = refl;
+        places = refl;
+        read = read;
+      } in
+      subst (Facts h number g) parts.2 made
 
--- of each glyph that is read with the header's masters
-pub read_facts : (t : Tree) (h : Header) → IsReadHeader h → (masters : List Master)
-    → masters ≡ h.masters
-    → (name : List ℕ) (number g : ℕ) (r : Result GlyphIr ReadError)
-    → Gives (λ (x : GlyphIr). x) r (glyph_of t masters name number g) → IfOk r (Facts number)
-read_facts t h is masters same name number g (Err error) given = tt
-read_facts t h is masters same name number g (Ok x) given =
-    let found = one_alone h.masters is.one_master in
-    one_master_facts t found.0 name number g x found.2
-    (subst (λ (ms : List Master). glyph_of t ms name number g ≡ Ok x) (same ∙ found.1) given)
+  module _ (h : Header) (number g : ℕ) where
+    pub fact_number : (r : Result GlyphIr ReadError) → IfOk r (Facts h number g)
+        → IfOk r (λ x. x.number ≡ number)
+    fact_number (Err e) facts = tt
+    fact_number (Ok x) facts = facts.number_is
 
-pub read_number : (number : ℕ) (r : Result GlyphIr ReadError) → IfOk r (Facts number)
-    → IfOk r (λ x. x.number ≡ number)
-read_number number (Err error) facts = tt
-read_number number (Ok x) facts = facts.number
+    pub fact_places : (r : Result GlyphIr ReadError) → IfOk r (Facts h number g)
+        → IfOk r (λ x. x.places ≡ places_of t h g)
+    fact_places (Err e) facts = tt
+    fact_places (Ok x) facts = facts.places
 
-pub read_read : (number : ℕ) (r : Result GlyphIr ReadError) → IfOk r (Facts number)
-    → IfOk r IsReadGlyph
-read_read number (Err error) facts = tt
-read_read number (Ok x) facts = facts.read
+    -- without axes there are the masters' places alone
+    no_others : h.axes ≡ [] → places_of t h g ≡ map location_of h.masters
+    unfolding places_of source_layers
+    no_others none =
+        let ns = layer_numbers t g in
+        ap (λ (ps : List (List F2Dot14)). map location_of h.masters ++ ps)
+        (none_own t h ns h.masters (intermediate_layers t h ns)
+        ∙ ap (λ (k : ℕ). own t h (cond (nat_eq k 0) [] (flat_map (if_intermediate t h.masters) ns)))
+        (ap length none))
+        ∙ append-nil (map location_of h.masters)
 
-pub read_components : (number : ℕ) (r : Result GlyphIr ReadError) → IfOk r (Facts number)
-    → IfOk r HasNoComponents
-read_components number (Err error) facts = tt
-read_components number (Ok x) facts = facts.components
+    pub fact_masters : h.axes ≡ [] → (r : Result GlyphIr ReadError) → IfOk r (Facts h number g)
+        → IfOk r (λ x. x.places ≡ map (λ master. master.location) h.masters)
+    fact_masters none (Err e) facts = tt
+    fact_masters none (Ok x) facts = facts.places ∙ no_others none
 
-pub read_anchors : (number : ℕ) (r : Result GlyphIr ReadError) → IfOk r (Facts number)
-    → IfOk r HasNoAnchors
-read_anchors number (Err error) facts = tt
-read_anchors number (Ok x) facts = facts.anchors
+    pub fact_read : (r : Result GlyphIr ReadError) → IfOk r (Facts h number g)
+        → IfOk r IsReadGlyph
+    fact_read (Err e) facts = tt
+    fact_read (Ok x) facts = facts.read
 
--- ---- the masters' layers
+-- the answer for the glyph whose name and dictionary the index has under its number
+module _ (t : Tree) (h : Header) (index : List (List ℕ × IndexEntry)) (number : ℕ) where
+  abbrev answer : List ℕ → ℕ → Option Failure → Result GlyphIr Refusal
+  answer name node o =
+      judged (refusal_of RAW name) o (whole_failure t h index node) (glyph_record t h number node)
 
--- there are as many layers as masters exactly where each has one
-one_more : (t : Tree) (rest : List LayerIr) (k : ℕ) (o : Option ℕ) → length rest ≤ k
-    → length (option_map_or (λ n. layer_record t n ∷ []) o [] ++ rest) ≤ suc k
-one_more t rest k None le = omega (arith, le)
-one_more t rest k (Some n) le = omega (arith, le)
+  pub answered : (local : List Failure) (name : List ℕ) (node : ℕ) (o : Option Failure)
+      → name_in index number ≡ name → glyph_in index number ≡ node → o ≡ first_of local
+      → answer name node o ≡ judged_glyph local t h index number
+  unfolding judged_glyph
+  answered local name node o names is found =
+      ap (λ (text : List ℕ). answer text node o) (sym names)
+      ∙ ap (λ (n : ℕ). answer (name_in index number) n o) (sym is)
+      ∙ ap (λ (f : Option Failure). answer (name_in index number) (glyph_in index number) f) found
 
-layers_at_most : (t : Tree) (ns : List ℕ) (ms : List Master)
-    → length (flat_map (master_layers t ns) ms) ≤ length ms
-layers_at_most t ns [] = omega arith
-layers_at_most t ns (m ∷ ms) = one_more t _ (length ms) (layer_of t ns m) (layers_at_most t ns ms)
-
-one_fewer : (t : Tree) (rest : List LayerIr) (k : ℕ) (o : Option ℕ) (all : Bool) → length rest ≤ k
-    → ltb (length rest) k ≡ not all
-    → ltb (length (option_map_or (λ n. layer_record t n ∷ []) o [] ++ rest)) (suc k)
-    ≡ not (is_some o && all)
-one_fewer t rest k None all le e = grind (arith, nat_tests)
-one_fewer t rest k (Some n) all le e = same_test (length rest) k ∙ e
-  where
-    same_test : (a b : ℕ) → ltb (suc a) (suc b) ≡ ltb a b
-    same_test a b = grind (arith, nat_tests)
-
-layers_there : (t : Tree) (ns : List ℕ) (ms : List Master)
-    → ltb (length (flat_map (master_layers t ns) ms)) (length ms)
-    ≡ not (list_all (λ (m : Master). is_some (layer_of t ns m)) ms)
-layers_there t ns [] = refl
-layers_there t ns (m ∷ ms) =
-    one_fewer t _ (length ms) (layer_of t ns m)
-    (list_all (λ (m : Master). is_some (layer_of t ns m)) ms)
-    (layers_at_most t ns ms) (layers_there t ns ms)
-
-missing_by : (t : Tree) (g : ℕ) (b : Bool)
-    → cond (not b) (Some (record { rule = MissingLayer; place = place_at t g })) None
-    ≡ foremost (cond b [] (record { rule = MissingLayer; place = place_at t g } ∷ []))
-missing_by t g true = refl
-missing_by t g false = refl
-
--- what is missing, by the number of layers
-pub missing_told : (t : Tree) (ms : List Master) (g : ℕ) (layers : List LayerIr) (b : Bool)
-    → layers ≡ flat_map (master_layers t (layer_numbers t g)) ms
-    → ltb (length layers) (length ms) ≡ b
-    → cond b (Some (record { rule = MissingLayer; place = place_at t g })) None
-    ≡ foremost (glyph_whole_failures t ms g)
-unfolding glyph_whole_failures
-missing_told t ms g layers b same e =
-    ap (λ (x : Bool). cond x (Some (record { rule = MissingLayer; place = place_at t g })) None)
-    (sym e ∙ ap (λ (ls : List LayerIr). ltb (length ls) (length ms)) same
-    ∙ layers_there t (layer_numbers t g) ms)
-    ∙ missing_by t g (list_all (λ (m : Master). is_some (layer_of t (layer_numbers t g) m)) ms)
+  -- where the index has this entry under the number, and these are the local rules that a glyph fails
+  pub given_answer : (failures : ℕ → List Failure) (entry : List ℕ × IndexEntry)
+      → slice_get index number ≡ Some entry → (o : Option Failure)
+      → o ≡ first_of (failures entry.1.node) → (r : Result GlyphIr ReadError)
+      → Gives (λ (x : GlyphIr). x) r (answer entry.0 entry.1.node o)
+      → Gives (λ (x : GlyphIr). x) r
+      (judged_glyph (failures (glyph_in index number)) t h index number)
+  given_answer failures entry there o found r given =
+      let names : name_in index number ≡ entry.0 =
+      ap (λ (e : Option (List ℕ × IndexEntry)). option_map_or (λ glyph. glyph.0) e []) there in
+      let is : glyph_in index number ≡ entry.1.node =
+      ap (λ (e : Option (List ℕ × IndexEntry)). option_map_or (λ glyph. glyph.1.node) e 0) there in
+      subst (λ (y : Result GlyphIr Refusal). Gives (λ (x : GlyphIr). x) r y)
+      (answered (failures (glyph_in index number)) entry.0 entry.1.node o names is
+      (found ∙ ap (λ (n : ℕ). first_of (failures n)) (sym is))) given

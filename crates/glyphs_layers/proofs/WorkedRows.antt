@@ -1,95 +1,109 @@
--- Worked examples: what the job of a glyph's layers answers for the triangle, whose dictionary is
--- the value 40, and for variants of it.
-use Rattle.std.proofs.Common.{◌≡◌, ℕ, List, [], ◌∷◌, map, refl}
-use Rattle.std.specs.Prelude.{Result, Ok, Err, ℤ, pos, true, codes}
-use Rattle.font_ir.specs.declared.glyph.DrawnPoint.{DrawnPoint}
-use Rattle.font_ir.specs.declared.glyph.Shape.TheVariants.{Path}
-use Rattle.font_ir.specs.declared.glyph.GlyphIr.{GlyphIr}
+-- Worked examples of where layers lie, and of layers that have or have not the form of the first.
+-- The masters are at 400 and 700, as in a font of one axis.
+use Rattle.std.proofs.Common.{◌≡◌, ℕ, Bool, true, false, List, [], ◌∷◌, Some, None, refl}
+use Rattle.std.specs.Prelude.{ℤ, pos, codes}
 use Rattle.plist_reader.specs.declared.tree.Tree.{Tree}
-use Rattle.refusal_codes.specs.declared.refusal.Refusal.{Refusal}
-use Rattle.refusal_codes.specs.declared.job.TheConstants.{RAW}
-use Rattle.refusal_codes.specs.First.{refusal_of}
-use Rattle.refusal_codes.specs.declared.rule.Rule.{Rule}
-use Rattle.refusal_codes.specs.declared.rule.Rule.TheVariants.{CubicNode, OpenContour, MissingKey}
-use Rattle.refusal_codes.specs.declared.rule.Rule.TheVariants.{NotWhole, MissingLayer}
-use Rattle.refusal_codes.specs.declared.rule.Rule.TheVariants.{CoordinateTooLarge}
-use Rattle.glyphs_layers.specs.LayerReading.{glyph_of}
-use Rattle.glyphs_layers.specs.OnLiterals.{layers_on_literals}
-use Rattle.glyphs_layers.proofs.Triangle.{triangle, triangle_without_width}
-use Rattle.glyphs_layers.proofs.Triangle.{triangle_with_attributes, triangle_masters, more_masters}
+use Rattle.fixed_math.specs.declared.F2Dot14.{F2Dot14}
+use Rattle.fixed_math.specs.declared.Fixed.{Fixed}
+use Rattle.font_ir.specs.declared.glyph.DrawnPoint.{DrawnPoint}
+use Rattle.font_ir.specs.declared.glyph.Shape.{Shape}
+use Rattle.font_ir.specs.declared.glyph.Shape.TheVariants.{Path, Component}
+use Rattle.font_ir.specs.declared.glyph.LayerIr.{LayerIr}
+use Rattle.font_ir.specs.declared.header.Master.{Master}
+use Rattle.refusal_codes.specs.declared.rule.Rule.TheVariants.{SameLayerPlace}
+use Rattle.source_values.specs.Values.{place_at}
+use Rattle.axis_space.specs.Placing.{place_of}
+use Rattle.axis_space.specs.Repeats.{first_repeat}
+use Rattle.layer_shapes.specs.declared.kind.LayerKind.TheVariants as a
+use Rattle.glyphs_layers.specs.declared.layers.SourceLayer.{SourceLayer}
+use Rattle.glyphs_layers.specs.GlyphPlaces.{are_within, same_place}
+use Rattle.glyphs_layers.specs.Forms.{same_form}
 
-abbrev point : ℤ → ℤ → DrawnPoint
-point x y = record { x = record { 0 = x }; y = record { 0 = y }; on = true }
+abbrev fixed : ℤ → Fixed
+fixed raw = record { 0 = raw }
 
--- the triangle whose second corner is at x: the node stored last starts the contour
-abbrev triangle_glyph : ℤ → GlyphIr
-triangle_glyph x = record {
-  number = 0;
-  place = 82;
-  masters = 1;
-  places = [] ∷ [];
-  layers =
-      record {
-        width = pos 500;
-        shapes = Path (record {
-          points = point (pos 16384000) (pos 45875200) ∷ point (pos 0) (pos 0)
-              ∷ point x (pos 0) ∷ [];
-        }) ∷ [];
-        anchors = [];
-      }
-      ∷ [];
+abbrev number : ℤ → F2Dot14
+number raw = record { 0 = raw }
+
+abbrev master : List ℕ → ℤ → ℤ → Master
+master id design location = record {
+  id = id;
+  design = fixed design ∷ [];
+  user = fixed design ∷ [];
+  location = number location ∷ [];
+  ascender = pos 0;
+  descender = pos 0;
+  cap = pos 0;
+  xheight = pos 0;
+  place = 0;
 }
 
-abbrev refusal : Rule → ℕ → Refusal
-refusal rule place = refusal_of RAW (codes "A") (record { rule = rule; place = place })
-
--- the triangle with another `closed`, another text for a coordinate, which is longer by so many
--- bytes, and another type
-abbrev variant : List ℕ → List ℕ → ℕ → List ℕ → Tree
-variant = triangle
-
--- each source, and what is answered of its glyph: the triangle, and the same where the coordinate
--- has a fraction of zero or is the greatest that is read; a cubic node is refused at the node, an
--- open contour at the path; a coordinate with a fraction and one beyond the greatest are refused at
--- the coordinate
-abbrev rows : List (Tree × Result GlyphIr Refusal)
-rows =
-    (variant (codes "1") (codes "500") 0 (codes "l"), Ok (triangle_glyph (pos 32768000)))
-    ∷ (variant (codes "1") (codes "500.0") 2 (codes "l"), Ok (triangle_glyph (pos 32768000)))
-    ∷ (variant (codes "1") (codes "16383") 2 (codes "l"), Ok (triangle_glyph (pos 1073676288)))
-    ∷ (variant (codes "1") (codes "500") 0 (codes "c"), Err (refusal CubicNode 181))
-    ∷ (variant (codes "0") (codes "500") 0 (codes "l"), Err (refusal OpenContour 137))
-    ∷ (variant (codes "1") (codes "500.5") 2 (codes "l"), Err (refusal NotWhole 171))
-    ∷ (variant (codes "1") (codes "16384") 2 (codes "l"), Err (refusal CoordinateTooLarge 171))
+abbrev ends : List Master
+ends =
+    master (codes "m1") (pos 26214400) (pos 0) ∷ master (codes "m2") (pos 45875200) (pos 16384)
     ∷ []
 
-pub rows-computed : map (λ row. glyph_of row.0 triangle_masters (codes "A") 0 40) rows
-    ≡ map (λ row. row.1) rows
-unfolding layers_on_literals
-rows-computed = refl
+-- 550 lies half of the way between them, 400 at the first one, and 800 beyond the second one
+at_550 : are_within ends 0 (fixed (pos 36044800) ∷ []) ≡ true
+at_550 = refl
 
--- with a second master, of which the glyph has no layer: it is refused at the glyph, where the
--- layers that are there fail nothing
-abbrev rows_of_two : List (Tree × Result GlyphIr Refusal)
-rows_of_two =
-    (variant (codes "1") (codes "500") 0 (codes "l"), Err (refusal MissingLayer 82))
-    ∷ (variant (codes "0") (codes "500") 0 (codes "l"), Err (refusal OpenContour 137))
-    ∷ []
+half_way : place_of ends 0 1 (fixed (pos 36044800) ∷ []) ≡ number (pos 8192) ∷ []
+unfolding place_of
+half_way = refl
 
-pub rows_of_two-computed : map (λ row. glyph_of row.0 more_masters (codes "A") 0 40) rows_of_two
-    ≡ map (λ row. row.1) rows_of_two
-unfolding layers_on_literals
-rows_of_two-computed = refl
+at_400 : are_within ends 0 (fixed (pos 26214400) ∷ []) ≡ true
+at_400 = refl
 
--- a layer without a width is refused at the layer
-pub no_width-refused : glyph_of triangle_without_width triangle_masters (codes "A") 0 38
-    ≡ Err (refusal MissingKey 110)
-unfolding layers_on_literals
-no_width-refused = refl
+at_800 : are_within ends 0 (fixed (pos 52428800) ∷ []) ≡ false
+at_800 = refl
 
--- a layer that names the master is the master's layer, also where its `attr` has `coordinates` and
--- `axisRules`
-pub attributes-read : glyph_of triangle_with_attributes triangle_masters (codes "A") 0 50
-    ≡ Ok (triangle_glyph (pos 32768000))
-unfolding layers_on_literals
-attributes-read = refl
+-- layers of both masters and one between them
+abbrev layers : List SourceLayer
+layers =
+    record { kind = a.Master; number = 1 } ∷ record { kind = a.Master; number = 2 }
+    ∷ record { kind = a.Intermediate; number = 3 } ∷ []
+
+abbrev places : ℤ → List (List F2Dot14)
+places between =
+    (number (pos 0) ∷ []) ∷ (number (pos 16384) ∷ []) ∷ (number between ∷ []) ∷ []
+
+-- the one at the first master's place is told
+between_them : (t : Tree) → same_place t layers (places (pos 8192)) ≡ None
+unfolding same_place first_repeat
+between_them t = refl
+
+at_the_first : (t : Tree) → same_place t layers (places (pos 0))
+    ≡ Some (record { rule = SameLayerPlace; place = place_at t 3 })
+unfolding same_place first_repeat
+at_the_first t = refl
+
+-- ---- forms
+
+abbrev point : ℤ → ℤ → Bool → DrawnPoint
+point x y on = record { x = fixed x; y = fixed y; on = on }
+
+abbrev layer : List Shape → LayerIr
+layer shapes = record { width = pos 500; shapes = shapes; anchors = [] }
+
+abbrev line : ℤ → Bool → Shape
+line x on = Path (record { points = point (pos 0) (pos 0) true ∷ point x (pos 7) on ∷ [] })
+
+abbrev component : List ℕ → ℤ → Shape
+component base x = Component base (fixed x, fixed (pos 0)) (fixed (pos 65536), fixed (pos 65536)) 0
+
+-- where points lie and components are put doesn't count
+moved : same_form (layer (line (pos 5) true ∷ component (codes "A") (pos 1) ∷ []))
+    (layer (line (pos 6) true ∷ component (codes "A") (pos 2) ∷ [])) ≡ true
+moved = refl
+
+off_the_curve : same_form (layer (line (pos 5) true ∷ [])) (layer (line (pos 5) false ∷ []))
+    ≡ false
+off_the_curve = refl
+
+other_base : same_form (layer (component (codes "A") (pos 1) ∷ []))
+    (layer (component (codes "B") (pos 1) ∷ [])) ≡ false
+other_base = refl
+
+other_kind : same_form (layer (line (pos 5) true ∷ []))
+    (layer (component (codes "A") (pos 1) ∷ [])) ≡ false
+other_kind = refl

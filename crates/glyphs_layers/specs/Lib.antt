@@ -1,4 +1,7 @@
-pub mod LayerReading
-pub mod LayerRules
-pub mod LayerTables
-pub mod OnLiterals
+pub mod SourceLayers
+pub mod GlyphRules
+pub mod GlyphPlaces
+pub mod Forms
+pub mod Bases
+pub mod GlyphReading
+pub mod GlyphTables

@@ -1,31 +1,53 @@
-ghost use Rattle.std.specs.Prelude.{◌≡◌, ◌<◌, ◌^◌, length, map, flat_map, slice_get, Ok, Err, IfOk};
-ghost use Rattle.std.specs.Prelude.{OnOk, IfSome};
-ghost use Rattle.glyphs_source.specs.HeaderReading.{header_of};
+ghost use Rattle.std.specs.Prelude.{◌≡◌, ◌<◌, ◌++◌, length, map, flat_map, Ok, IfOk, OnOk};
+ghost use Rattle.font_ir.specs.Headers.{IsHeader};
 ghost use Rattle.font_ir.specs.ReadGlyphs.{IsReadGlyph, HasNoComponents, HasNoAnchors};
-ghost use Rattle.refusal_codes.specs.First.{noted, foremost};
+ghost use Rattle.refusal_codes.specs.First.{noted, judged, refusal_of, or_next};
+ghost use Rattle.refusal_codes.specs.declared.job.TheConstants.{RAW};
 ghost use Rattle.refusal_codes.specs.Gives.{Gives};
-ghost use Rattle.glyphs_layers.specs.LayerRules.{layer_numbers, glyph_failures};
-ghost use Rattle.glyphs_layers.specs.LayerRules.{glyph_whole_failures};
-ghost use Rattle.glyphs_layers.specs.LayerReading.{master_layers, glyph_of};
+ghost use Rattle.layer_shapes.specs.LayerRules.{layer_failures};
+ghost use Rattle.glyphs_source.specs.HeaderReading.{header_of};
+ghost use Rattle.glyphs_source.specs.BuiltHeaders.{built_header_of};
+ghost use Rattle.glyphs_source.specs.IndexReading.{index_of};
+ghost use Rattle.glyphs_layers.specs.SourceLayers.{source_layers};
+ghost use Rattle.glyphs_layers.specs.GlyphRules.{place_failures, source_failures, glyph_failures};
+ghost use Rattle.glyphs_layers.specs.GlyphPlaces.{places_of, layers_failure, places_failure};
+ghost use Rattle.glyphs_layers.specs.Forms.{record_of};
+ghost use Rattle.glyphs_layers.specs.GlyphReading.{glyph_in, name_in, shapes_failure, glyph_record};
+ghost use Rattle.glyphs_layers.specs.GlyphReading.{whole_failure, glyph_of, forms_of};
+ghost use Rattle.glyphs_layers.specs.GlyphReading.{built_glyph_failures, built_glyph_of};
 
-use crate::layers::{Entry, read_layers};
-use font_ir::{GlyphIr, Header, LayerIr, Master, Name, locations_of};
-use glyphs_source::{GlyphIndex, headers_have_one_master};
+use crate::bases::{crowded_layer, unknown_component};
+use crate::forms::incompatible;
+use crate::layers::{SourceLayer, source_layers};
+use crate::places::{layers_failure, places_failure, places_of};
+use axis_space::first_repeat_is_the_first;
+use font_ir::{GlyphIr, Header, LayerIr, Name, made_notdef_is_flat};
+use glyphs_source::{
+    GlyphIndex, built_headers_are_read, built_headers_have_one_master, read_headers_are_whole,
+};
+use layer_shapes::{LayerKind, read_layer};
 use plain_lists::Sequence;
 use plist_reader::Tree;
-use refusal_codes::{Failure, FirstFailure, ReadError, Rule, job};
-use source_values::{Dictionary, Each, items_under, optional, place_at};
+use refusal_codes::{Failure, FirstFailure, ReadError, job};
+use source_axes::AxisCoordinate;
+use source_values::{Asked, Dictionary, Each, PlainText, optional, place_at};
 use std::alloc::{AllocError, Global};
+use unbuilt_forms::note_layer_forms;
 
-/// The layers of the glyph with this number in the index: one per master.
+/// The layers of the glyph with this number in the index: one per master, and in a font with axes
+/// the intermediate ones, in the order of the file (Glyphs file format, version 3). What is read
+/// fulfils what flattening asks of a glyph. Its places are normalised coordinates in 2.14 (OpenType
+/// 1.9, "Coordinate scales and normalization").
 ///
-/// The header and the index are those of the tree: the header is what `header` answers for it, and
-/// the glyph's dictionary is the one that its entry in the index names, so an index of another tree
-/// names another value.
+/// The header and the index are those of the tree: what `header` and `glyph_index` answer for it.
 ///
-/// The error is the least failure by place, then by rule, of the rules of single values; where none
-/// of them fails, it is that a master has no layer, and stands at the glyph. Or it is want of
-/// memory.
+/// The error is the least failure by place, then by rule, of the rules of single values, of the
+/// layers that are there. Where none of them fails, it is the first of these, fontc's own: a master
+/// has no layer, at the glyph; an intermediate layer has not one coordinate per axis between the
+/// masters' ends, at its coordinates; it lies where a master or an earlier layer does, at the layer;
+/// there are more than 64 layers, at the glyph; a layer can't be interpolated with the first
+/// master's, at the layer; a component names no glyph, at the component; a layer has more than 256
+/// components, at the layer. Or it is want of memory.
 pub fn raw_glyph(
     alloc: Global,
     tree: &Tree,
@@ -34,10 +56,44 @@ pub fn raw_glyph(
     number: u32,
 ) -> Result<GlyphIr, ReadError>
     requires header { header_of tree.now ≡ Ok header.now }
+    requires index { index_of tree.now ≡ Ok index.now }
     requires number { number < length index.now }
-    ensures record { IfSome (slice_get index.now number)
-        (λ entry. Gives (λ glyph. glyph) result
-        (glyph_of tree.now header.now.masters entry.0 number entry.1.node)) }
+    ensures record { Gives (λ glyph. glyph) result
+        (glyph_of tree.now header.now index.now number) }
+    ensures number { IfOk result (λ glyph. glyph.number ≡ number) }
+    ensures places { IfOk result (λ glyph. glyph.places
+        ≡ places_of tree.now header.now (glyph_in index.now number)) }
+    ensures read { IfOk result IsReadGlyph }
+{
+    read_headers_are_whole();
+    made_notdef_is_flat();
+    first_repeat_is_the_first();
+    let (name, entry) = index.at(number).unwrap();
+    let mut first = FirstFailure::new();
+    let glyph = Glyph {
+        number,
+        name,
+        node: entry.node,
+    };
+    let held = read_layers(alloc, tree, header, entry.node, &mut first)?;
+    judge(alloc, tree, header, index, glyph, held, first.get())
+}
+
+/// The layers of the glyph with this number in the index, for a program that doesn't take all forms
+/// of a layer yet: those of `unbuilt_forms` are told among the rules of single values, each of a
+/// wrong shape. What is read has no components and no anchors. All else is as in `raw_glyph`.
+pub fn built_glyph(
+    alloc: Global,
+    tree: &Tree,
+    header: &Header,
+    index: &GlyphIndex,
+    number: u32,
+) -> Result<GlyphIr, ReadError>
+    requires header { built_header_of tree.now ≡ Ok header.now }
+    requires index { index_of tree.now ≡ Ok index.now }
+    requires number { number < length index.now }
+    ensures record { Gives (λ glyph. glyph) result
+        (built_glyph_of tree.now header.now index.now number) }
     ensures number { IfOk result (λ glyph. glyph.number ≡ number) }
     ensures places { IfOk result (λ glyph. glyph.places
         ≡ map (λ master. master.location) header.now.masters) }
@@ -45,88 +101,218 @@ pub fn raw_glyph(
     ensures components { IfOk result HasNoComponents }
     ensures anchors { IfOk result HasNoAnchors }
 {
-    headers_have_one_master();
+    built_headers_are_read();
+    built_headers_have_one_master();
+    read_headers_are_whole();
+    made_notdef_is_flat();
+    first_repeat_is_the_first();
     let (name, entry) = index.at(number).unwrap();
-    read_glyph(
-        alloc,
-        tree,
-        header.masters.as_slice(),
-        name,
+    let mut first = FirstFailure::new();
+    let glyph = Glyph {
         number,
-        entry.node,
-    )
+        name,
+        node: entry.node,
+    };
+    let held = read_layers(alloc, tree, header, entry.node, &mut first)?;
+    note_forms(tree, held.layers.as_slice(), &mut first);
+    judge(alloc, tree, header, index, glyph, held, first.get())
 }
 
-/// The layers of the glyph with this name, number and dictionary.
-#[tactic(auto, unfolding(crate::specs::LayerReading::glyph_of, crate::specs::LayerReading::glyph_record))]
-fn read_glyph(
+/// Notes the forms of these layers that the program doesn't take yet.
+fn note_forms(tree: &Tree, layers: &[SourceLayer], first: &mut FirstFailure)
+    ensures { first.new ≡ noted first.old (flat_map (forms_of tree.now) layers.now) }
+{
+    for layer in layers {
+        note_layer_forms(tree, layer.number, first);
+    }
+}
+
+/// A glyph of the source: its number, its name and its dictionary.
+#[derive(Clone, Copy)]
+struct Glyph<'a> {
+    number: u32,
+    name: &'a Name,
+    node: u32,
+}
+
+/// The layers that are read, and what each of them holds.
+#[derive(Drop)]
+struct Held {
+    layers: Vec<SourceLayer>,
+    records: Vec<LayerIr>,
+}
+
+/// The layers of a glyph, and what fails of them by the rules of single values.
+#[tactic(auto, using(refusal_codes::specs::FirstLaws::noting), unfolding(crate::specs::GlyphRules::glyph_failures, crate::specs::GlyphRules::entries_failures))]
+fn read_layers(
     alloc: Global,
     tree: &Tree,
-    masters: &[Master],
-    name: &Name,
-    number: u32,
+    header: &Header,
     glyph: u32,
-) -> Result<GlyphIr, ReadError>
-    requires { length masters.now < 2 ^ 32 }
-    ensures record { Gives (λ glyph. glyph) result
-        (glyph_of tree.now masters.now name.now number glyph) }
-    ensures places { IfOk result (λ read. read.places
-        ≡ map (λ master. master.location) masters.now) }
+    first: &mut FirstFailure,
+) -> Result<Held, AllocError>
+    ensures layers { IfOk result (λ held. held.layers.items
+        ≡ source_layers tree.now header.now glyph) }
+    ensures records { IfOk result (λ held. held.records.items
+        ≡ map (record_of tree.now) (source_layers tree.now header.now glyph)) }
+    ensures failures { OnOk result (first.new
+        ≡ noted first.old (glyph_failures tree.now header.now glyph)) }
 {
-    let mut first = FirstFailure::new();
-    let layers = glyph_layers(alloc, tree, masters, glyph, &mut first)?;
-    if let Some(failure) = first.get() {
-        return Err(failure.refused(job::RAW, name.copy(alloc)?));
+    optional(tree, glyph, b"layers", &Each(Dictionary(Entry)), first);
+    let layers = source_layers(alloc, tree, header, glyph)?;
+    let records = read_each(alloc, tree, layers.as_slice(), first)?;
+    Ok(Held { layers, records })
+}
+
+/// What each layer of a glyph holds, also where it is not read.
+#[derive(Clone, Copy)]
+struct Entry;
+
+impl Asked for Entry {
+    ghost use Rattle.glyphs_layers.specs.GlyphRules.{entry_failures};
+
+    ghost failures = { λ asked. entry_failures };
+
+    #[tactic(auto, unfolding(crate::specs::GlyphRules::entry_failures))]
+    fn note(&self, tree: &Tree, layer: u32, first: &mut FirstFailure) {
+        optional(tree, layer, b"layerId", &PlainText, first);
     }
-    if let Some(failure) = missing_layer(tree, masters, glyph, layers.as_slice()) {
-        return Err(failure.refused(job::RAW, name.copy(alloc)?));
+}
+
+/// What these layers hold, and what fails of them.
+fn read_each(
+    alloc: Global,
+    tree: &Tree,
+    layers: &[SourceLayer],
+    first: &mut FirstFailure,
+) -> Result<Vec<LayerIr>, AllocError>
+    ensures records { IfOk result (λ records. records.items
+        ≡ map (record_of tree.now) layers.now) }
+    ensures failures { OnOk result (first.new
+        ≡ noted first.old (flat_map (source_failures tree.now) layers.now)) }
+{
+    let mut records = Vec::with_capacity(alloc, layers.len())?;
+    for layer in layers {
+        records.push(read_one(alloc, tree, layer, first)?)?;
+    }
+    Ok(records)
+}
+
+#[tactic(auto, using(refusal_codes::specs::FirstLaws::noting))]
+fn read_one(
+    alloc: Global,
+    tree: &Tree,
+    layer: &SourceLayer,
+    first: &mut FirstFailure,
+) -> Result<LayerIr, AllocError>
+    ensures record { IfOk result (λ held. held ≡ record_of tree.now layer.now) }
+    ensures failures { OnOk result (first.new
+        ≡ noted first.old (source_failures tree.now layer.now)) }
+{
+    note_place(tree, layer, first);
+    read_layer(alloc, tree, layer.number, layer.kind, first)
+}
+
+/// Notes what fails of where a layer says that it lies.
+#[tactic(auto, unfolding(crate::specs::GlyphRules::coordinates_failures))]
+fn note_place(tree: &Tree, layer: &SourceLayer, first: &mut FirstFailure)
+    ensures { first.new
+        ≡ noted first.old (place_failures layer.now.kind tree.now layer.now.number) }
+{
+    match layer.kind {
+        LayerKind::Master => {}
+        LayerKind::Intermediate => {
+            optional(tree, layer.number, b"attr", &Attributes, first);
+        }
+    }
+}
+
+/// The `attr` of an intermediate layer.
+#[derive(Clone, Copy)]
+struct Attributes;
+
+impl Asked for Attributes {
+    ghost use Rattle.std.specs.Prelude.{codes};
+    ghost use Rattle.source_values.specs.Asking.{optional, each};
+    ghost use Rattle.source_axes.specs.AxisValues.{axis_value_failures};
+
+    ghost failures = { λ asked. optional (codes "coordinates") (each axis_value_failures) };
+
+    fn note(&self, tree: &Tree, attributes: u32, first: &mut FirstFailure) {
+        optional(
+            tree,
+            attributes,
+            b"coordinates",
+            &Each(AxisCoordinate),
+            first,
+        );
+    }
+}
+
+/// The glyph of these layers, unless a local rule fails, which is the failure given, or a whole
+/// rule.
+#[tactic(auto, unfolding(crate::specs::GlyphReading::glyph_record, crate::specs::GlyphReading::whole_failure))]
+fn judge(
+    alloc: Global,
+    tree: &Tree,
+    header: &Header,
+    index: &GlyphIndex,
+    glyph: Glyph,
+    held: Held,
+    local: Option<Failure>,
+) -> Result<GlyphIr, ReadError>
+    requires header { IsHeader header.now }
+    requires layers { held.layers.items ≡ source_layers tree.now header.now glyph.node }
+    requires records { held.records.items
+        ≡ map (record_of tree.now) (source_layers tree.now header.now glyph.node) }
+    ensures { Gives (λ read. read) result (judged (refusal_of RAW glyph.entry.name.now) local
+        (whole_failure tree.now header.now index.now glyph.entry.node)
+        (glyph_record tree.now header.now glyph.entry.number glyph.entry.node)) }
+{
+    let layers = held.layers.as_slice();
+    if let Some(failure) = local {
+        return Err(failure.refused(job::RAW, glyph.name.copy(alloc)?));
+    }
+    if let Some(failure) = layers_failure(alloc, tree, header, glyph.node, layers)? {
+        return Err(failure.refused(job::RAW, glyph.name.copy(alloc)?));
+    }
+    let places = places_of(alloc, tree, header, glyph.node, layers)?;
+    if let Some(failure) = places_failure(alloc, tree, glyph.node, layers, places.as_slice())? {
+        return Err(failure.refused(job::RAW, glyph.name.copy(alloc)?));
+    }
+    if let Some(failure) = shapes_failure(alloc, tree, index, layers, held.records.as_slice())? {
+        return Err(failure.refused(job::RAW, glyph.name.copy(alloc)?));
     }
     Ok(GlyphIr {
-        number,
-        place: place_at(tree, glyph),
-        masters: masters.len() as u32,
-        places: locations_of(alloc, masters)?,
-        layers: Sequence::from_vec(layers),
+        number: glyph.number,
+        place: place_at(tree, glyph.node),
+        masters: header.masters.len() as u32,
+        places: Sequence::from_vec(places),
+        layers: Sequence::from_vec(held.records),
     })
 }
 
-/// The whole rule that a glyph's layers fail: that a master has none.
-fn missing_layer(tree: &Tree, masters: &[Master], glyph: u32, layers: &[LayerIr]) -> Option<Failure>
-    requires { layers.now ≡ flat_map (master_layers tree.now (layer_numbers tree.now glyph))
-        masters.now }
-    ensures { result ≡ foremost (glyph_whole_failures tree.now masters.now glyph) }
-{
-    let missing = layers.len() < masters.len();
-    if missing {
-        Some(Failure {
-            rule: Rule::MissingLayer,
-            place: place_at(tree, glyph),
-        })
-    } else {
-        None
-    }
-}
-
-/// The layers of the masters that have one, and what fails of the glyph's layers.
-#[tactic(auto, using(refusal_codes::specs::FirstLaws::noting), unfolding(crate::specs::LayerRules::glyph_failures, crate::specs::LayerRules::entries_failures, crate::specs::LayerRules::layer_numbers))]
-fn glyph_layers(
+/// The first layer that can't be interpolated with the first one, or else the first component that
+/// names no glyph, or else the first layer with too many components.
+#[tactic(auto, unfolding(crate::specs::GlyphReading::shapes_failure))]
+fn shapes_failure(
     alloc: Global,
     tree: &Tree,
-    masters: &[Master],
-    glyph: u32,
-    first: &mut FirstFailure,
-) -> Result<Vec<LayerIr>, AllocError>
-    ensures layers { IfOk result (λ layers. layers.items
-        ≡ flat_map (master_layers tree.now (layer_numbers tree.now glyph)) masters.now) }
-    ensures failures { OnOk result (first.new
-        ≡ noted first.old (glyph_failures tree.now masters.now glyph)) }
+    index: &GlyphIndex,
+    layers: &[SourceLayer],
+    records: &[LayerIr],
+) -> Result<Option<Failure>, AllocError>
+    requires { records.now ≡ map (record_of tree.now) layers.now }
+    ensures { IfOk result (λ failure. failure
+        ≡ shapes_failure tree.now index.now layers.now) }
 {
-    optional(tree, glyph, b"layers", &Each(Dictionary(Entry)), first);
-    read_layers(
-        alloc,
-        tree,
-        items_under(tree, glyph, b"layers"),
-        masters,
-        first,
-    )
+    let unlike = incompatible(tree, layers, records);
+    if unlike.is_some() {
+        return Ok(unlike);
+    }
+    let unknown = unknown_component(alloc, tree, index, layers)?;
+    if unknown.is_some() {
+        return Ok(unknown);
+    }
+    Ok(crowded_layer(tree, layers, records))
 }

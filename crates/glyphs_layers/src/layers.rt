@@ -1,159 +1,183 @@
-ghost use Rattle.std.specs.Prelude.{◌≡◌, ◌++◌, flat_map, IfOk, OnOk};
-ghost use Rattle.std.specs.List.{find};
-ghost use Rattle.refusal_codes.specs.First.{noted};
-ghost use Rattle.source_values.specs.Values.{items_under};
-ghost use Rattle.glyphs_layers.specs.LayerRules.{shape_failures, shapes_failures, layer_failures};
-ghost use Rattle.glyphs_layers.specs.LayerRules.{entry_failures, is_layer_of, layer_of};
-ghost use Rattle.glyphs_layers.specs.LayerRules.{master_failures};
-ghost use Rattle.glyphs_layers.specs.LayerReading.{shapes_of, all_shapes, layer_record};
-ghost use Rattle.glyphs_layers.specs.LayerReading.{master_layers};
+ghost use Rattle.std.specs.Prelude.{◌≡◌, ◌++◌, IfOk, OnOk, flat_map};
+ghost use Rattle.glyphs_layers.specs.SourceLayers.{layer_numbers, is_layer_of, layer_of, layers_of};
+ghost use Rattle.glyphs_layers.specs.SourceLayers.{masters_layers, attribute_at, has_attribute};
+ghost use Rattle.glyphs_layers.specs.SourceLayers.{names_a_master, is_intermediate};
+ghost use Rattle.glyphs_layers.specs.SourceLayers.{if_intermediate, intermediate_layers};
+ghost use Rattle.glyphs_layers.specs.SourceLayers.{source_layers};
 
-use crate::paths::read_shape;
-use font_ir::{LayerIr, Master, Shape};
-use plain_lists::Sequence;
+use font_ir::{Header, Master};
+use layer_shapes::LayerKind;
 use plist_reader::Tree;
-use refusal_codes::{FirstFailure, Rule};
-use source_values::{
-    Asked, EmptyList, NaturalOr, PlainText, items_at, note_at, optional, required_natural,
-    text_under,
-};
+use source_values::{items_under, text_under};
 use std::alloc::{AllocError, Global};
 
-/// What each layer of a glyph holds, also where it is no master's.
-#[derive(Clone, Copy)]
-pub struct Entry;
-
-impl Asked for Entry {
-    ghost failures = { λ asked. entry_failures };
-
-    #[tactic(auto, unfolding(crate::specs::LayerRules::entry_failures))]
-    fn note(&self, tree: &Tree, layer: u32, first: &mut FirstFailure) {
-        optional(tree, layer, b"layerId", &PlainText, first);
-    }
+/// A layer of a glyph that is read, by its number in the tree.
+#[derive(Clone, Copy, Debug)]
+pub struct SourceLayer {
+    pub kind: LayerKind,
+    pub number: u32,
 }
 
-/// The layers of the masters that have one, and what fails of them.
-pub fn read_layers(
+/// The layers of a glyph that are read: those of the masters that have one, and then the
+/// intermediate ones.
+#[tactic(auto, unfolding(crate::specs::SourceLayers::source_layers))]
+pub fn source_layers(
     alloc: Global,
     tree: &Tree,
-    numbers: &[u32],
+    header: &Header,
+    glyph: u32,
+) -> Result<Vec<SourceLayer>, AllocError>
+    ensures { IfOk result (λ layers. layers.items ≡ source_layers tree.now header.now glyph) }
+{
+    let numbers = layer_numbers(tree, glyph);
+    let mut layers = masters_layers(alloc, tree, header.masters.as_slice(), numbers)?;
+    add_intermediate_layers(tree, header, numbers, &mut layers)?;
+    Ok(layers)
+}
+
+/// The values of a glyph's list of layers.
+#[tactic(auto, unfolding(crate::specs::SourceLayers::layer_numbers))]
+pub fn layer_numbers(tree: &Tree, glyph: u32) -> &[u32]
+    ensures { result.now ≡ layer_numbers tree.now glyph }
+{
+    items_under(tree, glyph, b"layers")
+}
+
+/// The layer of each master that has one.
+fn masters_layers(
+    alloc: Global,
+    tree: &Tree,
     masters: &[Master],
-    first: &mut FirstFailure,
-) -> Result<Vec<LayerIr>, AllocError>
-    ensures layers { IfOk result (λ layers. layers.items
-        ≡ flat_map (master_layers tree.now numbers.now) masters.now) }
-    ensures failures { OnOk result (first.new
-        ≡ noted first.old (flat_map (master_failures tree.now numbers.now) masters.now)) }
+    numbers: &[u32],
+) -> Result<Vec<SourceLayer>, AllocError>
+    ensures { IfOk result (λ layers. layers.items
+        ≡ masters_layers tree.now masters.now numbers.now) }
 {
     let mut layers = Vec::with_capacity(alloc, masters.len())?;
     for master in masters {
-        push_layer(alloc, tree, numbers, master, &mut layers, first)?;
+        add_masters_layer(tree, master, numbers, &mut layers)?;
     }
     Ok(layers)
 }
 
-/// Adds a master's layer, where it is there.
-fn push_layer(
-    alloc: Global,
+fn add_masters_layer(
     tree: &Tree,
-    numbers: &[u32],
     master: &Master,
-    layers: &mut Vec<LayerIr>,
-    first: &mut FirstFailure,
+    numbers: &[u32],
+    layers: &mut Vec<SourceLayer>,
 ) -> Result<(), AllocError>
-    ensures layers { OnOk result (layers.new.items
-        ≡ layers.old.items ++ master_layers tree.now numbers.now master.now) }
-    ensures failures { OnOk result (first.new
-        ≡ noted first.old (master_failures tree.now numbers.now master.now)) }
+    ensures { OnOk result (layers.new.items
+        ≡ layers.old.items ++ layers_of tree.now numbers.now master.now) }
 {
-    if let Some(layer) = layer_of(tree, numbers, master) {
-        layers.push(read_layer(alloc, tree, layer, first)?)?;
+    if let Some(number) = layer_of(tree, numbers, master) {
+        layers.push(SourceLayer {
+            kind: LayerKind::Master,
+            number,
+        })?;
     }
     Ok(())
 }
 
 /// The number of a master's layer.
-fn layer_of(tree: &Tree, layers: &[u32], master: &Master) -> Option<u32>
-    ensures { result ≡ layer_of tree.now layers.now master.now }
+fn layer_of(tree: &Tree, numbers: &[u32], master: &Master) -> Option<u32>
+    ensures { result ≡ layer_of tree.now numbers.now master.now }
 {
-    for layer in layers {
-        if is_layer_of(tree, master.id.as_bytes(), *layer) {
-            return Some(*layer);
+    for number in numbers {
+        if is_layer_of(tree, master.id.as_bytes(), *number) {
+            return Some(*number);
         }
     }
     None
 }
 
-fn is_layer_of(tree: &Tree, id: &[u8], layer: u32) -> bool
-    ensures { result ≡ is_layer_of tree.now id.now layer }
+fn is_layer_of(tree: &Tree, id: &[u8], number: u32) -> bool
+    ensures { result ≡ is_layer_of tree.now id.now number }
 {
-    match text_under(tree, layer, b"layerId") {
+    match text_under(tree, number, b"layerId") {
         Some(text) => text.as_bytes() == id,
         None => false,
     }
 }
 
-#[tactic(auto, using(refusal_codes::specs::FirstLaws::noting), unfolding(crate::specs::LayerRules::layer_failures, crate::specs::LayerReading::layer_record))]
-fn read_layer(
-    alloc: Global,
+/// Adds the intermediate layers, in a font with axes.
+fn add_intermediate_layers(
     tree: &Tree,
-    layer: u32,
-    first: &mut FirstFailure,
-) -> Result<LayerIr, AllocError>
-    ensures layer { IfOk result (λ read. read ≡ layer_record tree.now layer) }
-    ensures failures { OnOk result (first.new ≡ noted first.old (layer_failures tree.now layer)) }
+    header: &Header,
+    numbers: &[u32],
+    layers: &mut Vec<SourceLayer>,
+) -> Result<(), AllocError>
+    ensures { OnOk result (layers.new.items
+        ≡ layers.old.items ++ intermediate_layers tree.now header.now numbers.now) }
 {
-    let width = NaturalOr {
-        low: 0,
-        high: 32767,
-        missing: 0,
-    };
-    let width = required_natural(tree, layer, b"width", width, first);
-    let shapes = read_shapes_under(alloc, tree, layer, first)?;
-    optional(tree, layer, b"anchors", &EmptyList, first);
-    Ok(LayerIr {
-        width: i32::from(width),
-        shapes,
-        anchors: Sequence::new(alloc),
-    })
+    if header.axes.is_empty() {
+        Ok(())
+    } else {
+        add_each_intermediate(tree, header.masters.as_slice(), numbers, layers)
+    }
 }
 
-/// The shapes of a layer, none where it has no such list.
-#[tactic(auto, unfolding(crate::specs::LayerRules::shapes_failures))]
-fn read_shapes_under(
-    alloc: Global,
+fn add_each_intermediate(
     tree: &Tree,
-    layer: u32,
-    first: &mut FirstFailure,
-) -> Result<Sequence<Shape>, AllocError>
-    ensures shapes { IfOk result (λ shapes. shapes ≡ all_shapes tree.now layer) }
-    ensures failures { OnOk result (first.new ≡ noted first.old (shapes_failures tree.now layer)) }
+    masters: &[Master],
+    numbers: &[u32],
+    layers: &mut Vec<SourceLayer>,
+) -> Result<(), AllocError>
+    ensures { OnOk result (layers.new.items
+        ≡ layers.old.items ++ flat_map (if_intermediate tree.now masters.now) numbers.now) }
 {
-    let Some(number) = tree.find(layer, b"shapes") else {
-        return Ok(Sequence::new(alloc));
-    };
-    match items_at(tree, number) {
-        Some(numbers) => read_shapes(alloc, tree, numbers, first),
-        None => {
-            note_at(tree, number, Rule::WrongShape, first);
-            Ok(Sequence::new(alloc))
+    for number in numbers {
+        add_if_intermediate(tree, masters, *number, layers)?;
+    }
+    Ok(())
+}
+
+fn add_if_intermediate(
+    tree: &Tree,
+    masters: &[Master],
+    number: u32,
+    layers: &mut Vec<SourceLayer>,
+) -> Result<(), AllocError>
+    ensures { OnOk result (layers.new.items
+        ≡ layers.old.items ++ if_intermediate tree.now masters.now number) }
+{
+    if is_intermediate(tree, masters, number) {
+        layers.push(SourceLayer {
+            kind: LayerKind::Intermediate,
+            number,
+        })?;
+    }
+    Ok(())
+}
+
+fn is_intermediate(tree: &Tree, masters: &[Master], number: u32) -> bool
+    ensures { result ≡ is_intermediate tree.now masters.now number }
+{
+    has_attribute(tree, number, b"coordinates")
+        && !has_attribute(tree, number, b"axisRules")
+        && !names_a_master(tree, masters, number)
+}
+
+fn has_attribute(tree: &Tree, number: u32, key: &[u8]) -> bool
+    ensures { result ≡ has_attribute tree.now number key.now }
+{
+    attribute_at(tree, number, key).is_some()
+}
+
+/// What the `attr` of a layer has under a key.
+pub fn attribute_at(tree: &Tree, number: u32, key: &[u8]) -> Option<u32>
+    ensures { result ≡ attribute_at tree.now number key.now }
+{
+    tree.find(tree.find(number, b"attr")?, key)
+}
+
+/// Whether a layer names one of the masters.
+fn names_a_master(tree: &Tree, masters: &[Master], number: u32) -> bool
+    ensures { result ≡ names_a_master tree.now masters.now number }
+{
+    for master in masters {
+        if is_layer_of(tree, master.id.as_bytes(), number) {
+            return true;
         }
     }
-}
-
-fn read_shapes(
-    alloc: Global,
-    tree: &Tree,
-    numbers: &[u32],
-    first: &mut FirstFailure,
-) -> Result<Sequence<Shape>, AllocError>
-    ensures shapes { IfOk result (λ shapes. shapes ≡ flat_map (shapes_of tree.now) numbers.now) }
-    ensures failures { OnOk result (first.new
-        ≡ noted first.old (flat_map (shape_failures tree.now) numbers.now)) }
-{
-    let mut shapes = Vec::with_capacity(alloc, numbers.len())?;
-    for number in numbers {
-        read_shape(alloc, tree, *number, &mut shapes, first)?;
-    }
-    Ok(Sequence::from_vec(shapes))
+    false
 }

@@ -1,15 +1,12 @@
-//! Reads the layers of a glyph of a Glyphs source.
+//! Reads the layers of a glyph of a Glyphs source: those of the masters, and the intermediate ones.
 #![tactic(auto)]
 
+mod bases;
+mod forms;
 mod glyph_layers;
 mod layers;
-mod paths;
+mod places;
 mod rule_laws;
 
-pub use glyph_layers::raw_glyph;
-pub use paths::last_items_go_first;
-pub use rule_laws::{
-    cubic_nodes_are_refused, fractions_in_layers_are_refused, large_coordinates_are_refused,
-    layer_rules_are_tabled, missing_keys_are_refused, open_contours_are_refused,
-    widths_are_bounded,
-};
+pub use glyph_layers::{built_glyph, raw_glyph};
+pub use rule_laws::{forms_are_compared, glyph_rules_are_tabled, other_forms_are_refused};

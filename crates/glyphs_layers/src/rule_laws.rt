@@ -1,46 +1,22 @@
-ghost use Rattle.glyphs_layers.specs.LayerTables.{LayersAreTabled, CubicNodesAreRefused};
-ghost use Rattle.glyphs_layers.specs.LayerTables.{OpenContoursAreRefused, MissingKeysAreRefused};
-ghost use Rattle.glyphs_layers.specs.LayerTables.{WidthsAreBounded, LargeCoordinatesAreRefused};
-ghost use Rattle.glyphs_layers.specs.LayerTables.{FractionsInLayersAreRefused};
+ghost use Rattle.glyphs_layers.specs.Forms.{FormsAreCompared, OtherFormsAreRefused};
+ghost use Rattle.glyphs_layers.specs.GlyphTables.{GlyphsAreTabled};
 
-/// A local rule of a glyph's layers fails at a place exactly where the tables of what is asked of
-/// layers say so. A law: the function does nothing.
-pub fn layer_rules_are_tabled()
-    ensures { LayersAreTabled }
+/// A local rule of a glyph fails at a place exactly where the tables of what is asked of its list of
+/// layers and of coordinates say so, or where a layer that is read fails it. A law: the function
+/// does nothing.
+pub fn glyph_rules_are_tabled()
+    ensures { GlyphsAreTabled }
 {}
 
-/// A cubic node is refused exactly where a layer of a master has a node of type `c` or `cs`. A law:
-/// the function does nothing.
-pub fn cubic_nodes_are_refused()
-    ensures { CubicNodesAreRefused }
+/// Two layers are found to be of one form exactly where what is the same at each place is the same
+/// of them: which points of each path are on the curve, and the bases of components. A law: the
+/// function does nothing.
+pub fn forms_are_compared()
+    ensures { FormsAreCompared }
 {}
 
-/// An open contour is refused exactly where a layer of a master has a path whose `closed` is 0. A
-/// law: the function does nothing.
-pub fn open_contours_are_refused()
-    ensures { OpenContoursAreRefused }
-{}
-
-/// A key is missing exactly where a layer of a master has no `width`, or a shape of such a layer
-/// has neither `nodes` nor `ref`. A law: the function does nothing.
-pub fn missing_keys_are_refused()
-    ensures { MissingKeysAreRefused }
-{}
-
-/// A width is out of range exactly where a layer of a master has a whole `width` that is not from 0
-/// to 32767. A law: the function does nothing.
-pub fn widths_are_bounded()
-    ensures { WidthsAreBounded }
-{}
-
-/// A coordinate is too large exactly where a node of a layer of a master has a whole x or y of more
-/// than 16383 in size. A law: the function does nothing.
-pub fn large_coordinates_are_refused()
-    ensures { LargeCoordinatesAreRefused }
-{}
-
-/// A number isn't whole exactly where the `width` of a layer of a master, `closed` of one of its
-/// paths, or x or y of one of their nodes has a fraction. A law: the function does nothing.
-pub fn fractions_in_layers_are_refused()
-    ensures { FractionsInLayersAreRefused }
+/// The layer that is refused, since it can't be interpolated with the first one, is the first of
+/// another form. A law: the function does nothing.
+pub fn other_forms_are_refused()
+    ensures { OtherFormsAreRefused }
 {}

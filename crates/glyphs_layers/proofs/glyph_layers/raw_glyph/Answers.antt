@@ -1,43 +1,48 @@
-use Rattle.std.proofs.Common.{◌<◌, ◌^◌, length, subst, sym, List}
-use Rattle.font_ir.specs.declared.header.Master.{Master}
-use Rattle.glyphs_layers.proofs.ReadLaws.{few_masters, read_facts, read_number, read_read}
-use Rattle.glyphs_layers.proofs.ReadLaws.{read_components, read_anchors}
+use Rattle.std.proofs.Common.{◌∙◌, ap, sym, Option}
+use Rattle.std.specs.Prelude.{IfOk, option_map}
+use Rattle.font_ir.specs.declared.glyph.GlyphIr.{GlyphIr}
+use Rattle.refusal_codes.specs.declared.first.Failure.{Failure}
+use Rattle.refusal_codes.specs.Gives.{Gives}
+use Rattle.refusal_codes.specs.First.{noted}
+use Rattle.layer_shapes.specs.LayerLaws.{layer_is_read}
+use Rattle.glyphs_layers.specs.GlyphRules.{glyph_failures}
+use Rattle.glyphs_layers.specs.GlyphReading.{glyph_in, glyph_of}
+use Rattle.glyphs_layers.proofs.ReadLaws.{Facts, judged_facts, given_answer, fact_number}
+use Rattle.glyphs_layers.proofs.ReadLaws.{fact_places, fact_read}
 use Rattle.glyphs_layers.proofs.glyph_layers.raw_glyph.Goals as goal
 
-pub read_glyph-requires : goal.read_glyph-requires
-read_glyph-requires c =
-    subst (λ (masters : List Master). length masters < 2 ^ 32) (sym c.as_slice.ensures)
-    (few_masters c.args.header.now (c.headers_have_one_master.ensures c.args.tree.now
-    c.args.header.now c.requires.header))
+given : (c : goal.After-judge) → Gives (λ (x : GlyphIr). x) c.judge.result
+    (glyph_of c.args.tree.now c.args.header.now c.args.index.now c.args.number)
+given c =
+    let got = c.unwrap.result in
+    let t = c.args.tree.now in
+    let h = c.args.header.now in
+    given_answer t h c.args.index.now c.args.number (glyph_failures t h) (got.0.now, got.1.now)
+    (sym c.at.ensures ∙ ap (option_map (λ entry. (entry.0.now, entry.1.now))) c.unwrap.ensures)
+    c.get.result
+    (c.get.ensures ∙ c.in_ok-held.ensures.failures
+    ∙ ap (λ (least : Option Failure). noted least (glyph_failures t h got.1.now.node))
+    c.new-first.ensures)
+    c.judge.result c.judge.ensures
+
+facts : (c : goal.After-judge) → IfOk c.judge.result (Facts c.args.tree.now layer_is_read
+    c.args.header.now c.args.number (glyph_in c.args.index.now c.args.number))
+facts c =
+    let h = c.args.header.now in
+    let is = c.read_headers_are_whole.ensures c.args.tree.now h c.requires.header in
+    judged_facts c.args.tree.now layer_is_read
+    (glyph_failures c.args.tree.now h (glyph_in c.args.index.now c.args.number)) h
+    c.args.index.now c.args.number is (c.made_notdef_is_flat.ensures h is)
+    c.first_repeat_is_the_first.ensures c.judge.result (given c)
+
+pub returns-clause-record : goal.returns-clause-record
+returns-clause-record c = given c
 
 pub returns-clause-number : goal.returns-clause-number
-returns-clause-number c =
-    read_number c.args.number c.read_glyph.result
-    (read_facts c.args.tree.now c.args.header.now
-    (c.headers_have_one_master.ensures c.args.tree.now c.args.header.now c.requires.header)
-    c.as_slice.result.now c.as_slice.ensures _ c.args.number _ c.read_glyph.result
-    c.read_glyph.ensures.record)
+returns-clause-number c = fact_number _ _ _ _ _ c.judge.result (facts c)
+
+pub returns-clause-places : goal.returns-clause-places
+returns-clause-places c = fact_places _ _ _ _ _ c.judge.result (facts c)
 
 pub returns-clause-read : goal.returns-clause-read
-returns-clause-read c =
-    read_read c.args.number c.read_glyph.result
-    (read_facts c.args.tree.now c.args.header.now
-    (c.headers_have_one_master.ensures c.args.tree.now c.args.header.now c.requires.header)
-    c.as_slice.result.now c.as_slice.ensures _ c.args.number _ c.read_glyph.result
-    c.read_glyph.ensures.record)
-
-pub returns-clause-components : goal.returns-clause-components
-returns-clause-components c =
-    read_components c.args.number c.read_glyph.result
-    (read_facts c.args.tree.now c.args.header.now
-    (c.headers_have_one_master.ensures c.args.tree.now c.args.header.now c.requires.header)
-    c.as_slice.result.now c.as_slice.ensures _ c.args.number _ c.read_glyph.result
-    c.read_glyph.ensures.record)
-
-pub returns-clause-anchors : goal.returns-clause-anchors
-returns-clause-anchors c =
-    read_anchors c.args.number c.read_glyph.result
-    (read_facts c.args.tree.now c.args.header.now
-    (c.headers_have_one_master.ensures c.args.tree.now c.args.header.now c.requires.header)
-    c.as_slice.result.now c.as_slice.ensures _ c.args.number _ c.read_glyph.result
-    c.read_glyph.ensures.record)
+returns-clause-read c = fact_read _ _ _ _ _ c.judge.result (facts c)
