@@ -50,6 +50,7 @@ use Rattle.glyphs_layers.specs.Forms.{same_form, record_of, unlike_first, incomp
 use Rattle.glyphs_layers.specs.Bases.{unknown_components, too_many_components}
 use Rattle.glyphs_layers.specs.GlyphReading.{name_in, glyph_in, shapes_failure, whole_failure}
 use Rattle.glyphs_layers.specs.GlyphReading.{glyph_record, judged_glyph}
+use Rattle.glyphs_layers.specs.MastersAlone.{location_of, own, none_own, masters_places}
 use Rattle.glyphs_layers.proofs.FormLaws.{compared}
 
 -- ---- failures that aren't there
@@ -74,26 +75,7 @@ only_fails false f e = absurd cc
 
 -- ---- the layers and their places
 
-abbrev location_of : Master → List F2Dot14
-location_of m = m.location
-
 module _ (t : Tree) (h : Header) where
-  abbrev own : List SourceLayer → List (List F2Dot14)
-  own layers = flat_map (own_place t h) layers
-
-  -- the layers of masters have no place of their own
-  none_own_by : (o : Option ℕ) (behind rest : List SourceLayer) (places : List (List F2Dot14))
-      → own (behind ++ rest) ≡ places
-      → own ((option_map_or masters_layer o [] ++ behind) ++ rest) ≡ places
-  none_own_by None behind rest places e = e
-  none_own_by (Some n) behind rest places e = e
-
-  none_own : (ns : List ℕ) (ms : List Master) (rest : List SourceLayer)
-      → own (masters_layers t ms ns ++ rest) ≡ own rest
-  none_own ns [] rest = refl
-  none_own ns (m ∷ ms) rest =
-      none_own_by (layer_of t ns m) (masters_layers t ms ns) rest (own rest) (none_own ns ms rest)
-
   -- where each master has a layer, there are as many of them
   many_by : (o : Option ℕ) (all : Bool) (behind rest : List SourceLayer) (n : ℕ)
       → (is_some o && all) ≡ true → (all ≡ true → length (behind ++ rest) ≡ n)
@@ -112,39 +94,39 @@ module _ (t : Tree) (h : Header) where
 
   -- an intermediate layer has a place of its own
   each_own_by : (n : ℕ) (b : Bool) (behind : List SourceLayer)
-      → length (own behind) ≡ length behind
-      → length (own (cond b (record { kind = a.Intermediate; number = n } ∷ []) [] ++ behind))
+      → length (own t h behind) ≡ length behind
+      → length (own t h (cond b (record { kind = a.Intermediate; number = n } ∷ []) [] ++ behind))
       ≡ length (cond b (record { kind = a.Intermediate; number = n } ∷ []) [] ++ behind)
   each_own_by n true behind e = omega (arith, e)
   each_own_by n false behind e = e
 
   each_own : (ms : List Master) (ns : List ℕ)
-      → length (own (flat_map (if_intermediate t ms) ns))
+      → length (own t h (flat_map (if_intermediate t ms) ns))
       ≡ length (flat_map (if_intermediate t ms) ns)
   each_own ms [] = refl
   each_own ms (n ∷ ns) =
       each_own_by n (is_intermediate t ms n) (flat_map (if_intermediate t ms) ns) (each_own ms ns)
 
   intermediate_own : (ns : List ℕ)
-      → length (own (intermediate_layers t h ns)) ≡ length (intermediate_layers t h ns)
+      → length (own t h (intermediate_layers t h ns)) ≡ length (intermediate_layers t h ns)
   intermediate_own ns = by (nat_eq (length h.axes) 0)
     where
-      by : (b : Bool) → length (own (cond b [] (flat_map (if_intermediate t h.masters) ns)))
+      by : (b : Bool) → length (own t h (cond b [] (flat_map (if_intermediate t h.masters) ns)))
           ≡ length (cond b [] (flat_map (if_intermediate t h.masters) ns))
       by true = refl
       by false = each_own h.masters ns
 
   -- each of these places has a number for each axis
   own_long_by : (kind : LayerKind) (n : ℕ) (behind : List SourceLayer)
-      → AllByRecursion (λ place. length place ≡ length h.axes) (own behind)
+      → AllByRecursion (λ place. length place ≡ length h.axes) (own t h behind)
       → AllByRecursion (λ place. length place ≡ length h.axes)
-      (own (record { kind = kind; number = n } ∷ behind))
+      (own t h (record { kind = kind; number = n } ∷ behind))
   own_long_by a.Master n behind e = e
   own_long_by a.Intermediate n behind e =
       (length-place_of h.masters h.origin (length h.axes) (design_of t n), e)
 
   own_long : (layers : List SourceLayer)
-      → AllByRecursion (λ place. length place ≡ length h.axes) (own layers)
+      → AllByRecursion (λ place. length place ≡ length h.axes) (own t h layers)
   own_long [] = tt
   own_long (layer ∷ layers) = own_long_by layer.kind layer.number layers (own_long layers)
 
@@ -163,18 +145,18 @@ module _ (t : Tree) (h : Header) where
     layer_each =
         let ns = layer_numbers t g in
         let rest = intermediate_layers t h ns in
-        length-append (map location_of h.masters) (own (masters_layers t h.masters ns ++ rest))
-        ∙ ap (λ (k : ℕ). k + length (own (masters_layers t h.masters ns ++ rest)))
+        length-append (map location_of h.masters) (own t h (masters_layers t h.masters ns ++ rest))
+        ∙ ap (λ (k : ℕ). k + length (own t h (masters_layers t h.masters ns ++ rest)))
         (length-map h.masters location_of)
         ∙ ap (λ (ps : List (List F2Dot14)). length h.masters + length ps)
-        (none_own ns h.masters rest)
+        (none_own t h ns h.masters rest)
         ∙ ap (λ (k : ℕ). length h.masters + k) (intermediate_own ns)
         ∙ sym (many ns h.masters rest all_there)
 
     pub masters_first : length h.masters ≤ length (places_of t h g)
     unfolding places_of
     masters_first =
-        let all = length-append (map location_of h.masters) (own (source_layers t h g)) in
+        let all = length-append (map location_of h.masters) (own t h (source_layers t h g)) in
         let ms = length-map h.masters location_of in
         omega (arith, all, ms)
 
@@ -223,7 +205,7 @@ module _ (t : Tree) (h : Header) where
     unfolding places_failure places_of
     are_places is flat tells none =
         let origin = flat.places.are_places in
-        let all = length-append (map location_of h.masters) (own (source_layers t h g)) in
+        let all = length-append (map location_of h.masters) (own t h (source_layers t h g)) in
         let ms = length-map h.masters location_of in
         let some = is.origin in
         let most = few none in
@@ -237,7 +219,7 @@ module _ (t : Tree) (h : Header) where
                 no_repeat tells (first_none _ _ none) i j [] below within;
             has_zero = subst (λ (n : ℕ). Contains (places_of t h g) (replicate n zero_number))
                 (first_long (omega (arith, some, ms)) ∙ sym (long 0 [] (omega (arith, some, all, ms))))
-                (Contains-append_left (map location_of h.masters) (own (source_layers t h g)) _
+                (Contains-append_left (map location_of h.masters) (own t h (source_layers t h g)) _
                 origin.has_zero);
           };
         }
@@ -248,8 +230,8 @@ module _ (t : Tree) (h : Header) where
 
         long : All (λ place. length place ≡ length h.axes) (places_of t h g)
         long = All-append (λ (place : List F2Dot14). length place ≡ length h.axes)
-            (map location_of h.masters) (own (source_layers t h g)) masters_long
-            (All-from_recursion _ (own (source_layers t h g)) (own_long (source_layers t h g)))
+            (map location_of h.masters) (own t h (source_layers t h g)) masters_long
+            (All-from_recursion _ (own t h (source_layers t h g)) (own_long (source_layers t h g)))
 
         first_long : 0 < length (map location_of h.masters)
             → axis_count (map location_of h.masters) ≡ length h.axes
@@ -377,21 +359,10 @@ module _ (t : Tree) (ranges : (kind : LayerKind) (t : Tree) (n : ℕ)
     fact_places (Err e) facts = tt
     fact_places (Ok x) facts = facts.places
 
-    -- without axes there are the masters' places alone
-    no_others : h.axes ≡ [] → places_of t h g ≡ map location_of h.masters
-    unfolding places_of source_layers
-    no_others none =
-        let ns = layer_numbers t g in
-        ap (λ (ps : List (List F2Dot14)). map location_of h.masters ++ ps)
-        (none_own t h ns h.masters (intermediate_layers t h ns)
-        ∙ ap (λ (k : ℕ). own t h (cond (nat_eq k 0) [] (flat_map (if_intermediate t h.masters) ns)))
-        (ap length none))
-        ∙ append-nil (map location_of h.masters)
-
     pub fact_masters : h.axes ≡ [] → (r : Result GlyphIr ReadError) → IfOk r (Facts h number g)
         → IfOk r (λ x. x.places ≡ map (λ master. master.location) h.masters)
     fact_masters none (Err e) facts = tt
-    fact_masters none (Ok x) facts = facts.places ∙ no_others none
+    fact_masters none (Ok x) facts = facts.places ∙ masters_places t h g none
 
     pub fact_read : (r : Result GlyphIr ReadError) → IfOk r (Facts h number g)
         → IfOk r IsReadGlyph

@@ -5,3 +5,4 @@ pub mod Forms
 pub mod Bases
 pub mod GlyphReading
 pub mod GlyphTables
+pub mod MastersAlone
