@@ -6,3 +6,4 @@ pub mod Bases
 pub mod GlyphReading
 pub mod GlyphTables
 pub mod MastersAlone
+pub mod OnLiterals
