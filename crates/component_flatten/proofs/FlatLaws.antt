@@ -27,7 +27,7 @@ use Rattle.font_ir.specs.FlatGlyphs.{IsSmall, IsSmallFixed, IsSmallPoint, shape_
 use Rattle.font_ir.specs.FlatGlyphs.{IsFlatGlyph}
 use Rattle.font_ir.specs.Places.{place_at}
 use Rattle.font_ir.specs.ReadGlyphs.{ShapeForm, form_of, layer_form, HasPoints, IsReadGlyph}
-use Rattle.font_ir.specs.ReadGlyphs.{IsInRange, is_component, HasNoAnchors}
+use Rattle.font_ir.specs.ReadGlyphs.{IsInRange, is_component}
 use Rattle.font_ir.specs.ReadGlyphs.{HasNoComponents}
 use Rattle.glyphs_source.specs.declared.entries.IndexEntry.{IndexEntry}
 use Rattle.refusal_codes.specs.declared.errors.ReadError.{ReadError}
@@ -40,8 +40,12 @@ use Rattle.refusal_codes.specs.declared.job.TheConstants.{FLAT}
 use Rattle.refusal_codes.specs.First.{foremost, refusal_of, judged}
 use Rattle.refusal_codes.specs.Gives.{Gives}
 use Rattle.component_flatten.specs.Places.{has_large_deltas}
-use Rattle.component_flatten.specs.Anchors.{anchors_of}
-use Rattle.component_flatten.specs.BaseLaws.{no_anchors, not_kept}
+use Rattle.component_flatten.specs.Anchors.{anchors_of, first_anchors}
+use Rattle.component_flatten.proofs.AnchorLaws.{used_good, all_take}
+use Rattle.font_ir.specs.declared.glyph.Anchor.{Anchor}
+use Rattle.std.proofs.Common.{take}
+use Rattle.std.proofs.lemmas.List.{length-take}
+use Rattle.component_flatten.specs.BaseLaws.{not_kept}
 use Rattle.component_flatten.specs.Flattening.{flat_record, flat_of, made_of}
 use Rattle.component_flatten.specs.Judging.{first_rule, rule_of, points_of}
 use Rattle.component_flatten.specs.Numbered.{numbered, flat_numbered}
@@ -311,14 +315,23 @@ few_first (layer ∷ layers) h = h 0 layer (omega arith)
 -- ---- the glyph
 
 pub flat_facts : (index : List (List ℕ × IndexEntry)) (glyph : GlyphIr) (bases : List FlatGlyph)
-    → IsReadGlyph glyph → All (IsBase glyph.places) bases → HasNoAnchors glyph
+    → IsReadGlyph glyph → All (IsBase glyph.places) bases
     → list_any has_many_points (glyph_drawn glyph bases) ≡ false
     → list_all are_small (glyph_drawn glyph bases) ≡ true
     → IsFlatGlyph (flat_record index glyph bases)
 unfolding flat_record
-flat_facts index glyph bases read based none few small =
+flat_facts index glyph bases read based few small =
     let shapes = drawn_shape glyph.places bases glyph.layers based read.one_form in
-    let no_anchor : anchors_of glyph ≡ [] = no_anchors glyph none in
+    let layers = take glyph.masters glyph.layers in
+    let many : length layers ≡ glyph.masters =
+    omega (arith, length-take glyph.masters glyph.layers, read.masters, read.layers) in
+    let good = used_good IsSmallOffset layers (first_anchors layers)
+    (all_take (λ (l : LayerIr). All (λ (a : Anchor). IsSmallOffset (a.x, a.y)) l.anchors)
+    glyph.masters glyph.layers (recursion_from_All
+    (λ (l : LayerIr). All (λ (a : Anchor). IsSmallOffset (a.x, a.y)) l.anchors) glyph.layers
+    read.small_anchors)) in
+    let each = All-from_recursion (λ (u : List ℕ × List (ℤ × ℤ)).
+    AllByRecursion IsSmallOffset u.1 × (length u.1 ≡ length layers)) (anchors_of glyph) good in
     record {
       places = read.places;
       widths = length-map glyph.layers (λ layer. layer.width) ∙ read.layers;
@@ -344,18 +357,11 @@ flat_facts index glyph bases read based none few small =
       small_offsets = kept_have (λ (kept : Kept). All IsSmallOffset kept.at)
           (stays_composite index glyph) glyph.layers (first_shapes glyph)
           (λ n name. offsets_small glyph.layers n read.ranges);
-      small_anchors = subst (λ (anchors : List (List ℕ × List (ℤ × ℤ))). All
-          (λ anchor. All IsSmallOffset anchor.1) anchors) (sym no_anchor)
-          (All-nil (λ (anchor : List ℕ × List (ℤ × ℤ)). All IsSmallOffset anchor.1));
+      small_anchors = λ k d within. All-from_recursion IsSmallOffset
+          (get_or (anchors_of glyph) k d).1 (each k d within).0;
       width_range = All-map (λ (width : ℤ). (pos 0 ≤ℤ width) × (width ≤ℤ pos 32767))
           (λ (layer : LayerIr). layer.width) glyph.layers read.widths;
-      anchors = (
-        0,
-        omega arith,
-        subst (λ (anchors : List (List ℕ × List (ℤ × ℤ))). All
-            (λ anchor. length anchor.1 ≡ 0) anchors) (sym no_anchor)
-            (All-nil (λ (anchor : List ℕ × List (ℤ × ℤ)). length anchor.1 ≡ 0)),
-      );
+      anchors = (glyph.masters, read.masters, λ k d within. (each k d within).1 ∙ many);
     }
 
 -- ---- limits
@@ -443,17 +449,17 @@ answered index name glyph bases (Some rule) x e given =
     absurd cc
 
 pub flat_glyph : (index : List (List ℕ × IndexEntry)) (glyph : GlyphIr) (bases : List FlatGlyph)
-    → IsReadGlyph glyph → All (IsBase glyph.places) bases → HasNoAnchors glyph
+    → IsReadGlyph glyph → All (IsBase glyph.places) bases
     → (name : List ℕ) (r : Result FlatGlyph ReadError)
     → Gives (λ (x : FlatGlyph). x) r (flat_of index name glyph bases) → IfOk r IsFlatGlyph
-flat_glyph index glyph bases read based none name (Err error) given = tt
-flat_glyph index glyph bases read based none name (Ok x) given =
+flat_glyph index glyph bases read based name (Err error) given = tt
+flat_glyph index glyph bases read based name (Ok x) given =
     let parts = answered index name glyph bases (rule_of glyph bases) x refl given in
     let kept = none_broken (list_any has_many_points (glyph_drawn glyph bases))
     (list_any (has_large_deltas glyph.places) bases)
     (list_all are_small (glyph_drawn glyph bases)) parts.0 in
     subst (λ (y : FlatGlyph). IsFlatGlyph y) parts.1
-    (flat_facts index glyph bases read based none kept.0 kept.1)
+    (flat_facts index glyph bases read based kept.0 kept.1)
 
 pub flat_not_kept : (index : List (List ℕ × IndexEntry)) (glyph : GlyphIr) (bases : List FlatGlyph)
     → HasNoComponents glyph → (name : List ℕ) (r : Result FlatGlyph ReadError)

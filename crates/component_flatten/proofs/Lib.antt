@@ -1,3 +1,4 @@
+pub mod AnchorLaws
 pub mod ShapeLaws
 pub mod BaseLemmas
 pub mod FlatLaws

@@ -6,6 +6,8 @@ use Rattle.fixed_math.specs.declared.Fixed.{Fixed}
 use Rattle.fixed_math.specs.declared.F2Dot14.{F2Dot14}
 use Rattle.font_ir.specs.declared.glyph.DrawnPoint.{DrawnPoint}
 use Rattle.font_ir.specs.declared.glyph.Contour.{Contour}
+use Rattle.font_ir.specs.declared.glyph.Anchor.{Anchor}
+use Rattle.component_flatten.specs.Anchors.{anchors_of}
 use Rattle.font_ir.specs.declared.glyph.Shape.{Shape}
 use Rattle.font_ir.specs.declared.glyph.Shape.TheVariants.{Path, Component}
 use Rattle.font_ir.specs.declared.glyph.LayerIr.{LayerIr}
@@ -228,3 +230,28 @@ between-places = refl
 -- and as it is drawn at its own places
 pub at-own-place : placed (moving (pos 32768000)) (at (pos 16384)) ≡ one_point (pos 32768000)
 at-own-place = refl
+
+-- ---- anchors
+
+abbrev anchored : List Anchor → LayerIr
+anchored anchors = record { width = pos 500; shapes = []; anchors = anchors }
+
+abbrev anchor : List ℕ → ℤ → Anchor
+anchor name x = record { name = name; x = x; y = pos 0 }
+
+-- those of both masters are used, in the order of the first one; not one that only one master has,
+-- and none of a layer at a place of its own
+pub anchors-used : anchors_of (record {
+  number = 0;
+  place = 82;
+  masters = 2;
+  places = at (pos 0) ∷ at (pos 16384) ∷ at (pos 8192) ∷ [];
+  layers = anchored (anchor (codes "top") (pos 1) ∷ anchor (codes "left") (pos 2)
+      ∷ anchor (codes "low") (pos 3) ∷ [])
+      ∷ anchored (anchor (codes "low") (pos 4) ∷ anchor (codes "right") (pos 5)
+      ∷ anchor (codes "top") (pos 6) ∷ [])
+      ∷ anchored [] ∷ [];
+})
+    ≡ (codes "top", (pos 1, pos 0) ∷ (pos 6, pos 0) ∷ [])
+    ∷ (codes "low", (pos 3, pos 0) ∷ (pos 4, pos 0) ∷ []) ∷ []
+anchors-used = refl

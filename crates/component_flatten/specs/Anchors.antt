@@ -12,7 +12,7 @@ use Rattle.font_ir.specs.declared.glyph.GlyphIr.{GlyphIr}
 abbrev pub anchor_at : List ℕ → List Anchor → Option (ℤ × ℤ)
 anchor_at name [] = None
 anchor_at name (anchor ∷ anchors) =
-    if pointwise nat_eq name anchor.name then Some (anchor.x, anchor.y) else anchor_at name anchors
+    if pointwise nat_eq anchor.name name then Some (anchor.x, anchor.y) else anchor_at name anchors
 
 -- one more position
 abbrev pub with_position : Option (ℤ × ℤ) → Option (List (ℤ × ℤ)) → Option (List (ℤ × ℤ))

@@ -4,7 +4,12 @@ use Rattle.std.specs.Prelude.{◌≡◌, ℕ, ◌≤◌, ◌+◌, Bool, true, fa
 use Rattle.std.specs.Prelude.{◌∷◌, length, unsigned_abs, Result, Ok, Err, Option, Some, None}
 use Rattle.std.specs.Prelude.{is_some, slice_index_or, ◌<◌}
 use Rattle.std.specs.List.{list_any, list_all, All}
+use Rattle.std.specs.Map.{lookup}
+use Rattle.std.specs.Cmp.Lexicographic.{pointwise}
+use Rattle.std.specs.Prelude.{ℤ, nat_eq, ◌++◌}
 use Rattle.font_ir.specs.Places.{axis_count}
+use Rattle.font_ir.specs.declared.glyph.Anchor.{Anchor}
+use Rattle.component_flatten.specs.Anchors.{anchor_at, with_position}
 use Rattle.component_flatten.specs.declared.between.PointDeltas.{PointDeltas}
 use Rattle.component_flatten.specs.declared.between.ContourDeltas.{ContourDeltas}
 use Rattle.fixed_math.specs.declared.F2Dot14.{F2Dot14}
@@ -118,3 +123,21 @@ pub record AreReady (at : List F2Dot14) (bases : List FlatGlyph) (made : List (O
   pub as_many : length made ≡ length bases
   pub each : (n : ℕ) (base : FlatGlyph) → n < length bases
       → IsReady at (slice_index_or bases n base) (slice_index_or made n None)
+
+-- ---- anchors
+
+-- names with positions, in which each anchor is found by its name
+abbrev pub Finds : List (List ℕ × (ℤ × ℤ)) → List Anchor → Type 0
+Finds positions anchors = (name : List ℕ)
+    → lookup (pointwise nat_eq name) positions ≡ anchor_at name anchors
+
+-- what is found in all of them
+abbrev pub found_in : List ℕ → List (List (List ℕ × (ℤ × ℤ))) → Option (List (ℤ × ℤ))
+found_in name [] = Some []
+found_in name (positions ∷ found) =
+    with_position (lookup (pointwise nat_eq name) positions) (found_in name found)
+
+-- positions, and those behind them
+abbrev pub behind : List (ℤ × ℤ) → Option (List (ℤ × ℤ)) → Option (List (ℤ × ℤ))
+behind positions None = None
+behind positions (Some more) = Some (positions ++ more)

@@ -1,12 +1,13 @@
 ghost use Rattle.std.specs.Prelude.{◌≡◌, ◌<◌, [], length, slice_get, IfOk, IfSome};
 ghost use Rattle.std.specs.List.{All};
 ghost use Rattle.font_ir.specs.FlatGlyphs.{IsFlatGlyph, glyphs_of};
-ghost use Rattle.font_ir.specs.ReadGlyphs.{IsReadGlyph, HasNoComponents, HasNoAnchors};
+ghost use Rattle.font_ir.specs.ReadGlyphs.{IsReadGlyph, HasNoComponents};
 ghost use Rattle.refusal_codes.specs.Gives.{Gives};
 ghost use Rattle.component_flatten.specs.Drawing.{glyph_drawn};
 ghost use Rattle.component_flatten.specs.Flattening.{IsBase, HasBases, flat_of, made_of};
 ghost use Rattle.component_flatten.specs.Judging.{GivesDrawn, rule_of};
 
+use crate::anchors::anchors;
 use crate::between::betweens;
 use crate::composites::kept;
 use crate::counting::has_many_points;
@@ -20,8 +21,7 @@ use std::alloc::Global;
 use std::sync::Arc;
 
 /// The glyph with its contours drawn at each of its places, in 16.16 font units, the components
-/// that stay, and its anchors. Anchors aren't built, so the glyph must have none: this is the
-/// condition `anchors`.
+/// that stay, and its anchors.
 ///
 /// `bases` are the flat glyphs of its components, in the order in which a layer has these, each
 /// with as many axes as the glyph. At a place that a base lacks, its contours are those that its
@@ -41,7 +41,6 @@ pub fn flatten(
     requires read { IsReadGlyph glyph.now }
     requires enough { HasBases glyph.now (glyphs_of bases.now) }
     requires bases { All (IsBase glyph.now.places) (glyphs_of bases.now) }
-    requires anchors { HasNoAnchors glyph.now }
     ensures record { IfSome (slice_get index.now glyph.now.number) (λ entry. Gives (λ flat. flat)
         result (flat_of index.now entry.0 glyph.now (glyphs_of bases.now))) }
     ensures flat { IfOk result IsFlatGlyph }
@@ -64,7 +63,6 @@ fn draw(
     requires read { IsReadGlyph glyph.now }
     requires enough { HasBases glyph.now (glyphs_of bases.now) }
     requires bases { All (IsBase glyph.now.places) (glyphs_of bases.now) }
-    requires anchors { HasNoAnchors glyph.now }
     ensures record { Gives (λ flat. flat) result
         (flat_of index.now name.now glyph.now (glyphs_of bases.now)) }
     ensures places { IfOk result (λ flat. flat.places ≡ glyph.now.places) }
@@ -80,7 +78,6 @@ fn draw(
 }
 
 /// The glyph that draws these contours.
-#[tactic(auto, using(crate::specs::BaseLaws::no_anchors))]
 fn record(
     alloc: Global,
     index: &GlyphIndex,
@@ -88,7 +85,6 @@ fn record(
     drawn: Sequence<Sequence<Contour>>,
 ) -> Result<FlatGlyph, NoMemory>
     requires read { IsReadGlyph glyph.now }
-    requires anchors { HasNoAnchors glyph.now }
     ensures record { IfOk result (λ flat. flat ≡ made_of index.now glyph.now drawn) }
     ensures places { IfOk result (λ flat. flat.places ≡ glyph.now.places) }
 {
@@ -99,7 +95,7 @@ fn record(
         widths: widths(alloc, glyph.layers.as_slice())?,
         drawn,
         kept: kept(alloc, index, glyph)?,
-        anchors: Sequence::new(alloc),
+        anchors: anchors(alloc, glyph)?,
     })
 }
 

@@ -1,6 +1,7 @@
 //! Draws the contours of a glyph.
 #![tactic(auto)]
 
+mod anchors;
 mod between;
 mod composites;
 mod counting;
