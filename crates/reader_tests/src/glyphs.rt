@@ -1,12 +1,13 @@
 ghost use Rattle.std.specs.Prelude.{◌≡◌, ◌<◌, length, Ok};
-ghost use Rattle.glyphs_source.specs.HeaderReading.{header_of};
+ghost use Rattle.glyphs_source.specs.BuiltHeaders.{built_header_of};
+ghost use Rattle.glyphs_source.specs.IndexReading.{index_of};
 
 use component_flatten::flatten;
 use fixed_math::Fixed;
 use fixtures::SOURCE;
 use font_ir::{DrawnPoint, FlatGlyph, Header};
-use glyphs_layers::raw_glyph;
-use glyphs_source::{GlyphIndex, glyph_index, header};
+use glyphs_layers::built_glyph;
+use glyphs_source::{GlyphIndex, built_header, glyph_index};
 use plist_reader::{Tree, read};
 use refusal_codes::ReadError;
 use std::alloc::Global;
@@ -19,10 +20,11 @@ fn first_drawn(
     header: &Header,
     index: &GlyphIndex,
 ) -> Result<FlatGlyph, ReadError>
-    requires header { header_of tree.now ≡ Ok header.now }
+    requires header { built_header_of tree.now ≡ Ok header.now }
+    requires index { index_of tree.now ≡ Ok index.now }
     requires number { 0 < length index.now }
 {
-    let glyph = raw_glyph(alloc, tree, header, index, 0)?;
+    let glyph = built_glyph(alloc, tree, header, index, 0)?;
     flatten(alloc, &glyph, index, &[])
 }
 
@@ -53,7 +55,7 @@ fn are_corners(points: &[DrawnPoint], corners: &[(i32, i32)]) -> bool {
 #[test]
 fn the_last_node_stored_starts_a_contour(rt: HostRuntime) -> Result<(), Fail> {
     let tree = read(rt.alloc(), SOURCE)?;
-    let header = header(rt.alloc(), &tree)?;
+    let header = built_header(rt.alloc(), &tree)?;
     let index = glyph_index(rt.alloc(), &tree)?;
     assert!(rt; index.len() == 1);
     let glyph = first_drawn(rt.alloc(), &tree, &header, &index)?;
