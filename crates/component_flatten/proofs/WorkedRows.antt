@@ -1,5 +1,5 @@
 -- Worked examples: what the job of a flat glyph answers.
-use Rattle.std.proofs.Common.{◌≡◌, ℕ, List, [], ◌∷◌, refl}
+use Rattle.std.proofs.Common.{◌≡◌, ℕ, List, [], ◌∷◌, refl, map}
 use Rattle.std.specs.Prelude.{Ok, Err, ℤ, pos, negsuc, neg_ℤ, true, false, replicate, codes, None}
 use Rattle.std.specs.Prelude.{Bool}
 use Rattle.fixed_math.specs.declared.Fixed.{Fixed}
@@ -16,6 +16,7 @@ use Rattle.font_ir.specs.declared.glyph.FlatGlyph.{FlatGlyph}
 use Rattle.glyphs_source.specs.declared.entries.IndexEntry.{IndexEntry}
 use Rattle.refusal_codes.specs.declared.rule.Rule.{Rule}
 use Rattle.refusal_codes.specs.declared.rule.Rule.TheVariants.{CoordinateTooLarge, TooManyPoints}
+use Rattle.refusal_codes.specs.declared.rule.Rule.TheVariants.{DeltaTooLarge}
 use Rattle.refusal_codes.specs.declared.refusal.Refusal.{Refusal}
 use Rattle.variation_model.specs.Places.{order_of}
 use Rattle.variation_model.specs.Supports.{supports_of}
@@ -23,6 +24,7 @@ use Rattle.variation_model.specs.Deltas.{deltas_of}
 use Rattle.component_flatten.specs.declared.transform.Transform.{Transform}
 use Rattle.component_flatten.specs.Transforms.{transformed_point}
 use Rattle.component_flatten.specs.Places.{placed}
+use Rattle.component_flatten.specs.Drawing.{glyph_drawn}
 use Rattle.component_flatten.specs.Flattening.{flat_record, flat_of}
 
 abbrev point : ℤ → ℤ → DrawnPoint
@@ -255,3 +257,56 @@ pub anchors-used : anchors_of (record {
     ≡ (codes "top", (pos 1, pos 0) ∷ (pos 6, pos 0) ∷ [])
     ∷ (codes "low", (pos 3, pos 0) ∷ (pos 4, pos 0) ∷ []) ∷ []
 anchors-used = refl
+
+-- a component of a base that lacks a place of the glyph is drawn there between the base's places
+abbrev moved_over : List (List F2Dot14) → GlyphIr
+moved_over places = record {
+  number = 0;
+  place = 82;
+  masters = 2;
+  places = places;
+  layers = map (λ place. layer_of (moved_base ∷ [])) places;
+}
+
+pub drawn-between : glyph_drawn (moved_over (at (pos 0) ∷ at (pos 16384) ∷ at (pos 4096) ∷ []))
+    (moving (pos 32768000) ∷ [])
+    ≡ one_point (pos 6553600) ∷ one_point (pos 39321600) ∷ one_point (pos 14745600) ∷ []
+unfolding deltas_of supports_of order_of
+drawn-between = refl
+
+-- and a place that the base has and the glyph hasn't is without effect
+pub drawn-without : glyph_drawn (moved_over (at (pos 0) ∷ [])) (moving (pos 32768000) ∷ [])
+    ≡ one_point (pos 6553600) ∷ []
+unfolding deltas_of supports_of order_of
+drawn-without = refl
+
+abbrev both : ℤ → ℤ → List F2Dot14
+both a b = record { 0 = a } ∷ record { 0 = b } ∷ []
+
+-- a base over two axes: 0, 16383 at the end of each axis, and x where both end
+abbrev wide : ℤ → FlatGlyph
+wide x = record {
+  number = 0;
+  place = 82;
+  places = both (pos 0) (pos 0) ∷ both (pos 16384) (pos 0) ∷ both (pos 0) (pos 16384)
+      ∷ both (pos 16384) (pos 16384) ∷ [];
+  widths = pos 500 ∷ pos 500 ∷ pos 500 ∷ pos 500 ∷ [];
+  drawn = one_point (pos 0) ∷ one_point (pos 1073676288) ∷ one_point (pos 1073676288)
+      ∷ one_point x ∷ [];
+  kept = [];
+  anchors = [];
+}
+
+-- its last delta is -32769, which is told before the coordinates that are too far
+pub deltas-first : flat_of [] (codes "A") (moved_over (both (pos 0) (pos 0)
+    ∷ both (pos 16384) (pos 0) ∷ both (pos 8192) (pos 8192) ∷ []))
+    (wide (neg_ℤ (pos 196608)) ∷ []) ≡ Err (refused DeltaTooLarge)
+unfolding flat_of flat_record deltas_of supports_of order_of
+deltas-first = refl
+
+-- with -32768 it can be stored, and the coordinates are told
+pub deltas-stored : flat_of [] (codes "A") (moved_over (both (pos 0) (pos 0)
+    ∷ both (pos 16384) (pos 0) ∷ both (pos 8192) (pos 8192) ∷ []))
+    (wide (neg_ℤ (pos 131072)) ∷ []) ≡ Err (refused CoordinateTooLarge)
+unfolding flat_of flat_record deltas_of supports_of order_of
+deltas-stored = refl
