@@ -42,10 +42,11 @@ axes_by_rule t n rule place =
     let table =
     by_rule axes_table (each (dictionary axis_parts_failures)) axes_told.tells t n rule place in
     let again = repeated_tags t [] (items_or_none t n) in (
-      λ p. elim (among_cases (told rule place) (each (dictionary axis_parts_failures) t n) again p) [
-        | inl q ↦ inl (table.0 q)
-        | inr q ↦ inr (of_repeated t (items_or_none t n) (told rule place) q)
-      ],
+      λ p. elim (among_cases (told rule place) (each (dictionary axis_parts_failures) t n)
+          again p) [
+            | inl q ↦ inl (table.0 q)
+            | inr q ↦ inr (of_repeated t (items_or_none t n) (told rule place) q)
+          ],
       λ p. elim p [
         | inl q ↦ among_left (told rule place) (each (dictionary axis_parts_failures) t n) again
             (table.1 q)

@@ -1,7 +1,8 @@
--- A decimal has fewer than 1000000000 billionths, so cutting its parts changes nothing of one in the
--- range of coordinates.
+-- A decimal has fewer than 1000000000 billionths, so cutting its parts changes nothing of one in
+-- the range of coordinates.
 use Rattle.std.proofs.Common.{◌≡◌, ◌∷◌, [], ℕ, zero, suc, ◌+◌, ◌-◌, ◌≤◌, List, Bool, true, false}
-use Rattle.std.proofs.Common.{◌&&◌, cond, leb, Option, Some, None, get_or, take, drop, refl, sym, ap}
+use Rattle.std.proofs.Common.{◌&&◌, cond, leb, Option, Some, None, get_or, take, drop, refl, sym}
+use Rattle.std.proofs.Common.{ap}
 use Rattle.std.proofs.Common.{subst, arith, ◌∙◌, ◌||◌, ltb, eqb, ℤ, pos}
 use Rattle.std.specs.Prelude.{position, option_and_then, option_map, min}
 use Rattle.std.specs.List.{list_all}
@@ -54,7 +55,8 @@ billionths_in : Decimal → ℕ
 billionths_in d = d.billionths
 
 few_in : (x d : Decimal) → Some x ≡ Some d → x.billionths ≤ 999999999 → d.billionths ≤ 999999999
-few_in x d e few = let same : x ≡ d = cc in subst (λ (y : Decimal). y.billionths ≤ 999999999) same few
+few_in x d e few =
+    let same : x ≡ d = cc in subst (λ (y : Decimal). y.billionths ≤ 999999999) same few
 
 fraction_few : (negative : Bool) (front back : List ℕ) (d : Decimal)
     → fraction_of negative front back ≡ Some d → d.billionths ≤ 999999999

@@ -38,8 +38,8 @@ local_axes t = optional (codes "axes") axes_failures t t.top
 abbrev local_instances : Tree → List Failure
 local_instances t = optional (codes "instances") instances_failures t t.top
 
--- two axes; two instances are kept, of which one has one coordinate, the others are not exported and
--- of another type
+-- two axes; two instances are kept, of which one has one coordinate, the others are not exported
+-- and of another type
 abbrev pub two_axes : Tree
 two_axes = record {
   top = 40;

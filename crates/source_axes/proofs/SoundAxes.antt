@@ -1,7 +1,9 @@
 -- What is read where no rule fails fulfils what is asked of a header's axes and instances.
 use Rattle.std.proofs.Common.{◌≡◌, ℕ, ◌+◌, ◌-◌, ◌*◌, ◌≤◌, ◌<◌, Bool, true, false, ◌&&◌, ◌||◌, ◌==◌}
-use Rattle.std.proofs.Common.{not, cond, leb, eqb, ltb, List, [], ◌∷◌, ◌++◌, length, map, take, Option}
-use Rattle.std.proofs.Common.{Some, None, ℤ, pos, negsuc, neg_ℤ, ◌+ℤ◌, ◌*ℤ◌, ◌≤ℤ◌, refl, sym, ap, ◌∙◌}
+use Rattle.std.proofs.Common.{not, cond, leb, eqb, ltb, List, [], ◌∷◌, ◌++◌, length, map, take}
+use Rattle.std.proofs.Common.{Option}
+use Rattle.std.proofs.Common.{Some, None, ℤ, pos, negsuc, neg_ℤ, ◌+ℤ◌, ◌*ℤ◌, ◌≤ℤ◌, refl, sym, ap}
+use Rattle.std.proofs.Common.{◌∙◌}
 use Rattle.std.proofs.Common.{subst, arith}
 use Rattle.std.specs.Prelude.{codes, flat_map, option_and_then, unwrap_or, replicate}
 use Rattle.std.specs.List.{All, AllByRecursion, filter, list_all}

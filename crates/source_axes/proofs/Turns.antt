@@ -1,5 +1,6 @@
 -- One turn of the loops that go over axes and instances.
-use Rattle.std.proofs.Common.{◌≡◌, ℕ, ◌+◌, ◌<◌, Bool, true, false, cond, List, [], ◌∷◌, ◌++◌, length}
+use Rattle.std.proofs.Common.{◌≡◌, ℕ, ◌+◌, ◌<◌, Bool, true, false, cond, List, [], ◌∷◌, ◌++◌}
+use Rattle.std.proofs.Common.{length}
 use Rattle.std.proofs.Common.{map, get_or, drop, Option, refl, sym, ap, ◌∙◌, subst}
 use Rattle.std.proofs.lemmas.List.{at_drop_more}
 use Rattle.std.specs.Prelude.{flat_map}
@@ -10,8 +11,8 @@ use Rattle.refusal_codes.specs.First.{noted}
 use Rattle.refusal_codes.specs.FirstLaws.{noted-append}
 use Rattle.source_axes.specs.AxisReading.{tag_text, again_by, with_tag, repeated_tags}
 
--- what is noted of the axes that are left is what is noted of the next one, and then of those behind
--- it
+-- what is noted of the axes that are left is what is noted of the next one, and then of those
+-- behind it
 pub tag_turn : (t : Tree) (tags next : List (List ℕ)) (axes : List ℕ) (i : ℕ)
     (least here all : Option Failure) → i < length axes
     → here ≡ noted least (again_by t tags (get_or axes i 0) (tag_text t (get_or axes i 0)))

@@ -1,5 +1,5 @@
--- The axes that a source names, and the rules that they may fail (Glyphs file format, version 3; the
--- rules are fontc's own).
+-- The axes that a source names, and the rules that they may fail (Glyphs file format, version 3;
+-- the rules are fontc's own).
 use Rattle.std.specs.Prelude.{ℕ, ◌-◌, Bool, ◌&&◌, nat_le, List, [], ◌∷◌, ◌++◌, length, map, take}
 use Rattle.std.specs.Prelude.{replicate, Option, Some, None, unwrap_or, codes, if◌then◌else◌}
 use Rattle.std.specs.Option.{option_map_or}

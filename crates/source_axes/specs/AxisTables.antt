@@ -1,7 +1,7 @@
 -- What is asked of the axes and the instances of a source, as tables of ways and rules (Glyphs file
--- format, version 3; the rules are fontc's own), and which tags stand again. They tell of each local
--- rule where it fails: exactly at the values that a row of that rule reaches, and of which it doesn't
--- hold, and at the tags that an earlier axis has.
+-- format, version 3; the rules are fontc's own), and which tags stand again. They tell of each
+-- local rule where it fails: exactly at the values that a row of that rule reaches, and of which it
+-- doesn't hold, and at the tags that an earlier axis has.
 use Rattle.std.specs.Prelude.{◌≡◌, ℕ, Bool, true, false, not, nat_le, List, [], ◌∷◌, ◌++◌, map}
 use Rattle.std.specs.Prelude.{length, Option, Some, codes, ◌⊎◌, ◌↔◌}
 use Rattle.std.specs.Option.{option_map_or}
@@ -50,8 +50,8 @@ pub record IsRepeatedTag (t : Tree) (axes : List ℕ) (place : ℕ) : Type 0 whe
   pub there : find_in t axis (codes "tag") ≡ Some value
   pub is_place : place ≡ place_at t value
 
--- a local rule of a list of axes fails at a place exactly where a row of that rule says so, or where
--- a tag stands again
+-- a local rule of a list of axes fails at a place exactly where a row of that rule says so, or
+-- where a tag stands again
 abbrev pub AxesAreTabled : Type 0
 AxesAreTabled =
     (t : Tree) (n : ℕ) (rule : Rule) (place : ℕ)

@@ -1,6 +1,6 @@
 -- Coordinates on axes, in design or in user coordinates: decimals from -32767 to 32767 (Glyphs file
--- format, version 3; the range is fontc's own), and the numbers in 16.16 that they are read as. That
--- these are rounded half up is fontc's own.
+-- format, version 3; the range is fontc's own), and the numbers in 16.16 that they are read as.
+-- That these are rounded half up is fontc's own.
 use Rattle.std.specs.Prelude.{ℕ, ◌+◌, ◌*◌, ℤ, pos, neg_ℤ, ◌+ℤ◌, ◌*ℤ◌, Bool, ◌&&◌, ◌||◌, ◌==◌}
 use Rattle.std.specs.Prelude.{nat_lt, List, [], map, Option, Some, None}
 use Rattle.std.specs.Prelude.{if◌then◌else◌}

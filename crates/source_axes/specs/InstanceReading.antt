@@ -39,7 +39,9 @@ kept_among t items = if length (axis_numbers t) == 0 then [] else filter (is_kep
 -- at most 64 are kept
 unfoldable pub kept_limit_failures : Tree → ℕ → List Failure
 kept_limit_failures t n =
-    if nat_le (length (kept_among t (items_or_none t n))) INSTANCES then [] else fails OutOfRange t n
+    if nat_le (length (kept_among t (items_or_none t n))) INSTANCES
+    then []
+    else fails OutOfRange t n
 
 -- a list of dictionaries, also of those that aren't kept
 unfoldable pub instances_failures : Tree → ℕ → List Failure

@@ -56,8 +56,8 @@ fn read_each(alloc: Global, tree: &Tree, numbers: &[u32]) -> Result<Sequence<Fix
     Ok(Sequence::from_vec(values))
 }
 
-/// The coordinate that a value says, in 16.16: the nearest number, a tie going up; 0 where the value
-/// is no coordinate.
+/// The coordinate that a value says, in 16.16: the nearest number, a tie going up; 0 where the
+/// value is no coordinate.
 #[tactic(auto, using(crate::proofs::Billionths::few_billionths), unfolding(crate::specs::AxisValues::axis_coordinate))]
 pub fn coordinate(tree: &Tree, number: u32) -> Fixed
     ensures { result ≡ axis_coordinate tree.now number }

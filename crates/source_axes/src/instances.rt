@@ -87,8 +87,8 @@ fn count_kept(tree: &Tree, items: &[u32]) -> usize
     count
 }
 
-/// Whether an instance is kept in a font with axes: its `exports` isn't 0, and its `type`, if it has
-/// one, is `single`.
+/// Whether an instance is kept in a font with axes: its `exports` isn't 0, and its `type`, if it
+/// has one, is `single`.
 #[tactic(auto, unfolding(crate::specs::InstanceReading::is_kept))]
 fn is_kept(tree: &Tree, instance: u32) -> bool
     ensures { result ≡ is_kept tree.now instance }
