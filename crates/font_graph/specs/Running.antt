@@ -275,6 +275,8 @@ module _ (p : Parts) where
     pub index : IsSome (index_read reads)
     pub header_is : (t : p.Tree) (h : p.Header) → tree_read reads ≡ Some t
         → header_read reads ≡ Some h → p.header t ≡ Ok h
+    pub index_is : (t : p.Tree) (i : p.Index) → tree_read reads ≡ Some t
+        → index_read reads ≡ Some i → p.index t ≡ Ok i
     pub glyph_is : (i : p.Index) → index_read reads ≡ Some i → In glyph (p.numbers i)
 
   pub raw_finds : (glyph : ℕ) (reads : Reads) → Due (job.Raw glyph) reads
@@ -296,6 +298,9 @@ module _ (p : Parts) where
         header_is = λ t h a b. as_read (λ t. p.header t ≡ Ok h) (tree_read (items p same_id id))
             s.tree t tree a (as_read (λ h. p.header s.tree ≡ Ok h)
             (header_read (items p same_id id)) s.header h header b s.header_made);
+        index_is = λ t i a b. as_read (λ t. p.index t ≡ Ok i) (tree_read (items p same_id id))
+            s.tree t tree a (as_read (λ i. p.index s.tree ≡ Ok i)
+            (index_read (items p same_id id)) s.index i index b s.index_made);
         glyph_is = λ i a. as_read (λ i. In glyph (p.numbers i)) (index_read (items p same_id id))
             s.index i index a (from_numbers s glyph known.0);
       })

@@ -8,7 +8,7 @@ use Rattle.refusal_codes.specs.declared.refusal.Refusal.{Refusal}
 use Rattle.refusal_codes.specs.Gives.{◌>>=◌}
 use Rattle.plist_reader.specs.declared.tree.Tree.{Tree}
 use Rattle.plist_reader.specs.Reading.{read_of}
-use Rattle.glyphs_source.specs.HeaderReading.{header_of}
+use Rattle.glyphs_source.specs.BuiltHeaders.{built_header_of}
 use Rattle.glyphs_source.specs.IndexReading.{index_of}
 use Rattle.font_ir.specs.declared.header.Header.{Header}
 use Rattle.font_ir.specs.declared.glyph.FlatGlyph.{FlatGlyph}
@@ -29,7 +29,7 @@ pub record IsMade (source font : List ℕ) : Type 0 where
   pub glyphs : List FlatGlyph
   pub few_bytes : length source ≤ SOURCE_BYTES
   pub read : read_of source ≡ Ok tree
-  pub header_read : header_of tree ≡ Ok header
+  pub header_read : built_header_of tree ≡ Ok header
   pub index_read : index_of tree ≡ Ok index
   pub drawn : glyphs_in tree header index ≡ Ok glyphs
   pub few_glyphs : length glyphs ≤ GLYPHS
@@ -91,7 +91,7 @@ direct_made source font e =
     let whole = within 67108864 (length source) source_too_large (read_of source >>= tree_font) font
     e in
     let tree = passed (read_of source) tree_font font whole.1 in
-    let header = passed (header_of tree.value)
+    let header = passed (built_header_of tree.value)
     (λ header. (index_of tree.value >>= λ index.
     (glyphs_in tree.value header index >>= glyphs_font header))) font tree.rest in
     let index = passed (index_of tree.value)

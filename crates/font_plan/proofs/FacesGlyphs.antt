@@ -12,7 +12,7 @@ use Rattle.font_ir.specs.declared.header.Header.{Header}
 use Rattle.font_ir.specs.declared.glyph.GlyphIr.{GlyphIr}
 use Rattle.font_ir.specs.declared.glyph.FlatGlyph.{FlatGlyph}
 use Rattle.font_ir.specs.Notdef.{made_notdef_of}
-use Rattle.glyphs_layers.specs.LayerReading.{glyph_of}
+use Rattle.glyphs_layers.specs.GlyphReading.{built_glyph_of}
 use Rattle.component_flatten.specs.Flattening.{flat_of}
 use Rattle.font_graph.specs.Fonts.{AllMade}
 use Rattle.font_plan.specs.Direct.{Entry, is_notdef, is_other, others_from, notdef_from, drawn_of}
@@ -73,20 +73,20 @@ module _ (tree : Tree) (header : Header) (index : List Entry) where
   abbrev job_drawn : ℕ → Result FlatGlyph Refusal
   job_drawn number = raw_in tree header index number >>= λ raw. flat_in raw index
 
-  drawn_so : (glyph : ℕ × Entry) → IsAt index glyph → job_drawn glyph.0 ≡ drawn_of tree header glyph
+  drawn_so : (glyph : ℕ × Entry) → IsAt index glyph → job_drawn glyph.0 ≡ drawn_of tree header index glyph
   unfolding drawn_of
   drawn_so glyph at =
-      ap (λ entry. raw_at tree header glyph.0 entry >>= λ raw. flat_in raw index) at
-      ∙ by (glyph_of tree header.masters glyph.1.0 glyph.0 glyph.1.1.node) refl
+      ap (λ entry. raw_at tree header index glyph.0 entry >>= λ raw. flat_in raw index) at
+      ∙ by (built_glyph_of tree header index glyph.0) refl
     where
       by : (r : Result GlyphIr Refusal)
-          → glyph_of tree header.masters glyph.1.0 glyph.0 glyph.1.1.node ≡ r
-          → (r >>= λ raw. flat_in raw index) ≡ (r >>= flat_of glyph.1.0)
+          → built_glyph_of tree header index glyph.0 ≡ r
+          → (r >>= λ raw. flat_in raw index) ≡ (r >>= λ raw. flat_of index glyph.1.0 raw [])
       by (Err refusal) e = refl
       by (Ok raw) e =
           let known = raw_known tree header index glyph.0 raw
-          (ap (raw_at tree header glyph.0) at ∙ e) in
-          ap (flat_at raw) (ap (slice_get index) known.number_is ∙ at)
+          (ap (raw_at tree header index glyph.0) at ∙ e) in
+          ap (flat_at raw index) (ap (slice_get index) known.number_is ∙ at)
 
   -- ---- all others
 
@@ -105,12 +105,12 @@ module _ (tree : Tree) (header : Header) (index : List Entry) where
 
   pub others_direct : (glyphs : List (ℕ × Entry)) (flats : List FlatGlyph)
       → AllByRecursion (IsAt index) glyphs → Made (map (λ glyph. glyph.0) glyphs) flats
-      → all_drawn tree header glyphs ≡ Ok flats
+      → all_drawn tree header index glyphs ≡ Ok flats
   others_direct [] [] at made = refl
   others_direct [] (flat ∷ flats) at made = absurd made
   others_direct (glyph ∷ glyphs) [] at made = absurd made
   others_direct (glyph ∷ glyphs) (flat ∷ flats) at made =
-      both_drawn (drawn_of tree header glyph) (all_drawn tree header glyphs) flat flats
+      both_drawn (drawn_of tree header index glyph) (all_drawn tree header index glyphs) flat flats
       (sym (drawn_so glyph at.0) ∙ made.0) (others_direct glyphs flats at.1 made.1)
 
   -- what is drawn first, and what behind it
@@ -139,11 +139,11 @@ module _ (tree : Tree) (header : Header) (index : List Entry) where
   no_more flats e = cc
 
   pub direct_others : (glyphs : List (ℕ × Entry)) (flats : List FlatGlyph)
-      → AllByRecursion (IsAt index) glyphs → all_drawn tree header glyphs ≡ Ok flats
+      → AllByRecursion (IsAt index) glyphs → all_drawn tree header index glyphs ≡ Ok flats
       → Made (map (λ glyph. glyph.0) glyphs) flats
   direct_others [] flats at e = subst (Made []) (sym (no_more flats e)) tt
   direct_others (glyph ∷ glyphs) flats at e =
-      let d = apart (drawn_of tree header glyph) (all_drawn tree header glyphs) flats e in
+      let d = apart (drawn_of tree header index glyph) (all_drawn tree header index glyphs) flats e in
       subst (Made (glyph.0 ∷ map (λ g. g.0) glyphs)) (sym d.whole) (
         drawn_so glyph at.0 ∙ d.first_is,
         direct_others glyphs d.more at.1 d.others_are,
@@ -158,7 +158,7 @@ module _ (tree : Tree) (header : Header) (index : List Entry) where
   others = others_from 0 index
 
   abbrev whole_drawn : Option (ℕ × Entry) → Result (List FlatGlyph) Refusal
-  whole_drawn first = first_drawn (notdef_of tree header first) (all_drawn tree header others)
+  whole_drawn first = first_drawn (notdef_of tree header index first) (all_drawn tree header index others)
 
   abbrev numbers_behind : Option (ℕ × Entry) → List ℕ
   numbers_behind first = number_of first ++ map (λ glyph. glyph.0) others
@@ -207,7 +207,7 @@ module _ (tree : Tree) (header : Header) (index : List Entry) where
   direct_whole : (first : Option (ℕ × Entry)) (glyphs : List FlatGlyph) → IsSomeAt index first
       → whole_drawn first ≡ Ok glyphs → AreBehind first glyphs
   direct_whole None glyphs at e =
-      let d = apart (Ok (made_notdef_of header)) (all_drawn tree header others) glyphs e in
+      let d = apart (Ok (made_notdef_of header)) (all_drawn tree header index others) glyphs e in
       record {
         flats = d.more;
         made = direct_others others d.more (others_at index 0 index at_start) d.others_are;

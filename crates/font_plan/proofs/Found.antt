@@ -43,23 +43,24 @@ raw_within source glyph reads found raw index a b =
 
 pub flat_placed : (source : List ℕ) (glyph : ℕ) (reads : PlanReads)
     → running.SimpleFound (parts source) glyph reads → (header : Header) (flat : FlatGlyph)
-    → header_read (parts []) reads ≡ Some header → flat_read (parts []) glyph reads ≡ Some flat
-    → HasMastersPlaces header flat
-flat_placed source glyph reads found header flat a b =
+    → header.axes ≡ [] → header_read (parts []) reads ≡ Some header
+    → flat_read (parts []) glyph reads ≡ Some flat → HasMastersPlaces header flat
+flat_placed source glyph reads found header flat none a b =
     let made = found.flat_is header flat a b in
-    has_places made.tree header made.index made.glyph made.raw flat made.raw_made made.flat_made
+    has_places made.tree header made.index made.glyph made.raw flat
+    none made.raw_made made.flat_made
 
 -- ---- all glyphs
 
 places_all : (tree : Tree) (header : Header) (index : List Entry) (glyphs : List ℕ)
-    (flats : List FlatGlyph) → AllMade (drawn (parts []) tree header index) glyphs flats
-    → AllByRecursion (HasMastersPlaces header) flats
-places_all tree header index [] [] m = tt
-places_all tree header index [] (flat ∷ flats) m = absurd m
-places_all tree header index (glyph ∷ glyphs) [] m = absurd m
-places_all tree header index (glyph ∷ glyphs) (flat ∷ flats) m = (
-  drawn_places tree header index glyph flat m.0,
-  places_all tree header index glyphs flats m.1,
+    (flats : List FlatGlyph) → header.axes ≡ []
+    → AllMade (drawn (parts []) tree header index) glyphs flats → AllByRecursion (HasMastersPlaces header) flats
+places_all tree header index [] [] none m = tt
+places_all tree header index [] (flat ∷ flats) none m = absurd m
+places_all tree header index (glyph ∷ glyphs) [] none m = absurd m
+places_all tree header index (glyph ∷ glyphs) (flat ∷ flats) none m = (
+  drawn_places tree header index glyph flat none m.0,
+  places_all tree header index glyphs flats none m.1,
 )
 
 placed_behind : (header : Header) (numbers : List (Option ℕ)) (flats : List FlatGlyph)
@@ -120,11 +121,11 @@ pub record GlyphsFound (header : Header) (order : Glyphs) (reads : PlanReads)
 
 -- and what was collected is the font's glyphs
 pub glyphs_found : (source : List ℕ) (reads : PlanReads) (header : Header) (order : Glyphs)
-    (glyphs : List FlatGlyph) → running.AdvancesFound (parts source) reads
+    (glyphs : List FlatGlyph) → header.axes ≡ [] → running.AdvancesFound (parts source) reads
     → header_read (parts []) reads ≡ Some header → order_read (parts []) reads ≡ Some order
     → map Some glyphs ≡ map (glyph_read header reads) order.numbers
     → AllByRecursion IsSimple glyphs → GlyphsFound header order reads glyphs
-glyphs_found source reads header order glyphs found a b e simple =
+glyphs_found source reads header order glyphs none found a b e simple =
     let flats = some_there (flats_read (parts []) (ordered order) reads) (found.flats order b) in
     let of = found.flats_are header order flats.0 a b flats.1 in
     let is = is_order_of of.index order of.order_made in
@@ -139,7 +140,7 @@ glyphs_found source reads header order glyphs found a b e simple =
     ∙ flats_by (numbers_in of.index) reads) ∙ flats.1)
     ∙ ap (λ (o : Glyphs). glyphs_with header o flats.0) (sym is) in
     let placed = placed_behind header order.numbers flats.0 (places_all of.drawn_of.tree header
-    of.index (numbers_in of.index) flats.0 of.drawn_of.drawn_are) in
+    of.index (numbers_in of.index) flats.0 none of.drawn_of.drawn_are) in
     record {
       flats = flats.0;
       flats_are = flats.1;

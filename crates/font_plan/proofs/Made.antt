@@ -11,10 +11,11 @@ use Rattle.refusal_codes.specs.JudgedLaws.{judged_ok}
 use Rattle.refusal_codes.specs.Gives.{◌>>=◌}
 use Rattle.plist_reader.specs.declared.tree.Tree.{Tree}
 use Rattle.font_ir.specs.declared.header.Header.{Header}
-use Rattle.font_ir.specs.declared.header.Master.{Master}
 use Rattle.font_ir.specs.declared.glyph.GlyphIr.{GlyphIr}
 use Rattle.font_ir.specs.declared.glyph.FlatGlyph.{FlatGlyph}
-use Rattle.glyphs_layers.specs.LayerReading.{glyph_of, glyph_record}
+use Rattle.glyphs_layers.specs.GlyphReading.{built_glyph_of, judged_glyph, glyph_record, glyph_in}
+use Rattle.glyphs_layers.specs.GlyphPlaces.{places_of}
+use Rattle.glyphs_layers.specs.MastersAlone.{masters_places}
 use Rattle.component_flatten.specs.Flattening.{flat_of, flat_record, limit_failures}
 use Rattle.metrics_tables.specs.Measuring.{HasMastersPlaces}
 use Rattle.job_graph.specs.Members.{In, In-append_cases}
@@ -23,81 +24,92 @@ use Rattle.font_plan.specs.Jobs.{raw_at, raw_in, flat_at, flat_in, number_of, nu
 
 -- ---- a glyph that was read
 
-pub record IsRawOf (header : Header) (index : List Entry) (number : ℕ) (raw : GlyphIr)
-    : Type 0 where
+pub record IsRawOf (index : List Entry) (number : ℕ) (raw : GlyphIr) : Type 0 where
   pub number_is : raw.number ≡ number
   pub within : number < length index
-  pub places_are : raw.places ≡ map (λ master. master.location) header.masters
 
-record_is : (tree : Tree) (masters : List Master) (name : List ℕ) (number node : ℕ) (raw : GlyphIr)
-    → glyph_of tree masters name number node ≡ Ok raw
-    → glyph_record tree masters number node ≡ raw
-unfolding glyph_of
-record_is tree masters name number node raw e = (judged_ok _ _ _ _ _ e).2
+record_is : (tree : Tree) (header : Header) (index : List Entry) (number : ℕ) (raw : GlyphIr)
+    → built_glyph_of tree header index number ≡ Ok raw
+    → glyph_record tree header number (glyph_in index number) ≡ raw
+unfolding judged_glyph
+record_is tree header index number raw e = (judged_ok _ _ _ _ _ e).2
 
-record_number : (tree : Tree) (masters : List Master) (number node : ℕ)
-    → (glyph_record tree masters number node).number ≡ number
+record_number : (tree : Tree) (header : Header) (number glyph : ℕ)
+    → (glyph_record tree header number glyph).number ≡ number
 unfolding glyph_record
-record_number tree masters number node = refl
+record_number tree header number glyph = refl
 
-record_places : (tree : Tree) (masters : List Master) (number node : ℕ)
-    → (glyph_record tree masters number node).places ≡ map (λ m. m.location) masters
+record_places : (tree : Tree) (header : Header) (number glyph : ℕ)
+    → (glyph_record tree header number glyph).places ≡ places_of tree header glyph
 unfolding glyph_record
-record_places tree masters number node = refl
+record_places tree header number glyph = refl
 
 pub raw_known : (tree : Tree) (header : Header) (index : List Entry) (number : ℕ) (raw : GlyphIr)
-    → raw_in tree header index number ≡ Ok raw → IsRawOf header index number raw
+    → raw_in tree header index number ≡ Ok raw → IsRawOf index number raw
 raw_known tree header index number raw e = at (slice_get index number) refl e
   where
     at : (entry : Option Entry) → slice_get index number ≡ entry
-        → raw_at tree header number entry ≡ Ok raw → IsRawOf header index number raw
+        → raw_at tree header index number entry ≡ Ok raw → IsRawOf index number raw
     at None is f = absurd cc
-    at (Some entry) is f =
-        let made = record_is tree header.masters entry.0 number entry.1.node raw f in record {
-          number_is = sym (ap (λ (r : GlyphIr). r.number) made)
-              ∙ record_number tree header.masters number entry.1.node;
-          within = slice_get_within index number entry is;
-          places_are = sym (ap (λ (r : GlyphIr). r.places) made)
-              ∙ record_places tree header.masters number entry.1.node;
-        }
+    at (Some entry) is f = record {
+      number_is = sym (ap (λ (r : GlyphIr). r.number)
+          (record_is tree header index number raw f))
+          ∙ record_number tree header number (glyph_in index number);
+      within = slice_get_within index number entry is;
+    }
+
+-- a font without axes has no other places than its master's
+raw_places : (tree : Tree) (header : Header) (index : List Entry) (number : ℕ) (raw : GlyphIr)
+    → header.axes ≡ [] → raw_in tree header index number ≡ Ok raw
+    → raw.places ≡ map (λ master. master.location) header.masters
+raw_places tree header index number raw none e = at (slice_get index number) e
+  where
+    at : (entry : Option Entry) → raw_at tree header index number entry ≡ Ok raw
+        → raw.places ≡ map (λ master. master.location) header.masters
+    at None f = absurd cc
+    at (Some entry) f =
+        sym (ap (λ (r : GlyphIr). r.places) (record_is tree header index number raw f))
+        ∙ record_places tree header number (glyph_in index number)
+        ∙ masters_places tree header (glyph_in index number) none
 
 -- ---- a glyph that was drawn
 
-flat_record_is : (name : List ℕ) (raw : GlyphIr) (flat : FlatGlyph) → flat_of name raw ≡ Ok flat
-    → flat_record raw ≡ flat
+flat_record_is : (index : List Entry) (name : List ℕ) (raw : GlyphIr) (flat : FlatGlyph)
+    → flat_of index name raw [] ≡ Ok flat → flat_record index raw [] ≡ flat
 unfolding flat_of
-flat_record_is name raw flat e = (judged_ok (refusal_of FLAT name) None
-    (foremost (limit_failures (flat_record raw))) (flat_record raw) flat e).2
+flat_record_is index name raw flat e = (judged_ok (refusal_of FLAT name) None
+    (foremost (limit_failures [] (flat_record index raw []))) (flat_record index raw []) flat e).2
 
-flat_record_places : (raw : GlyphIr) → (flat_record raw).places ≡ raw.places
+flat_record_places : (index : List Entry) (raw : GlyphIr)
+    → (flat_record index raw []).places ≡ raw.places
 unfolding flat_record
-flat_record_places raw = refl
+flat_record_places index raw = refl
 
 flat_places : (raw : GlyphIr) (index : List Entry) (flat : FlatGlyph)
     → flat_in raw index ≡ Ok flat → flat.places ≡ raw.places
 flat_places raw index flat e = at (slice_get index raw.number) e
   where
-    at : (entry : Option Entry) → flat_at raw entry ≡ Ok flat → flat.places ≡ raw.places
+    at : (entry : Option Entry) → flat_at raw index entry ≡ Ok flat → flat.places ≡ raw.places
     at None f = absurd cc
     at (Some entry) f =
-        sym (ap (λ (g : FlatGlyph). g.places) (flat_record_is entry.0 raw flat f))
-        ∙ flat_record_places raw
+        sym (ap (λ (g : FlatGlyph). g.places) (flat_record_is index entry.0 raw flat f))
+        ∙ flat_record_places index raw
 
 pub has_places : (tree : Tree) (header : Header) (index : List Entry) (number : ℕ) (raw : GlyphIr)
-    (flat : FlatGlyph) → raw_in tree header index number ≡ Ok raw → flat_in raw index ≡ Ok flat
-    → HasMastersPlaces header flat
-has_places tree header index number raw flat e f =
-    flat_places raw index flat f ∙ (raw_known tree header index number raw e).places_are
+    (flat : FlatGlyph) → header.axes ≡ [] → raw_in tree header index number ≡ Ok raw
+    → flat_in raw index ≡ Ok flat → HasMastersPlaces header flat
+has_places tree header index number raw flat none e f =
+    flat_places raw index flat f ∙ raw_places tree header index number raw none e
 
 pub drawn_places : (tree : Tree) (header : Header) (index : List Entry) (number : ℕ)
-    (flat : FlatGlyph)
+    (flat : FlatGlyph) → header.axes ≡ []
     → (raw_in tree header index number >>= λ raw. flat_in raw index) ≡ Ok flat
     → HasMastersPlaces header flat
-drawn_places tree header index number flat e = by (raw_in tree header index number) refl e
+drawn_places tree header index number flat none e = by (raw_in tree header index number) refl e
   where
     by : (r : Result GlyphIr Refusal) → raw_in tree header index number ≡ r
         → (r >>= λ raw. flat_in raw index) ≡ Ok flat → HasMastersPlaces header flat
-    by (Ok raw) is f = has_places tree header index number raw flat is f
+    by (Ok raw) is f = has_places tree header index number raw flat none is f
     by (Err refusal) is f = absurd cc
 
 -- ---- the numbers of a font's glyphs are those of glyphs of the index

@@ -11,7 +11,7 @@ use Rattle.plist_reader.specs.Reading.{text_begun, bracket_opened, value_begun, 
 use Rattle.plist_reader.specs.Reading.{dictionary_closed, between, in_word, in_quoted, in_bytes}
 use Rattle.plist_reader.specs.Reading.{in_half, step, whole, finish, read_of}
 use Rattle.glyphs_source.specs.OnLiterals.{header_on_literals, index_on_literals}
-use Rattle.glyphs_layers.specs.OnLiterals.{layers_on_literals}
+use Rattle.glyphs_layers.specs.OnLiterals.{glyphs_on_literals}
 use Rattle.component_flatten.specs.Flattening.{flat_record, flat_of}
 use Rattle.font_assembly.specs.Checksum.{total}
 use Rattle.font_assembly.specs.File.{entry_selector, directory_head, directory_entry}
@@ -28,7 +28,7 @@ unfolding is_utf8 chars utf8_valid_len encode is_space is_word octal_value hex_v
     character_of escape_begun escape_unit escape_digit escape_next start value_ended key_ended
     text_ended unexpected_rule text_begun bracket_opened value_begun list_closed dictionary_closed
     between in_word in_quoted in_bytes in_half step whole finish read_of header_on_literals
-    index_on_literals layers_on_literals flat_record flat_of total entry_selector directory_head
+    index_on_literals glyphs_on_literals flat_record flat_of total entry_selector directory_head
     directory_entry unadjusted_file file head_table hhea_table maxp_table drawn_of glyphs_in written
     tree_font direct_font on settle verdict tree_of font_of
 font_on_literals = tt

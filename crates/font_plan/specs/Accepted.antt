@@ -9,7 +9,7 @@ use Rattle.plist_reader.specs.declared.tree.Tree.{Tree}
 use Rattle.plist_reader.specs.Grammar.{HasTree}
 use Rattle.font_ir.specs.declared.header.Header.{Header}
 use Rattle.font_ir.specs.declared.glyph.FlatGlyph.{FlatGlyph}
-use Rattle.glyphs_source.specs.HeaderReading.{header_of}
+use Rattle.glyphs_source.specs.BuiltHeaders.{built_header_of}
 use Rattle.glyphs_source.specs.IndexReading.{index_of}
 use Rattle.glyf_writer.specs.Tables as outlines
 use Rattle.font_assembly.specs.File.{file, file_len}
@@ -24,7 +24,7 @@ pub record IsFontOf (source font : List ℕ) : Type 0 where
   pub glyphs : List FlatGlyph
   pub few_bytes : length source ≤ SOURCE_BYTES
   pub read : HasTree source tree
-  pub header_read : header_of tree ≡ Ok header
+  pub header_read : built_header_of tree ≡ Ok header
   pub index_read : index_of tree ≡ Ok index
   pub drawn : glyphs_in tree header index ≡ Ok glyphs
   pub few_glyphs : length glyphs ≤ GLYPHS

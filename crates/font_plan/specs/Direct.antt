@@ -22,9 +22,9 @@ use Rattle.font_ir.specs.declared.glyph.FlatGlyph.{FlatGlyph}
 use Rattle.font_ir.specs.Glyphs.{Glyphs}
 use Rattle.font_ir.specs.Notdef.{made_notdef_of}
 use Rattle.glyphs_source.specs.declared.entries.IndexEntry.{IndexEntry}
-use Rattle.glyphs_source.specs.HeaderReading.{header_of}
+use Rattle.glyphs_source.specs.BuiltHeaders.{built_header_of}
 use Rattle.glyphs_source.specs.IndexReading.{index_of}
-use Rattle.glyphs_layers.specs.LayerReading.{glyph_of}
+use Rattle.glyphs_layers.specs.GlyphReading.{built_glyph_of}
 use Rattle.component_flatten.specs.Flattening.{flat_of}
 use Rattle.glyf_writer.specs.GlyphData.{simple_data}
 use Rattle.font_ir.specs.Outlines.{outline_at}
@@ -79,30 +79,31 @@ notdef_from number (entry ∷ entries) = if is_notdef entry then Some (number, e
     (number + 1) entries
 
 -- a glyph, read and drawn
-unfoldable pub drawn_of : Tree → Header → ℕ × Entry → Result FlatGlyph Refusal
-drawn_of tree header glyph = glyph_of tree header.masters glyph.1.0 glyph.0 glyph.1.1.node >>=
-    flat_of glyph.1.0
+unfoldable pub drawn_of : Tree → Header → List Entry → ℕ × Entry → Result FlatGlyph Refusal
+drawn_of tree header index glyph = built_glyph_of tree header index glyph.0 >>=
+    λ raw. flat_of index glyph.1.0 raw []
 
 -- glyphs, and others behind them
 abbrev pub followed_by : List FlatGlyph → Result (List FlatGlyph) Refusal
     → Result (List FlatGlyph) Refusal
 followed_by flats others = others >>= λ more. Ok (flats ++ more)
 
-abbrev pub all_drawn : Tree → Header → List (ℕ × Entry) → Result (List FlatGlyph) Refusal
-all_drawn tree header [] = Ok []
-all_drawn tree header (glyph ∷ glyphs) = drawn_of tree header glyph >>= λ flat. followed_by
-    (flat ∷ []) (all_drawn tree header glyphs)
+abbrev pub all_drawn : Tree → Header → List Entry → List (ℕ × Entry)
+    → Result (List FlatGlyph) Refusal
+all_drawn tree header index [] = Ok []
+all_drawn tree header index (glyph ∷ glyphs) = drawn_of tree header index glyph >>= λ flat.
+    followed_by (flat ∷ []) (all_drawn tree header index glyphs)
 
 -- the glyph `.notdef`: the source's, or else a made one
-abbrev pub notdef_of : Tree → Header → Option (ℕ × Entry) → Result FlatGlyph Refusal
-notdef_of tree header None = Ok (made_notdef_of header)
-notdef_of tree header (Some glyph) = drawn_of tree header glyph
+abbrev pub notdef_of : Tree → Header → List Entry → Option (ℕ × Entry) → Result FlatGlyph Refusal
+notdef_of tree header index None = Ok (made_notdef_of header)
+notdef_of tree header index (Some glyph) = drawn_of tree header index glyph
 
 -- the glyphs of the font in its order: `.notdef`, and then the others in the order of the file
 unfoldable pub glyphs_in : Tree → Header → List Entry → Result (List FlatGlyph) Refusal
 glyphs_in tree header index =
-    notdef_of tree header (notdef_from 0 index) >>= λ notdef. followed_by (notdef ∷ [])
-    (all_drawn tree header (others_from 0 index))
+    notdef_of tree header index (notdef_from 0 index) >>= λ notdef. followed_by (notdef ∷ [])
+    (all_drawn tree header index (others_from 0 index))
 
 -- that order
 abbrev pub order_in : List Entry → Glyphs
@@ -155,7 +156,7 @@ glyphs_font header glyphs = if nat_lt GLYPHS (length glyphs) then Err
 -- ---- the whole
 
 unfoldable pub tree_font : Tree → Result (List ℕ) Refusal
-tree_font tree = header_of tree >>= λ header.
+tree_font tree = built_header_of tree >>= λ header.
     (index_of tree >>= λ index. (glyphs_in tree header index >>= glyphs_font header))
 
 -- the font of a source, where the source is accepted

@@ -8,7 +8,7 @@ use Rattle.font_ir.specs.declared.header.Header.{Header}
 use Rattle.font_ir.specs.declared.glyph.GlyphIr.{GlyphIr}
 use Rattle.font_ir.specs.declared.glyph.FlatGlyph.{FlatGlyph}
 use Rattle.font_ir.specs.declared.tag.Tag.{Tag}
-use Rattle.glyphs_source.specs.HeaderReading.{header_of}
+use Rattle.glyphs_source.specs.BuiltHeaders.{built_header_of}
 use Rattle.glyphs_source.specs.IndexReading.{index_of}
 use Rattle.glyf_writer.specs.Tables as outlines
 use Rattle.job_graph.specs.Members.{In}
@@ -24,7 +24,7 @@ use Rattle.font_plan.specs.Jobs.{outline_table, table_tags}
 pub record IsRead (source : List ℕ) (tree : Tree) (header : Header) (index : List Entry)
     : Type 0 where
   pub text_read : tree_of source ≡ Ok tree
-  pub header_read : header_of tree ≡ Ok header
+  pub header_read : built_header_of tree ≡ Ok header
   pub index_read : index_of tree ≡ Ok index
 
 -- and the glyphs of the font were drawn
@@ -40,7 +40,7 @@ pub record AreDrawn (source : List ℕ) (header : Header) (index : List Entry)
 pub record HeaderFails (source : List ℕ) (r : Refusal) : Type 0 where
   pub tree : Tree
   pub text_read : tree_of source ≡ Ok tree
-  pub refused : header_of tree ≡ Err r
+  pub refused : built_header_of tree ≡ Err r
 
 -- its index of glyphs
 pub record IndexFails (source : List ℕ) (r : Refusal) : Type 0 where

@@ -20,9 +20,9 @@ use Rattle.font_ir.specs.declared.tag.Tag.{Tag}
 use Rattle.font_ir.specs.Glyphs.{Glyphs}
 use Rattle.font_ir.specs.Notdef.{made_notdef_of}
 use Rattle.font_ir.specs.Outlines.{outline_at}
-use Rattle.glyphs_source.specs.HeaderReading.{header_of}
+use Rattle.glyphs_source.specs.BuiltHeaders.{built_header_of}
 use Rattle.glyphs_source.specs.IndexReading.{index_of}
-use Rattle.glyphs_layers.specs.LayerReading.{glyph_of}
+use Rattle.glyphs_layers.specs.GlyphReading.{built_glyph_of}
 use Rattle.component_flatten.specs.Flattening.{flat_of}
 use Rattle.glyf_writer.specs.GlyphData.{simple_data}
 use Rattle.glyf_writer.specs.Tables as outlines
@@ -55,19 +55,20 @@ numbers_in index = number_of (notdef_from 0 index) ++ map (λ glyph. glyph.0) (o
 abbrev pub nowhere : {A : Type 0} → Result A Refusal
 nowhere = Err (refusal_of RAW [] (record { rule = MissingLayer; place = 0 }))
 
-abbrev pub raw_at : Tree → Header → ℕ → Option Entry → Result GlyphIr Refusal
-raw_at tree header number None = nowhere
-raw_at tree header number (Some entry) = glyph_of tree header.masters entry.0 number entry.1.node
+abbrev pub raw_at : Tree → Header → List Entry → ℕ → Option Entry → Result GlyphIr Refusal
+raw_at tree header index number None = nowhere
+raw_at tree header index number (Some entry) = built_glyph_of tree header index number
 
 abbrev pub raw_in : Tree → Header → List Entry → ℕ → Result GlyphIr Refusal
-raw_in tree header index number = raw_at tree header number (slice_get index number)
+raw_in tree header index number = raw_at tree header index number (slice_get index number)
 
-abbrev pub flat_at : GlyphIr → Option Entry → Result FlatGlyph Refusal
-flat_at glyph None = nowhere
-flat_at glyph (Some entry) = flat_of entry.0 glyph
+-- a glyph without components has no bases
+abbrev pub flat_at : GlyphIr → List Entry → Option Entry → Result FlatGlyph Refusal
+flat_at glyph index None = nowhere
+flat_at glyph index (Some entry) = flat_of index entry.0 glyph []
 
 abbrev pub flat_in : GlyphIr → List Entry → Result FlatGlyph Refusal
-flat_in glyph index = flat_at glyph (slice_get index glyph.number)
+flat_in glyph index = flat_at glyph index (slice_get index glyph.number)
 
 abbrev pub simple_in : Header → FlatGlyph → List ℕ
 simple_in header glyph = simple_data false (outline_at header.origin glyph)
@@ -185,7 +186,7 @@ parts source = record {
   Table = Option (List ℕ);
   File = List ℕ;
   tree = tree_of source;
-  header = header_of;
+  header = built_header_of;
   index = index_of;
   numbers = numbers_in;
   raw = raw_in;

@@ -2,7 +2,9 @@
 
 ghost use Rattle.std.specs.Prelude.{◌≡◌, ◌<◌, ◌∷◌, [], length, IfOk, Ok};
 ghost use Rattle.refusal_codes.specs.Gives.{Gives};
-ghost use Rattle.glyphs_source.specs.HeaderReading.{header_of, IsReadHeader};
+ghost use Rattle.glyphs_source.specs.BuiltHeaders.{built_header_of};
+ghost use Rattle.glyphs_source.specs.HeaderReading.{IsReadHeader};
+ghost use Rattle.glyphs_source.specs.IndexReading.{index_of};
 ghost use Rattle.font_graph.specs.Graph.{spec_with};
 ghost use Rattle.font_graph.specs.Same.{same_id};
 ghost use Rattle.font_graph.specs.declared.ids.JobId.TheVariants as job;
@@ -19,7 +21,7 @@ use crate::specs_of;
 use component_flatten::flatten;
 use font_ir::{FlatGlyph, GlyphIr, Header};
 use glyf_writer::simple_bytes;
-use glyphs_layers::raw_glyph;
+use glyphs_layers::built_glyph;
 use glyphs_source::GlyphIndex;
 use plist_reader::Tree;
 use refusal_codes::{NoMemory, ReadError};
@@ -35,12 +37,13 @@ fn read_raw(
     index: &GlyphIndex,
     glyph: u32,
 ) -> Result<GlyphIr, ReadError>
-    requires header { header_of tree.now ≡ Ok header.now }
+    requires header { built_header_of tree.now ≡ Ok header.now }
+    requires index { index_of tree.now ≡ Ok index.now }
     requires glyph { glyph < length index.now }
     ensures raw { Gives (λ raw. raw) result (raw_in tree.now header.now index.now glyph) }
     ensures known { IfOk result IsRaw }
 {
-    raw_glyph(alloc, tree, header, index, glyph)
+    built_glyph(alloc, tree, header, index, glyph)
 }
 
 /// Reads the layers of a glyph.
@@ -51,7 +54,8 @@ pub fn run_raw(
     index: &GlyphIndex,
     glyph: u32,
 ) -> Result<PlanOutcome, NoMemory>
-    requires header { header_of tree.now ≡ Ok header.now }
+    requires header { built_header_of tree.now ≡ Ok header.now }
+    requires index { index_of tree.now ≡ Ok index.now }
     requires glyph { glyph < length index.now }
     ensures { Comes result (made_by an.Raw
         (λ raw. spec_with (parts []) same_id [] (job.Flat glyph) ∷ [])

@@ -4,7 +4,7 @@ ghost use Rattle.std.specs.Prelude.{◌≡◌, ◌<◌, ℕ, List, [], length, O
 ghost use Rattle.refusal_codes.specs.Gives.{Gives};
 ghost use Rattle.refusal_codes.specs.declared.limits.TheConstants.{SOURCE_BYTES};
 ghost use Rattle.plist_reader.specs.Tree.{IsTree};
-ghost use Rattle.glyphs_source.specs.HeaderReading.{header_of};
+ghost use Rattle.glyphs_source.specs.BuiltHeaders.{built_header_of};
 ghost use Rattle.glyphs_source.specs.IndexReading.{index_of};
 ghost use Rattle.font_graph.specs.Graph.{after_index};
 ghost use Rattle.font_graph.specs.Same.{same_id};
@@ -20,7 +20,7 @@ use crate::known::Known;
 use crate::order::numbers_in;
 use crate::outcomes::{PlanOutcome, made, made_last, refused};
 use crate::specs_of;
-use glyphs_source::{GlyphIndex, glyph_index, header};
+use glyphs_source::{GlyphIndex, built_header, glyph_index};
 use plain_lists::Text;
 use plist_reader::{Tree, read};
 use refusal_codes::limits::SOURCE_BYTES;
@@ -67,9 +67,9 @@ pub fn run_tree(alloc: Global, source: &[u8]) -> Result<PlanOutcome, NoMemory>
 /// Reads the source's header.
 pub fn run_header(alloc: Global, tree: &Tree) -> Result<PlanOutcome, NoMemory>
     requires { IsTree tree.now }
-    ensures { Comes result (made_by an.Header none (header_of tree.now)) }
+    ensures { Comes result (made_by an.Header none (built_header_of tree.now)) }
 {
-    match header(alloc, tree) {
+    match built_header(alloc, tree) {
         Ok(header) => made_last(alloc, Item::Header(Known::of(header))),
         Err(ReadError::Refused(refusal)) => Ok(refused(alloc, refusal)),
         Err(ReadError::NoMemory) => Err(NoMemory),

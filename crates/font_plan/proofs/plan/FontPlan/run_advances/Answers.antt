@@ -1,5 +1,6 @@
 -- what the job finds is what its part reads
-use Rattle.std.proofs.Common.{ap, sym, ◌∙◌, subst, Some}
+use Rattle.std.proofs.Common.{◌≡◌, [], ap, sym, ◌∙◌, subst, Some}
+use Rattle.font_ir.specs.declared.header.Header.{Header}
 use Rattle.font_plan.specs.Jobs.{parts}
 use Rattle.font_plan.specs.Settling.{Comes}
 use Rattle.std.proofs.Common.{map, Ok}
@@ -35,6 +36,8 @@ glyphs_in-requires-clause-there c = glyphs_there c.args.self.now c.args.reads.no
 pub run_advances-requires-clause-drawn : goal.run_advances-requires-clause-drawn
 run_advances-requires-clause-drawn c = (glyphs_found c.args.self.now c.args.reads.now
     c.get-header.result.now c.order_in-order.result.now (glyphs_of c.as_slice.result.now)
+    (subst (λ (h : Header). h.axes ≡ []) (sym c.get-header.ensures.value)
+    c.get-header.ensures.holds.no_axes)
     (advances_finds (parts c.args.self.now) c.args.reads.now c.requires.due c.requires.done)
     (c.header_in.ensures ∙ ap Some (sym c.get-header.ensures.value))
     c.order_in-order.ensures
@@ -49,6 +52,8 @@ pub run_advances-requires-clause-order : goal.run_advances-requires-clause-order
 run_advances-requires-clause-order c = sym (length-map c.as_slice.result.now arc_value)
     ∙ (glyphs_found c.args.self.now c.args.reads.now c.get-header.result.now
     c.order_in-order.result.now (glyphs_of c.as_slice.result.now)
+    (subst (λ (h : Header). h.axes ≡ []) (sym c.get-header.ensures.value)
+    c.get-header.ensures.holds.no_axes)
     (advances_finds (parts c.args.self.now) c.args.reads.now c.requires.due c.requires.done)
     (c.header_in.ensures ∙ ap Some (sym c.get-header.ensures.value))
     c.order_in-order.ensures
@@ -63,6 +68,8 @@ pub returns : goal.returns
 returns c =
     let found = (glyphs_found c.args.self.now c.args.reads.now c.get-header.result.now
     c.order_in-order.result.now (glyphs_of c.as_slice.result.now)
+    (subst (λ (h : Header). h.axes ≡ []) (sym c.get-header.ensures.value)
+    c.get-header.ensures.holds.no_axes)
     (advances_finds (parts c.args.self.now) c.args.reads.now c.requires.due c.requires.done)
     (c.header_in.ensures ∙ ap Some (sym c.get-header.ensures.value))
     c.order_in-order.ensures

@@ -26,6 +26,13 @@ run_raw-requires-clause-header c = (raw_finds (parts c.args.self.now) c.args.gly
     (c.tree_in.ensures ∙ ap Some (sym c.get-tree.ensures.value))
     (c.header_in.ensures ∙ ap Some (sym c.get-header.ensures.value))
 
+pub run_raw-requires-clause-index : goal.run_raw-requires-clause-index
+run_raw-requires-clause-index c = (raw_finds (parts c.args.self.now) c.args.glyph
+    c.args.reads.now c.requires.due c.requires.done).index_is c.get-tree.result.now
+    c.get-index.result.now
+    (c.tree_in.ensures ∙ ap Some (sym c.get-tree.ensures.value))
+    (c.index_in.ensures ∙ ap Some (sym c.get-index.ensures.value))
+
 pub run_raw-requires-clause-glyph : goal.run_raw-requires-clause-glyph
 run_raw-requires-clause-glyph c = number_within c.get-index.result.now c.args.glyph
     ((raw_finds (parts c.args.self.now) c.args.glyph c.args.reads.now c.requires.due

@@ -1,5 +1,6 @@
 -- what the job finds is what its part reads
-use Rattle.std.proofs.Common.{ap, sym, ◌∙◌, subst, Some}
+use Rattle.std.proofs.Common.{◌≡◌, [], ap, sym, ◌∙◌, subst, Some}
+use Rattle.font_ir.specs.declared.header.Header.{Header}
 use Rattle.font_plan.specs.Jobs.{parts}
 use Rattle.font_plan.specs.Settling.{Comes}
 use Rattle.font_graph.specs.Running.{simple_finds}
@@ -26,6 +27,8 @@ run_simple-requires-clause-drawn c =
       places = flat_placed c.args.self.now c.args.glyph c.args.reads.now
           (simple_finds (parts c.args.self.now) c.args.glyph c.args.reads.now c.requires.due
           c.requires.done) c.get-header.result.now c.get-flat.result.now
+          (subst (λ (h : Header). h.axes ≡ []) (sym c.get-header.ensures.value)
+          c.get-header.ensures.holds.no_axes)
           (c.header_in.ensures ∙ ap Some (sym c.get-header.ensures.value))
           (c.flat_in.ensures ∙ ap Some (sym (c.get-flat.ensures ∙ c.get.ensures.value)));
     }
