@@ -1,6 +1,6 @@
 -- Worked examples: the axes and the instances of small sources, and the rules that they fail.
-use Rattle.std.specs.Prelude.{◌≡◌, ℕ, ◌+◌, List, [], ◌∷◌, ◌++◌, length, replicate, pos, negsuc}
-use Rattle.std.specs.Prelude.{codes, refl}
+use Rattle.std.specs.Prelude.{◌≡◌, ℕ, ◌+◌, List, [], ◌∷◌, ◌++◌, length, map, replicate, ℤ, pos}
+use Rattle.std.specs.Prelude.{negsuc, codes, refl}
 use Rattle.plist_reader.specs.declared.tree.Tree.{Tree}
 use Rattle.plist_reader.specs.declared.tree.TreeNode.{TreeNode}
 use Rattle.plist_reader.specs.declared.tree.TreeValue.TheVariants as tree
@@ -11,6 +11,7 @@ use Rattle.refusal_codes.specs.declared.rule.Rule.TheVariants.{MissingKey, OutOf
 use Rattle.refusal_codes.specs.declared.rule.Rule.TheVariants.{BadTag, TooManyAxes, AxisCount}
 use Rattle.refusal_codes.specs.declared.first.Failure.{Failure}
 use Rattle.source_values.specs.Asking.{optional}
+use Rattle.source_axes.specs.AxisValues.{axis_coordinate}
 use Rattle.source_axes.specs.AxisReading.{axes_failures, axes_of, too_many_axes}
 use Rattle.source_axes.specs.InstanceReading.{instances_failures, instances_of}
 use Rattle.source_axes.specs.InstanceReading.{instance_count_failures}
@@ -37,6 +38,35 @@ local_axes t = optional (codes "axes") axes_failures t t.top
 
 abbrev local_instances : Tree → List Failure
 local_instances t = optional (codes "instances") instances_failures t t.top
+
+-- ---- coordinates in 16.16
+
+abbrev number : List ℕ → Tree
+number text = record { top = 0; nodes = word 0 text ∷ [] }
+
+-- thousandths and billionths are rounded to the nearest, and halves up; what is out of range is 0
+abbrev coordinate_rows : List (List ℕ × ℤ)
+coordinate_rows =
+    (codes "400", pos 26214400)
+    ∷ (codes "-32767", negsuc 2147418111)
+    ∷ (codes "32767", pos 2147418112)
+    ∷ (codes "0.5", pos 32768)
+    ∷ (codes "10000.1", pos 655366554)
+    ∷ (codes "0.000007629", pos 0)
+    ∷ (codes "0.000007630", pos 1)
+    ∷ (codes "-0.00000763", negsuc 0)
+    ∷ (codes "0.00000762939453125", pos 0)
+    ∷ (codes "32767.000000001", pos 0)
+    ∷ (codes "wide", pos 0)
+    ∷ []
+
+coordinates-computed :
+    map (λ row. (axis_coordinate (number row.0) 0).0) coordinate_rows
+    ≡ map (λ row. row.1) coordinate_rows
+unfolding axes_on_literals
+coordinates-computed = refl
+
+-- ---- axes and instances
 
 -- two axes; two instances are kept, of which one has one coordinate, the others are not exported
 -- and of another type

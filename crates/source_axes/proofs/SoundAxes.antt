@@ -1,14 +1,11 @@
 -- What is read where no rule fails fulfils what is asked of a header's axes and instances.
-use Rattle.std.proofs.Common.{◌≡◌, ℕ, ◌+◌, ◌-◌, ◌*◌, ◌≤◌, ◌<◌, Bool, true, false, ◌&&◌, ◌||◌, ◌==◌}
-use Rattle.std.proofs.Common.{not, cond, leb, eqb, ltb, List, [], ◌∷◌, ◌++◌, length, map, take}
-use Rattle.std.proofs.Common.{Option}
-use Rattle.std.proofs.Common.{Some, None, ℤ, pos, negsuc, neg_ℤ, ◌+ℤ◌, ◌*ℤ◌, ◌≤ℤ◌, refl, sym, ap}
-use Rattle.std.proofs.Common.{◌∙◌}
+use Rattle.std.proofs.Common.{◌≡◌, ℕ, ◌+◌, ◌-◌, ◌≤◌, Bool, true, false, ◌&&◌, ◌==◌}
+use Rattle.std.proofs.Common.{not, cond, leb, List, [], ◌∷◌, ◌++◌, length, map, take, Option}
+use Rattle.std.proofs.Common.{Some, None, refl, sym, ap, ◌∙◌}
 use Rattle.std.proofs.Common.{subst, arith}
 use Rattle.std.specs.Prelude.{codes, flat_map, option_and_then, unwrap_or, replicate}
 use Rattle.std.specs.List.{All, AllByRecursion, filter, list_all}
 use Rattle.std.proofs.lemmas.Bool.Decides.{nat_tests}
-use Rattle.std.proofs.lemmas.Int.{ints}
 use Rattle.std.proofs.lemmas.List.{length-map, take_all}
 use Rattle.std.proofs.lemmas.List.Concat.{flat_map-cons}
 use Rattle.std.proofs.lemmas.List.Elements.{All-from_recursion}
@@ -16,18 +13,15 @@ use Rattle.plist_reader.specs.declared.tree.Tree.{Tree}
 use Rattle.plist_reader.specs.Tree.{find_in, text_at}
 use Rattle.fixed_math.specs.declared.Fixed.{Fixed}
 use Rattle.fixed_math.specs.FixedPoint.{floor_quotient}
-use Rattle.fixed_math.specs.FloorLaws.{floor_monotone}
 use Rattle.font_ir.specs.Headers.{IsNameLong, IsAxisCoordinate, IsInstance}
 use Rattle.font_ir.specs.Tags.{IsTagByte, IsTag}
 use Rattle.refusal_codes.specs.declared.rule.Rule.TheVariants.{MissingKey, OutOfRange, AxisCount}
 use Rattle.refusal_codes.specs.declared.rule.Rule.TheVariants.{BadTag, TooManyAxes}
 use Rattle.refusal_codes.specs.declared.first.Failure.{Failure}
 use Rattle.refusal_codes.specs.First.{foremost}
-use Rattle.source_values.specs.declared.decimals.Decimal.{Decimal}
-use Rattle.source_values.specs.Values.{items_at, is_dictionary, decimal_at, items_under}
+use Rattle.source_values.specs.Values.{items_at, is_dictionary, items_under}
 use Rattle.source_values.specs.Asking.{fails, name_failures_by, name_failures, each_by, each}
 use Rattle.source_values.specs.Asking.{dictionary, under_by, optional}
-use Rattle.source_axes.specs.AxisValues.{is_axis_value, in_billionths, rounded, coordinate_by}
 use Rattle.source_axes.specs.AxisValues.{axis_coordinate, coordinates_under}
 use Rattle.source_axes.specs.AxisReading.{is_tag_byte, is_tag, tag_failures_by, tag_failures}
 use Rattle.source_axes.specs.AxisReading.{axis_parts_failures, axes_failures, padded, axis_of}
@@ -39,7 +33,7 @@ use Rattle.source_axes.specs.InstanceReading.{kept_instances, instances_of, coun
 use Rattle.source_axes.specs.InstanceReading.{instance_count_failures}
 use Rattle.source_axes.specs.ReadAxes.{AreReadAxes, AreReadInstances, HasSoundAxes}
 use Rattle.source_axes.specs.ReadAxes.{HasSoundInstances, SoundAxesAreRead, SoundInstancesAreRead}
-use Rattle.source_axes.proofs.Billionths.{at_few}
+use Rattle.source_axes.specs.AxisValueLaws.{small_coordinates}
 
 -- ---- no failures
 
@@ -205,71 +199,6 @@ sound_axes t sound =
       tags = All-from_recursion (λ axis. IsTag axis.tag) (map (axis_of t) numbers)
           (axes_tagged t numbers each);
     }
-
--- ---- coordinates
-
-small_size : (w b : ℕ) → b ≤ 999999999 → (ltb w 32767 || (eqb w 32767 && eqb b 0)) ≡ true
-    → 1000000000 * w + b ≤ 32767000000000
-small_size w b few e = by (ltb w 32767) (eqb w 32767) (eqb b 0) refl refl refl e
-  where
-    by : (x y z : Bool) → ltb w 32767 ≡ x → eqb w 32767 ≡ y → eqb b 0 ≡ z → (x || (y && z)) ≡ true
-        → 1000000000 * w + b ≤ 32767000000000
-    by true y z p q r e = let less : w < 32767 = grind (arith, nat_tests, p) in omega arith
-    by false true true p q r e =
-        let same : w ≡ 32767 = grind (arith, nat_tests, q) in
-        let none : b ≡ 0 = grind (arith, nat_tests, r) in omega arith
-    by false true false p q r e = absurd cc
-    by false false z p q r e = absurd cc
-
-abbrev IsSmallRaw : ℤ → Type 0
-IsSmallRaw z = (negsuc 2147418111 ≤ℤ z) × (z ≤ℤ pos 2147418112)
-
-small_raw : (n : ℤ) → negsuc 32766999999999 ≤ℤ n → n ≤ℤ pos 32767000000000
-    → IsSmallRaw (rounded n)
-small_raw n low high =
-    let least : (pos 65536 *ℤ negsuc 32766999999999 +ℤ pos 500000000)
-    ≤ℤ (pos 65536 *ℤ n +ℤ pos 500000000) = omega (arith, ints) in
-    let greatest : (pos 65536 *ℤ n +ℤ pos 500000000)
-    ≤ℤ (pos 65536 *ℤ pos 32767000000000 +ℤ pos 500000000) = omega (arith, ints) in (
-      floor_monotone (pos 65536 *ℤ negsuc 32766999999999 +ℤ pos 500000000)
-          (pos 65536 *ℤ n +ℤ pos 500000000) 1000000000 (omega arith) least,
-      floor_monotone (pos 65536 *ℤ n +ℤ pos 500000000)
-          (pos 65536 *ℤ pos 32767000000000 +ℤ pos 500000000) 1000000000 (omega arith) greatest,
-    )
-
-small_decimal : (d : Decimal) → d.billionths ≤ 999999999 → is_axis_value d ≡ true
-    → IsSmallRaw (rounded (in_billionths d))
-small_decimal d few e = by d.negative
-  where
-    size : 1000000000 * d.whole + d.billionths ≤ 32767000000000
-    size = small_size d.whole d.billionths few e
-
-    by : (b : Bool) → IsSmallRaw (rounded (cond b (neg_ℤ (pos (1000000000 * d.whole
-        + d.billionths))) (pos (1000000000 * d.whole + d.billionths))))
-    by true = small_raw (neg_ℤ (pos (1000000000 * d.whole + d.billionths)))
-        (omega (arith, ints, size)) (omega (arith, ints, size))
-    by false = small_raw (pos (1000000000 * d.whole + d.billionths))
-        (omega (arith, ints, size)) (omega (arith, ints, size))
-
-small_by : (o : Option Decimal) → ((d : Decimal) → o ≡ Some d → d.billionths ≤ 999999999)
-    → IsSmallRaw (coordinate_by o)
-small_by None few = (omega (arith, ints), omega (arith, ints))
-small_by (Some d) few = by (is_axis_value d) refl
-  where
-    by : (b : Bool) → is_axis_value d ≡ b
-        → IsSmallRaw (cond b (rounded (in_billionths d)) (pos 0))
-    by true e = small_decimal d (few d refl) e
-    by false e = (omega (arith, ints), omega (arith, ints))
-
--- each coordinate that is read is in the range
-pub small_coordinate : (t : Tree) (n : ℕ) → IsAxisCoordinate (axis_coordinate t n)
-unfolding axis_coordinate
-small_coordinate t n = small_by (decimal_at t n) (at_few t n)
-
-small_coordinates : (t : Tree) (ns : List ℕ)
-    → AllByRecursion IsAxisCoordinate (map (axis_coordinate t) ns)
-small_coordinates t [] = tt
-small_coordinates t (n ∷ ns) = (small_coordinate t n, small_coordinates t ns)
 
 -- ---- instances
 

@@ -5,4 +5,5 @@ pub mod AxisTables
 pub mod ReadAxes
 pub mod OnLiterals
 -- lemmas that the proofs of other crates need
+pub mod AxisValueLaws
 pub mod AxisTelling

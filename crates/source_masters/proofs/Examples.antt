@@ -11,7 +11,6 @@ use Rattle.refusal_codes.specs.declared.rule.Rule.TheVariants.{NoMaster, AxisCou
 use Rattle.refusal_codes.specs.declared.rule.Rule.TheVariants.{DuplicateMaster, OriginUnknown}
 use Rattle.refusal_codes.specs.declared.first.Failure.{Failure}
 use Rattle.font_ir.specs.declared.header.Master.{Master}
-use Rattle.source_masters.specs.Coordinates.{axis_coordinate}
 use Rattle.source_masters.specs.Parameters.{font_parameters_failures}
 use Rattle.source_masters.specs.Metrics.{metrics_failures}
 use Rattle.source_masters.specs.MasterRules.{masters_failures}
@@ -32,33 +31,6 @@ listed place numbers = at place (tree.Items numbers)
 
 abbrev paired : ℕ → List (ℕ × ℕ) → TreeNode
 paired place pairs = at place (tree.Pairs pairs)
-
--- ---- coordinates in 16.16
-
-abbrev number : List ℕ → Tree
-number text = record { top = 0; nodes = word 0 text ∷ [] }
-
--- thousandths and billionths are rounded to the nearest, and halves up; what is out of range is 0
-abbrev coordinate_rows : List (List ℕ × ℤ)
-coordinate_rows =
-    (codes "400", pos 26214400)
-    ∷ (codes "-32767", negsuc 2147418111)
-    ∷ (codes "32767", pos 2147418112)
-    ∷ (codes "0.5", pos 32768)
-    ∷ (codes "10000.1", pos 655366554)
-    ∷ (codes "0.000007629", pos 0)
-    ∷ (codes "0.000007630", pos 1)
-    ∷ (codes "-0.00000763", negsuc 0)
-    ∷ (codes "0.00000762939453125", pos 0)
-    ∷ (codes "32767.000000001", pos 0)
-    ∷ (codes "wide", pos 0)
-    ∷ []
-
-pub coordinates-computed :
-    map (λ row. (axis_coordinate (number row.0) 0).0) coordinate_rows
-    ≡ map (λ row. row.1) coordinate_rows
-unfolding masters_on_literals
-coordinates-computed = refl
 
 -- ---- two masters
 

@@ -1,4 +1,3 @@
-pub mod Billionths
 mod Examples
 pub mod RuleWords
 pub mod SoundMasters

@@ -14,7 +14,7 @@ use Rattle.source_values.specs.Values.{decimal_at}
 use Rattle.source_values.specs.Ways.{Step, under, FailsRow, Fails, rows_of, has}
 use Rattle.source_values.specs.Tables.{decimal_passes, is_within, has_fraction, is_outside}
 use Rattle.source_values.specs.Words.{fraction, outside, none_outside_any}
-use Rattle.source_masters.specs.Coordinates.{is_axis_value}
+use Rattle.source_axes.specs.AxisValues.{is_axis_value}
 use Rattle.source_masters.specs.MasterTables.{masters_table, value_table, locations_table}
 use Rattle.source_masters.specs.MasterTables.{to_masters, to_part, FailsAsHeight, FailsAsLocations}
 use Rattle.source_masters.specs.MasterTables.{IsBelow, IsAHeight, IsALocation, lacks, is_beyond}

@@ -2,7 +2,7 @@
 use Rattle.std.proofs.Common.{◌≡◌, ◌≢◌, ℕ, zero, suc, ◌+◌, ◌*◌, ◌/◌, ◌<◌, ◌≤◌, Bool, true, false, not}
 use Rattle.std.proofs.Common.{◌||◌, ◌&&◌, cond, ltb, eqb, nat_eq, nat_le, List, [], ◌∷◌, ◌++◌, length}
 use Rattle.std.proofs.Common.{map, get_or, Option, Some, None, is_some, unwrap_or, refl, sym, ap, ◌∙◌}
-use Rattle.std.proofs.Common.{subst, true≢false, arith, ℤ, pos, neg_ℤ, ◌+ℤ◌, ◌-ℤ◌, ◌*ℤ◌, ◌≤ℤ◌}
+use Rattle.std.proofs.Common.{subst, true≢false, arith, ℤ, pos, neg_ℤ, ◌-ℤ◌}
 use Rattle.std.specs.Prelude.{codes, flat_map, position, slice_get, option_map, option_and_then}
 use Rattle.std.specs.Option.{option_map_or}
 use Rattle.std.specs.List.{All, AllPairs, AllByRecursion}
@@ -17,7 +17,6 @@ use Rattle.plist_reader.specs.declared.tree.Tree.{Tree}
 use Rattle.plist_reader.specs.Tree.{find_in, text_at}
 use Rattle.plist_reader.specs.Keys.{is_among}
 use Rattle.fixed_math.specs.declared.Fixed.{Fixed}
-use Rattle.fixed_math.specs.FloorLaws.{floor_monotone}
 use Rattle.refusal_codes.specs.declared.rule.Rule.TheVariants.{MissingKey, NoMaster, AxisCount}
 use Rattle.refusal_codes.specs.declared.rule.Rule.TheVariants.{TooManyMasters, OriginUnknown}
 use Rattle.refusal_codes.specs.declared.first.Failure.{Failure}
@@ -31,8 +30,8 @@ use Rattle.source_values.specs.Decimals.{is_whole}
 use Rattle.source_values.specs.Values.{decimal_at, items_at, items_under, natural_by, natural_in}
 use Rattle.source_values.specs.Asking.{fails, is_empty_list, under_by, each_by, dictionary}
 use Rattle.source_masters.specs.declared.metrics.Heights.{Heights}
-use Rattle.source_masters.specs.Coordinates.{is_axis_value, in_billionths, rounded, coordinate_by}
-use Rattle.source_masters.specs.Coordinates.{axis_coordinate}
+use Rattle.source_axes.specs.AxisValues.{axis_coordinate, coordinates_under}
+use Rattle.source_axes.specs.AxisValueLaws.{small_coordinate, small_coordinates}
 use Rattle.source_masters.specs.Metrics.{height_by, height_at, height_in, height_of, heights_of}
 use Rattle.source_masters.specs.Metrics.{missing_heights, metric_numbers, is_of_type, used_metrics}
 use Rattle.source_masters.specs.MasterRules.{master_parts_failures, masters_failures}
@@ -45,58 +44,15 @@ use Rattle.source_masters.specs.MasterReading.{location_entries, user_coordinate
 use Rattle.source_masters.specs.MasterReading.{default_heights, master_with, masters_of}
 use Rattle.source_masters.specs.ReadMasters.{IsReadMaster}
 use Rattle.source_masters.specs.ReadMasters.{SoundMastersAreRead}
-use Rattle.source_masters.proofs.Billionths.{at_few}
 
 -- ---- coordinates
-
--- a decimal in the range has at most so many billionths
-size_within : (w b : ℕ) → (ltb w 32767 || (eqb w 32767 && eqb b 0)) ≡ true → b ≤ 999999999
-    → 1000000000 * w + b ≤ 32767000000000
-size_within w b e few = grind (arith, nat_tests, e, few)
-
-abbrev IsBillionths : ℤ → Type 0
-IsBillionths z = (neg_ℤ (pos 32767000000000) ≤ℤ z) × (z ≤ℤ pos 32767000000000)
-
-signed_within : (s : Bool) (n : ℕ) → n ≤ 32767000000000
-    → IsBillionths (cond s (neg_ℤ (pos n)) (pos n))
-signed_within true n le = (omega (arith, ints, le), omega (arith, ints, le))
-signed_within false n le = (omega (arith, ints, le), omega (arith, ints, le))
-
-rounded_within : (z : ℤ) → IsBillionths z
-    → IsAxisCoordinate (record { 0 = rounded z })
-rounded_within z (low, high) = (
-  floor_monotone (neg_ℤ (pos 2147418112000000000) +ℤ pos 500000000)
-      (pos 65536 *ℤ z +ℤ pos 500000000) 1000000000 (omega arith) (omega (arith, ints, low)),
-  floor_monotone (pos 65536 *ℤ z +ℤ pos 500000000)
-      (pos 2147418112000000000 +ℤ pos 500000000) 1000000000 (omega arith)
-      (omega (arith, ints, high)),
-)
 
 zero_within : IsAxisCoordinate (record { 0 = pos 0 })
 zero_within = (omega (arith, ints), omega (arith, ints))
 
-coordinate_within : (t : Tree) (n : ℕ) → IsAxisCoordinate (axis_coordinate t n)
-unfolding axis_coordinate
-coordinate_within t n = by (decimal_at t n) refl
-  where
-    tested : (d : Decimal) (b : Bool) → is_axis_value d ≡ b → d.billionths ≤ 999999999
-        → IsAxisCoordinate (record { 0 = cond b (rounded (in_billionths d)) (pos 0) })
-    tested d true e few = rounded_within (in_billionths d)
-        (signed_within d.negative _ (size_within d.whole d.billionths e few))
-    tested d false e few = zero_within
-
-    by : (o : Option Decimal) → decimal_at t n ≡ o
-        → IsAxisCoordinate (record { 0 = coordinate_by o })
-    by None e = zero_within
-    by (Some d) e = tested d (is_axis_value d) refl (at_few t n d e)
-
 module _ (t : Tree) where
   abbrev AreWithin : List Fixed → Type 0
   AreWithin = AllByRecursion IsAxisCoordinate
-
-  all_within : (ns : List ℕ) → AreWithin (map (axis_coordinate t) ns)
-  all_within [] = tt
-  all_within (n ∷ ns) = (coordinate_within t n, all_within ns)
 
   at_within : (fs : List Fixed) (i : ℕ) → AreWithin fs → IsAxisCoordinate (coordinate_at fs i)
   at_within [] i h = zero_within
@@ -110,7 +66,7 @@ module _ (t : Tree) where
     where
       by : (o : Option ℕ) → IsAxisCoordinate (option_map_or (axis_coordinate t) o f)
       by None = h
-      by (Some n) = coordinate_within t n
+      by (Some n) = small_coordinate t n
 
   module _ (entries : List ℕ) (fs : List Fixed) (h : AreWithin fs) where
     users_within : (i : ℕ) (axes : List (List ℕ)) → AreWithin (user_from t entries fs i axes)
@@ -249,11 +205,11 @@ module _ (t : Tree) (axes : List (List ℕ)) where
   module _ (missing : Heights) (small : AreSmall missing) where
     one_read : (m : ℕ) → length (items_under t m (codes "axesValues")) ≡ length axes
         → IsReadMaster (length axes) (master_with t axes missing m)
-    unfolding master_with design_of
+    unfolding master_with design_of coordinates_under
     one_read m count =
         let heights = heights_small t (metric_numbers t) m missing small in
         let values = items_under t m (codes "axesValues") in
-        let design = all_within t values in
+        let design = small_coordinates t values in
         record {
           design = length-map values (axis_coordinate t) ∙ count;
           user = users_long t (location_entries t m) (design_of t m) 0 axes;

@@ -23,8 +23,8 @@ use Rattle.source_values.specs.Tables.{decimal_passes, is_within, text_table}
 use Rattle.source_values.specs.Telling.{Told, whole, text, any_dictionary, tried, measured}
 use Rattle.source_values.specs.Telling.{rewritten, also, must, can, every, within, of_several}
 use Rattle.source_values.specs.Telling.{to_several}
-use Rattle.source_masters.specs.Coordinates.{is_axis_value, axis_value_failures_by}
-use Rattle.source_masters.specs.Coordinates.{axis_value_failures}
+use Rattle.source_axes.specs.AxisValues.{axis_value_failures}
+use Rattle.source_axes.specs.AxisTelling.{axis_value_told}
 use Rattle.source_masters.specs.Parameters.{parameter_at, entry_failures, parameters_failures}
 use Rattle.source_masters.specs.Parameters.{font_parameters_failures}
 use Rattle.source_masters.specs.Metrics.{metric_failures, metrics_failures, height_failures_by}
@@ -32,7 +32,7 @@ use Rattle.source_masters.specs.Metrics.{height_failures, value_failures, metric
 use Rattle.source_masters.specs.MasterRules.{location_failures, locations_failures}
 use Rattle.source_masters.specs.MasterRules.{master_parameters_failures, master_parts_failures}
 use Rattle.source_masters.specs.MasterRules.{masters_failures}
-use Rattle.source_masters.specs.MasterTables.{axis_value_table, metrics_table, entry_table}
+use Rattle.source_masters.specs.MasterTables.{metrics_table, entry_table}
 use Rattle.source_masters.specs.MasterTables.{parameters_table, masters_table}
 use Rattle.source_masters.specs.MasterTables.{height_table, value_table, location_table}
 use Rattle.source_masters.specs.MasterTables.{locations_table}
@@ -40,11 +40,6 @@ use Rattle.source_masters.specs.MasterTables.{FailsAsHeight, FailsAsLocations, M
 use Rattle.source_masters.specs.MasterTables.{FontParametersAreTabled, MastersAreTabled}
 
 -- ---- what tables tell by themselves
-
-axis_value_told : Told axis_value_table axis_value_failures
-unfolding axis_value_failures
-axis_value_told = measured OutOfRange is_axis_value axis_value_failures_by (λ t n. refl)
-    (λ t n d. refl)
 
 metric_told : Told metrics_table metrics_failures
 unfolding metric_failures

@@ -1,4 +1,3 @@
-pub mod Coordinates
 pub mod MasterReading
 pub mod MasterRules
 pub mod MasterTables

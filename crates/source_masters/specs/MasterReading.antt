@@ -10,10 +10,10 @@ use Rattle.plist_reader.specs.declared.tree.Tree.{Tree}
 use Rattle.plist_reader.specs.Tree.{find_in, spells}
 use Rattle.font_ir.specs.declared.header.Master.{Master}
 use Rattle.font_ir.specs.Coordinates.{coordinate_at}
-use Rattle.source_values.specs.Values.{place_at, items_at, natural_or, items_under, text_under}
+use Rattle.source_values.specs.Values.{place_at, items_at, natural_or, text_under}
 use Rattle.source_values.specs.Ways.{has}
+use Rattle.source_axes.specs.AxisValues.{axis_coordinate, coordinates_under}
 use Rattle.source_masters.specs.declared.metrics.Heights.{Heights}
-use Rattle.source_masters.specs.Coordinates.{axis_coordinate}
 use Rattle.source_masters.specs.Parameters.{parameter_under}
 use Rattle.source_masters.specs.Metrics.{metric_numbers, heights_of, missing_heights}
 use Rattle.source_masters.specs.WholeRules.{master_numbers, master_id, origin_of}
@@ -30,7 +30,7 @@ masters_place t = option_map_or (place_at t) (find_in t t.top (codes "fontMaster
 
 -- a master's design coordinates, as many as it has values
 unfoldable pub design_of : Tree → ℕ → List Fixed
-design_of t m = map (axis_coordinate t) (items_under t m (codes "axesValues"))
+design_of t m = coordinates_under t m (codes "axesValues")
 
 -- whether an entry says where on this axis a master lies
 abbrev pub locates : List ℕ → Tree → ℕ → Bool

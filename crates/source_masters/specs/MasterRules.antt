@@ -4,7 +4,7 @@ use Rattle.std.specs.Prelude.{ℕ, Bool, List, ◌++◌, codes}
 use Rattle.plist_reader.specs.declared.tree.Tree.{Tree}
 use Rattle.refusal_codes.specs.declared.first.Failure.{Failure}
 use Rattle.source_values.specs.Asking.{text_failures, each, dictionary, required, optional}
-use Rattle.source_masters.specs.Coordinates.{axis_value_failures}
+use Rattle.source_axes.specs.AxisValues.{axis_value_failures}
 use Rattle.source_masters.specs.Metrics.{metric_values_failures}
 use Rattle.source_masters.specs.Parameters.{parameters_failures}
 

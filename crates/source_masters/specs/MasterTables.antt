@@ -20,7 +20,7 @@ use Rattle.source_values.specs.Tables.{is_decimal_value, decimal_passes, is_with
 use Rattle.source_values.specs.Tables.{is_outside, whole_table, decimal_table, text_table}
 use Rattle.source_values.specs.Tables.{dictionary_table, required_table, optional_table, each_table}
 use Rattle.source_values.specs.Tables.{inside_table}
-use Rattle.source_masters.specs.Coordinates.{is_axis_value}
+use Rattle.source_axes.specs.AxisValues.{is_axis_value}
 use Rattle.source_masters.specs.Parameters.{parameter_at, font_parameters_failures}
 use Rattle.source_masters.specs.Metrics.{metrics_failures}
 use Rattle.source_masters.specs.MasterRules.{masters_failures}

@@ -1,7 +1,6 @@
 //! What a Glyphs source says of its masters, of its metrics, and of the parameters of both.
 #![tactic(auto)]
 
-mod coordinates;
 mod laws;
 mod metrics;
 mod parameters;

@@ -1,14 +1,12 @@
 ghost use Rattle.std.specs.Prelude.{◌≡◌, ◌≤◌, ◌+◌, map, IfOk, option_and_then, slice_get};
 ghost use Rattle.std.specs.List.{find};
 ghost use Rattle.font_ir.specs.Coordinates.{coordinate_at};
-ghost use Rattle.source_masters.specs.Coordinates.{axis_coordinate};
 ghost use Rattle.source_masters.specs.WholeRules.{master_numbers, origin_of};
-ghost use Rattle.source_masters.specs.MasterReading.{units_per_em, masters_place, design_of};
+ghost use Rattle.source_masters.specs.MasterReading.{units_per_em, masters_place};
 ghost use Rattle.source_masters.specs.MasterReading.{locates, location_in, location_entries};
 ghost use Rattle.source_masters.specs.MasterReading.{user_coordinate, user_from, default_heights};
 ghost use Rattle.source_masters.specs.MasterReading.{master_with, masters_of};
 
-use crate::coordinates::axis_coordinate;
 use crate::metrics::{Heights, heights_of, metric_numbers, missing_heights};
 use crate::parameters::{has_text, parameter_under};
 use crate::whole_rules::{default_position, master_numbers};
@@ -16,7 +14,8 @@ use fixed_math::Fixed;
 use font_ir::{Axis, Master};
 use plain_lists::Sequence;
 use plist_reader::Tree;
-use source_values::{copied, items_at, items_under, place_at, text_under};
+use source_axes::{coordinate, read_coordinates};
+use source_values::{copied, items_at, place_at, text_under};
 use std::alloc::{AllocError, Global};
 
 /// The place of the list of masters in the source, 0 where there is none.
@@ -89,7 +88,7 @@ fn default_master(tree: &Tree) -> Option<u32>
     master_numbers(tree).get(default_position(tree)?).copied()
 }
 
-#[tactic(auto, unfolding(crate::specs::MasterReading::master_with, crate::specs::WholeRules::master_id))]
+#[tactic(auto, unfolding(crate::specs::MasterReading::master_with, crate::specs::MasterReading::design_of, crate::specs::WholeRules::master_id))]
 fn master(
     alloc: Global,
     tree: &Tree,
@@ -101,12 +100,13 @@ fn master(
         ≡ master_with tree.now (map (λ axis. axis.name) axes.now) missing number) }
 {
     let id = copied(alloc, text_under(tree, number, b"id"))?;
-    let design = design_of(alloc, tree, number)?;
-    let user = user_of(alloc, tree, location_entries(tree, number), &design, axes)?;
+    let design = read_coordinates(alloc, tree, number, b"axesValues")?;
+    let entries = location_entries(tree, number);
+    let user = user_of(alloc, tree, entries, design.as_slice(), axes)?;
     let heights = heights_of(tree, metric_numbers(tree), number, missing);
     Ok(Master {
         id,
-        design: Sequence::from_vec(design),
+        design,
         user: Sequence::from_vec(user),
         location: Sequence::new(alloc),
         ascender: heights.ascender,
@@ -115,23 +115,6 @@ fn master(
         xheight: heights.xheight,
         place: place_at(tree, number),
     })
-}
-
-#[tactic(auto, unfolding(crate::specs::MasterReading::design_of))]
-fn design_of(alloc: Global, tree: &Tree, master: u32) -> Result<Vec<Fixed>, AllocError>
-    ensures { IfOk result (λ design. design.items ≡ design_of tree.now master) }
-{
-    coordinates(alloc, tree, items_under(tree, master, b"axesValues"))
-}
-
-fn coordinates(alloc: Global, tree: &Tree, values: &[u32]) -> Result<Vec<Fixed>, AllocError>
-    ensures { IfOk result (λ list. list.items ≡ map (axis_coordinate tree.now) values.now) }
-{
-    let mut list = Vec::with_capacity(alloc, values.len())?;
-    for value in values {
-        list.push(axis_coordinate(tree, *value))?;
-    }
-    Ok(list)
 }
 
 /// The entries of a master's locations on the user's scale.
@@ -178,7 +161,7 @@ fn user_coordinate(tree: &Tree, entries: &[u32], axis: &[u8], design: Fixed) -> 
     ensures { result ≡ user_coordinate tree.now entries.now axis.now design }
 {
     match location_in(tree, entries, axis) {
-        Some(number) => axis_coordinate(tree, number),
+        Some(number) => coordinate(tree, number),
         None => design,
     }
 }

@@ -6,11 +6,11 @@ ghost use Rattle.source_masters.specs.MasterRules.{location_failures, locations_
 ghost use Rattle.source_masters.specs.MasterRules.{master_parameters_failures};
 ghost use Rattle.source_masters.specs.MasterRules.{master_parts_failures, masters_failures};
 
-use crate::coordinates::AxisValue;
 use crate::metrics::{metric_numbers, note_metric_values};
 use crate::parameters::note_parameters;
 use plist_reader::Tree;
 use refusal_codes::FirstFailure;
+use source_axes::AxisCoordinate;
 use source_values::{Asked, Dictionary, Each, PlainText, optional, required};
 
 /// Notes what fails of the list of masters, which a source must have, where its metrics are those
@@ -63,7 +63,7 @@ impl<'t> Asked for MasterParts<'t> {
             metrics: self.metrics,
         };
         required(tree, master, b"id", &PlainText, first);
-        optional(tree, master, b"axesValues", &Each(AxisValue), first);
+        optional(tree, master, b"axesValues", &Each(AxisCoordinate), first);
         optional(tree, master, b"metricValues", &values, first);
         optional(tree, master, b"customParameters", &MasterParameters, first);
     }
@@ -114,6 +114,6 @@ impl Asked for AxisLocation {
     #[tactic(auto, using(refusal_codes::specs::FirstLaws::noting), unfolding(crate::specs::MasterRules::location_failures))]
     fn note(&self, tree: &Tree, number: u32, first: &mut FirstFailure) {
         optional(tree, number, b"Axis", &PlainText, first);
-        optional(tree, number, b"Location", &AxisValue, first);
+        optional(tree, number, b"Location", &AxisCoordinate, first);
     }
 }
