@@ -1,5 +1,6 @@
 ghost use Rattle.std.specs.Prelude.{◌≡◌, length, All, IfOk};
 ghost use Rattle.font_ir.specs.Coordinates.{HasAxis};
+ghost use Rattle.axis_space.specs.Placing.{HasAxes};
 
 use axis_space::{MapError, avar_map, normalise, user_of};
 use fixed_math::{F2Dot14, Fixed};
@@ -10,7 +11,8 @@ use std::test::Fail;
 
 /// A master on one axis.
 fn master(alloc: Global, design: i32, user: i32) -> Result<Master, AllocError>
-    ensures { IfOk result (HasAxis 0) }
+    ensures axis { IfOk result (HasAxis 0) }
+    ensures axes { IfOk result (HasAxes 1) }
 {
     Ok(Master {
         id: Name::new(alloc),
@@ -26,9 +28,10 @@ fn master(alloc: Global, design: i32, user: i32) -> Result<Master, AllocError>
 }
 
 /// Masters on one axis, by their design and user coordinates.
-fn masters(alloc: Global, places: &[(i32, i32)]) -> Result<Vec<Master>, AllocError>
+pub fn masters(alloc: Global, places: &[(i32, i32)]) -> Result<Vec<Master>, AllocError>
     ensures count { IfOk result (λ v. length v.items ≡ length places.now) }
-    ensures axes { IfOk result (λ v. All (HasAxis 0) v.items) }
+    ensures axis { IfOk result (λ v. All (HasAxis 0) v.items) }
+    ensures axes { IfOk result (λ v. All (HasAxes 1) v.items) }
 {
     let mut masters = Vec::new(alloc);
     for place in places {

@@ -4,4 +4,6 @@
 #[cfg(test)]
 mod axes;
 #[cfg(test)]
+mod places;
+#[cfg(test)]
 mod variations;
