@@ -1,6 +1,6 @@
 ghost use Rattle.std.specs.Prelude.{◌<◌, length};
 
-use crate::fonts::{FORMS, TRIANGLE, VARYING};
+use crate::fonts::{FORMS, INTERMEDIATE, TRIANGLE, VARYING};
 use fixed_math::F2Dot14;
 use font_reader::{FaultKind, FontFault, FontView, Point, Room};
 use std::alloc::Global;
@@ -97,6 +97,23 @@ fn points_move_between_two_masters(rt: HostRuntime) -> Result<(), Fail> {
     }
     let few = fault_of(rt.alloc(), font.as_slice(), 0, &[])?;
     assert!(rt; few == fault(FaultKind::CoordCount, 1));
+    Ok(())
+}
+
+#[test]
+fn points_move_through_a_layer_of_their_own(rt: HostRuntime) -> Result<(), Fail> {
+    let font = hex::decode(rt.alloc(), INTERMEDIATE)?;
+    for case in [(4096, 16646144), (8192, 16908288), (16384, 17039360)] {
+        let (at, x) = case;
+        assert!(rt;
+            are_points(
+                rt.alloc(),
+                font.as_slice(),
+                &[F2Dot14(at)],
+                &[(x, 45875200)]
+            )?
+        );
+    }
     Ok(())
 }
 
