@@ -6,6 +6,8 @@ mod axes;
 #[cfg(test)]
 mod glyphs;
 #[cfg(test)]
+mod masters;
+#[cfg(test)]
 mod property_lists;
 #[cfg(test)]
 mod source;
