@@ -36,13 +36,13 @@ use Rattle.glyphs_layers.specs.GlyphPlaces.{lies_within, is_placed, misplaced, l
 abbrev masters_in : List SourceLayer → ℕ
 masters_in layers = count_by is_masters layers
 
-none_by : (t : Tree) (masters : List Master) (n : ℕ) (b : Bool) (rest : List SourceLayer)
+none_by : (t : Tree) (masters : List SourceLayer) (n : ℕ) (b : Bool) (rest : List SourceLayer)
     → masters_in rest ≡ 0
     → masters_in (cond b (record { kind = a.Intermediate; number = n } ∷ []) [] ++ rest) ≡ 0
 none_by t masters n true rest e = omega (arith, e)
 none_by t masters n false rest e = e
 
-none_masters : (t : Tree) (masters : List Master) (ns : List ℕ)
+none_masters : (t : Tree) (masters : List SourceLayer) (ns : List ℕ)
     → masters_in (flat_map (if_intermediate t masters) ns) ≡ 0
 none_masters t masters [] = refl
 none_masters t masters (n ∷ ns) =
@@ -54,9 +54,10 @@ none_intermediate : (t : Tree) (header : Header) (ns : List ℕ)
 none_intermediate t header ns = by (nat_eq (length header.axes) 0)
   where
     by : (b : Bool)
-        → masters_in (cond b [] (flat_map (if_intermediate t header.masters) ns)) ≡ 0
+        → masters_in (cond b []
+        (flat_map (if_intermediate t (masters_layers t header.masters ns)) ns)) ≡ 0
     by true = refl
-    by false = none_masters t header.masters ns
+    by false = none_masters t (masters_layers t header.masters ns) ns
 
 -- with one master more in front
 record Counted (found masters : ℕ) (all : Bool) : Type 0 where

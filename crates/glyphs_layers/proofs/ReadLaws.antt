@@ -100,7 +100,7 @@ module _ (t : Tree) (h : Header) where
   each_own_by n true behind e = omega (arith, e)
   each_own_by n false behind e = e
 
-  each_own : (ms : List Master) (ns : List ℕ)
+  each_own : (ms : List SourceLayer) (ns : List ℕ)
       → length (own t h (flat_map (if_intermediate t ms) ns))
       ≡ length (flat_map (if_intermediate t ms) ns)
   each_own ms [] = refl
@@ -111,10 +111,11 @@ module _ (t : Tree) (h : Header) where
       → length (own t h (intermediate_layers t h ns)) ≡ length (intermediate_layers t h ns)
   intermediate_own ns = by (nat_eq (length h.axes) 0)
     where
-      by : (b : Bool) → length (own t h (cond b [] (flat_map (if_intermediate t h.masters) ns)))
-          ≡ length (cond b [] (flat_map (if_intermediate t h.masters) ns))
+      by : (b : Bool) → length (own t h (cond b []
+          (flat_map (if_intermediate t (masters_layers t h.masters ns)) ns)))
+          ≡ length (cond b [] (flat_map (if_intermediate t (masters_layers t h.masters ns)) ns))
       by true = refl
-      by false = each_own h.masters ns
+      by false = each_own (masters_layers t h.masters ns) ns
 
   -- each of these places has a number for each axis
   own_long_by : (kind : LayerKind) (n : ℕ) (behind : List SourceLayer)

@@ -43,6 +43,7 @@ module _ (t : Tree) (h : Header) where
       let ns = layer_numbers t g in
       ap (λ (ps : List (List F2Dot14)). map location_of h.masters ++ ps)
       (none_own ns h.masters (intermediate_layers t h ns)
-      ∙ ap (λ (k : ℕ). own t h (cond (nat_eq k 0) [] (flat_map (if_intermediate t h.masters) ns)))
+      ∙ ap (λ (k : ℕ). own t h (cond (nat_eq k 0) []
+      (flat_map (if_intermediate t (masters_layers t h.masters ns)) ns)))
       (ap length none))
       ∙ append-nil (map location_of h.masters)

@@ -44,17 +44,19 @@ attribute_at t n key = option_and_then (λ attr. find_in t attr key) (find_in t 
 abbrev pub has_attribute : Tree → ℕ → List ℕ → Bool
 has_attribute t n key = is_some (attribute_at t n key)
 
--- whether a layer names one of the masters
-abbrev pub names_a_master : Tree → List Master → ℕ → Bool
-names_a_master t masters n = list_any (λ m. is_layer_of t m.id n) masters
+-- whether a layer is one of these
+abbrev pub is_among_layers : List SourceLayer → ℕ → Bool
+is_among_layers layers n = list_any (λ layer. layer.number == n) layers
 
-abbrev pub is_intermediate : Tree → List Master → ℕ → Bool
+-- a layer with coordinates and without rules is an intermediate one, where it is none of the
+-- masters' layers
+abbrev pub is_intermediate : Tree → List SourceLayer → ℕ → Bool
 is_intermediate t masters n =
     has_attribute t n (codes "coordinates")
     && not (has_attribute t n (codes "axisRules"))
-    && not (names_a_master t masters n)
+    && not (is_among_layers masters n)
 
-abbrev pub if_intermediate : Tree → List Master → ℕ → List SourceLayer
+abbrev pub if_intermediate : Tree → List SourceLayer → ℕ → List SourceLayer
 if_intermediate t masters n =
     if is_intermediate t masters n
     then record { kind = a.Intermediate; number = n } ∷ []
@@ -63,7 +65,9 @@ if_intermediate t masters n =
 -- the intermediate layers, in the order of the file: none in a font without axes
 abbrev pub intermediate_layers : Tree → Header → List ℕ → List SourceLayer
 intermediate_layers t header numbers =
-    if length header.axes == 0 then [] else flat_map (if_intermediate t header.masters) numbers
+    if length header.axes == 0
+    then []
+    else flat_map (if_intermediate t (masters_layers t header.masters numbers)) numbers
 
 -- the layers of a glyph that are read
 unfoldable pub source_layers : Tree → Header → ℕ → List SourceLayer

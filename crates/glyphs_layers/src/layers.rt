@@ -1,7 +1,7 @@
 ghost use Rattle.std.specs.Prelude.{◌≡◌, ◌++◌, IfOk, OnOk, flat_map};
 ghost use Rattle.glyphs_layers.specs.SourceLayers.{layer_numbers, is_layer_of, layer_of, layers_of};
 ghost use Rattle.glyphs_layers.specs.SourceLayers.{masters_layers, attribute_at, has_attribute};
-ghost use Rattle.glyphs_layers.specs.SourceLayers.{names_a_master, is_intermediate};
+ghost use Rattle.glyphs_layers.specs.SourceLayers.{is_among_layers, is_intermediate};
 ghost use Rattle.glyphs_layers.specs.SourceLayers.{if_intermediate, intermediate_layers};
 ghost use Rattle.glyphs_layers.specs.SourceLayers.{source_layers};
 
@@ -31,7 +31,8 @@ pub fn source_layers(
 {
     let numbers = layer_numbers(tree, glyph);
     let mut layers = masters_layers(alloc, tree, header.masters.as_slice(), numbers)?;
-    add_intermediate_layers(tree, header, numbers, &mut layers)?;
+    let others = intermediate_layers(alloc, tree, header, layers.as_slice(), numbers)?;
+    layers.extend_from_slice(others.as_slice())?;
     Ok(layers)
 }
 
@@ -99,41 +100,44 @@ fn is_layer_of(tree: &Tree, id: &[u8], number: u32) -> bool
     }
 }
 
-/// Adds the intermediate layers, in a font with axes.
-fn add_intermediate_layers(
+/// The intermediate layers, in a font with axes: none of these, which are the masters'.
+fn intermediate_layers(
+    alloc: Global,
     tree: &Tree,
     header: &Header,
+    masters: &[SourceLayer],
     numbers: &[u32],
-    layers: &mut Vec<SourceLayer>,
-) -> Result<(), AllocError>
-    ensures { OnOk result (layers.new.items
-        ≡ layers.old.items ++ intermediate_layers tree.now header.now numbers.now) }
+) -> Result<Vec<SourceLayer>, AllocError>
+    requires { masters.now ≡ masters_layers tree.now header.now.masters numbers.now }
+    ensures { IfOk result (λ layers. layers.items
+        ≡ intermediate_layers tree.now header.now numbers.now) }
 {
     if header.axes.is_empty() {
-        Ok(())
+        Ok(Vec::new(alloc))
     } else {
-        add_each_intermediate(tree, header.masters.as_slice(), numbers, layers)
+        each_intermediate(alloc, tree, masters, numbers)
     }
 }
 
-fn add_each_intermediate(
+fn each_intermediate(
+    alloc: Global,
     tree: &Tree,
-    masters: &[Master],
+    masters: &[SourceLayer],
     numbers: &[u32],
-    layers: &mut Vec<SourceLayer>,
-) -> Result<(), AllocError>
-    ensures { OnOk result (layers.new.items
-        ≡ layers.old.items ++ flat_map (if_intermediate tree.now masters.now) numbers.now) }
+) -> Result<Vec<SourceLayer>, AllocError>
+    ensures { IfOk result (λ layers. layers.items
+        ≡ flat_map (if_intermediate tree.now masters.now) numbers.now) }
 {
+    let mut layers = Vec::new(alloc);
     for number in numbers {
-        add_if_intermediate(tree, masters, *number, layers)?;
+        add_if_intermediate(tree, masters, *number, &mut layers)?;
     }
-    Ok(())
+    Ok(layers)
 }
 
 fn add_if_intermediate(
     tree: &Tree,
-    masters: &[Master],
+    masters: &[SourceLayer],
     number: u32,
     layers: &mut Vec<SourceLayer>,
 ) -> Result<(), AllocError>
@@ -149,12 +153,19 @@ fn add_if_intermediate(
     Ok(())
 }
 
-fn is_intermediate(tree: &Tree, masters: &[Master], number: u32) -> bool
+fn is_intermediate(tree: &Tree, masters: &[SourceLayer], number: u32) -> bool
     ensures { result ≡ is_intermediate tree.now masters.now number }
 {
     has_attribute(tree, number, b"coordinates")
         && !has_attribute(tree, number, b"axisRules")
-        && !names_a_master(tree, masters, number)
+        && !is_among(masters, number)
+}
+
+/// Whether a layer is one of these.
+fn is_among(layers: &[SourceLayer], number: u32) -> bool
+    ensures { result ≡ is_among_layers layers.now number }
+{
+    layers.iter().any(|layer| layer.number == number)
 }
 
 fn has_attribute(tree: &Tree, number: u32, key: &[u8]) -> bool
@@ -168,16 +179,4 @@ pub fn attribute_at(tree: &Tree, number: u32, key: &[u8]) -> Option<u32>
     ensures { result ≡ attribute_at tree.now number key.now }
 {
     tree.find(tree.find(number, b"attr")?, key)
-}
-
-/// Whether a layer names one of the masters.
-fn names_a_master(tree: &Tree, masters: &[Master], number: u32) -> bool
-    ensures { result ≡ names_a_master tree.now masters.now number }
-{
-    for master in masters {
-        if is_layer_of(tree, master.id.as_bytes(), number) {
-            return true;
-        }
-    }
-    false
 }

@@ -1,7 +1,7 @@
 use Rattle.std.proofs.Common.{arith}
 use Rattle.plain_lists.specs.TurnLaws.{flat_map_turn}
 use Rattle.glyphs_layers.specs.SourceLayers.{if_intermediate}
-use Rattle.glyphs_layers.proofs.layers.add_each_intermediate.Goals as goal
+use Rattle.glyphs_layers.proofs.layers.each_intermediate.Goals as goal
 
 pub loop-number-preserved : goal.loop-number-preserved
 loop-number-preserved c =
