@@ -6,6 +6,12 @@ mod axes;
 #[cfg(test)]
 mod glyphs;
 #[cfg(test)]
+mod headers;
+#[cfg(test)]
+mod intermediate_layers;
+#[cfg(test)]
+mod layers;
+#[cfg(test)]
 mod masters;
 #[cfg(test)]
 mod property_lists;
