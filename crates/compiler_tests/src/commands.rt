@@ -99,11 +99,14 @@ fn a_refused_source_leaves_the_output(rt: HostRuntime) -> Result<(), Fail> {
 
 #[test]
 fn other_words_are_no_command(rt: HostRuntime) -> Result<(), Fail> {
-    let words: [&[&str]; 4] = [
+    let words: [&[&str]; 7] = [
         &[],
         &["build", "in"],
         &["build", "in", "-out"],
         &["compile", "in", "out"],
+        &["inspect", "point", "in", "1", "0"],
+        &["inspect", "point", "in", "65536", "0", "none"],
+        &["inspect", "point", "in", "1", "0", "1,"],
     ];
     for given in words {
         assert!(rt; is_usage(rt.alloc(), given)?);
@@ -182,5 +185,34 @@ fn a_refused_source_is_reported_without_a_board(rt: HostRuntime) -> Result<(), F
     let mut files = files_with(rt.alloc(), cubic.as_slice())?;
     let report = report_of(rt.alloc(), &mut files)?;
     assert!(rt; is_refused_without_board(&report));
+    Ok(())
+}
+
+/// What inspecting a point of the triangle's font reports, and what the console took.
+fn inspected(alloc: Global, index: &str, place: &str) -> Result<(Report, MemConsole), Fail> {
+    let font = hex::decode(alloc, FONT)?;
+    let mut files = files_with(alloc, font.as_slice())?;
+    let words = owned(alloc, &["inspect", "point", "in", "1", index, place])?;
+    let mut console = MemConsole::with_room(alloc, 100)?;
+    let report = run_alone(alloc, words.as_slice(), &mut files, &mut console);
+    Ok((report, console))
+}
+
+#[test]
+fn a_point_is_told_and_reported_without_a_board(rt: HostRuntime) -> Result<(), Fail> {
+    let (report, console) = inspected(rt.alloc(), "0", "none")?;
+    assert!(rt; report.status.code() == 0 && report.board.is_none());
+    assert!(rt; console.held() == b"16384000 45875200\n".as_slice());
+    Ok(())
+}
+
+#[test]
+fn a_fault_is_told_by_its_kind_and_place(rt: HostRuntime) -> Result<(), Fail> {
+    let (report, console) = inspected(rt.alloc(), "7", "none")?;
+    assert!(rt; report.status.code() == 3 && report.board.is_none());
+    assert!(rt; console.held() == b"fontc: bad font: NoPoint at 7\n".as_slice());
+    let (report, console) = inspected(rt.alloc(), "7", "0,16384")?;
+    assert!(rt; report.status.code() == 3);
+    assert!(rt; console.held() == b"fontc: bad font: CoordCount at 0\n".as_slice());
     Ok(())
 }

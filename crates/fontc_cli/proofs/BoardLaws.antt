@@ -5,7 +5,7 @@ use Rattle.outside_io.specs.Files.{Holding, replaced_by, Leaves}
 use Rattle.whole_files.specs.Printing.{Printed}
 use Rattle.refusal_codes.specs.declared.refusal.Refusal.{Refusal}
 use Rattle.font_plan.specs.Alone.{SourceBoard}
-use Rattle.fontc_cli.specs.Boards.{IsBoardOf, Begun, NoneBegun, HasBoard, MayBegin, kept_board}
+use Rattle.fontc_cli.specs.Boards.{IsBoardOf, Begun, NoneBegun, HasBuildBoard, MayBegin, kept_board}
 use Rattle.fontc_cli.specs.Commands.{Build}
 use Rattle.fontc_cli.specs.Runs.{Outside, LeavesFiles, IsTold}
 use Rattle.fontc_cli.specs.declared.status.Status.{Status}
@@ -17,7 +17,7 @@ use Rattle.fontc_cli.specs.declared.status.Status.TheVariants.{NoMemory}
 pub board_kept : (command : Build) (status : Status) (font : List ℕ) (board : SourceBoard)
     (old new : Outside) → IsBoardOf (old.holds command.source) font board
     → MayBegin status font (old.holds command.output) (new.holds command.output)
-    → HasBoard (Some command) status (kept_board status board) old new
+    → HasBuildBoard command status (kept_board status board) old new
 board_kept command NoMemory font board old new is begun = tt
 board_kept command Done font board old new is begun = (font, is, begun)
 board_kept command ConsoleFault font board old new is begun = (font, is, begun)
@@ -41,7 +41,7 @@ begun_after status font old read new same begun =
 -- reading changes nothing of it
 pub board_after : (command : Build) (status : Status) (board : Option SourceBoard)
     (old read new : Outside) → LeavesFiles old read
-    → HasBoard (Some command) status board read new → HasBoard (Some command) status board old new
+    → HasBuildBoard command status board read new → HasBuildBoard command status board old new
 board_after command status None old read new same has = has
 board_after command status (Some board) old read new same has = (
   has.0,
@@ -61,8 +61,8 @@ pub board_reported : (command : Build) (status : Status) (font : List ℕ) (boar
     (old new : Outside) (told : Status) (kept : Option SourceBoard) → told ≡ status
     → kept ≡ kept_board status board → IsBoardOf (old.holds command.source) font board
     → MayBegin status font (old.holds command.output) (new.holds command.output)
-    → HasBoard (Some command) told kept old new
+    → HasBuildBoard command told kept old new
 board_reported command status font board old new told kept same is of begun =
-    subst (λ (s : Status). HasBoard (Some command) s kept old new) (sym same)
-    (subst (λ (b : Option SourceBoard). HasBoard (Some command) status b old new) (sym is)
+    subst (λ (s : Status). HasBuildBoard command s kept old new) (sym same)
+    (subst (λ (b : Option SourceBoard). HasBuildBoard command status b old new) (sym is)
     (board_kept command status font board old new of begun))

@@ -1,13 +1,16 @@
 -- How a build ends once its source is read, and where that is refused; and why a run that ends so
 -- is complete.
-use Rattle.std.proofs.Common.{◌≡◌, ℕ, List, length, take, Option, Some, None, IfSome, Ok, Err}
+use Rattle.std.proofs.Common.{◌≡◌, ℕ, List, [], length, take, Option, Some, None, IfSome, Ok, Err}
 use Rattle.std.proofs.Common.{refl, sym, subst, ◌∙◌, inl, inr, ◌⊎◌}
 use Rattle.outside_io.specs.Counts.{HasRisen}
 use Rattle.outside_io.specs.Files.{Holding, replaced_by, Leaves}
 use Rattle.whole_files.specs.Printing.{Printed, PrintsAll, PrintsPart, Prints}
 use Rattle.refusal_codes.specs.declared.refusal.Refusal.{Refusal}
 use Rattle.font_plan.specs.Font.{font_of}
-use Rattle.fontc_cli.specs.Commands.{Build}
+use Rattle.font_reader.specs.declared.faults.FontFault.{FontFault}
+use Rattle.font_reader.specs.declared.points.Point.{Point}
+use Rattle.fontc_cli.specs.Commands.{Build, Inspect, Command, building, inspecting}
+use Rattle.fontc_cli.specs.Inspected.{inspected}
 use Rattle.fontc_cli.specs.Lines.{lines_of, wrote}
 use Rattle.fontc_cli.specs.Runs.{Outside, HoldsFontOf, IsRefused, IsBuilt, IsPartlyBuilt, IsUnread}
 use Rattle.fontc_cli.specs.Runs.{LeavesFiles, BuildEnds, RunEnds, IsComplete, IsTold}
@@ -49,7 +52,7 @@ partly_built_after command old read new same built = record {
 }
 
 unread_after : (command : Build) (old read new : Outside) → LeavesFiles old read
-    → IsUnread command read new → IsUnread command old new
+    → IsUnread command.source read new → IsUnread command.source old new
 unread_after command old read new same unread = record {
   paths = λ path. unread.paths path ∙ same.paths path;
   reads = subst (λ (count : ℕ). HasRisen count (new.failed_reads command.source))
@@ -83,15 +86,15 @@ ends_after command (BadFont fault) old read new same silent ends = absurd ends
 ends_after command (Refused r) old read new same silent ends = (
   left_after old read new same ends.0,
   subst (λ (held : Holding). IsRefused held r) (same.paths command.source) ends.1,
-  subst (λ (first : Printed). Prints (lines_of 0 (Refused r)) first new.console) silent ends.2,
+  subst (λ (first : Printed). Prints (lines_of [] (Refused r)) first new.console) silent ends.2,
 )
 ends_after command ReadFault old read new same silent ends = (
   unread_after command old read new same ends.0,
-  subst (λ (first : Printed). Prints (lines_of 0 ReadFault) first new.console) silent ends.1,
+  subst (λ (first : Printed). Prints (lines_of [] ReadFault) first new.console) silent ends.1,
 )
 ends_after command WriteFault old read new same silent ends = (
   partly_built_after command old read new same ends.0,
-  subst (λ (first : Printed). Prints (lines_of 0 WriteFault) first new.console) silent ends.1,
+  subst (λ (first : Printed). Prints (lines_of [] WriteFault) first new.console) silent ends.1,
 )
 ends_after command NoMemory old read new same silent ends
     = (left_after old read new same ends.0, ends.1 ∙ silent)
@@ -115,19 +118,43 @@ not_both told r bytes font refused is_told accepted =
     in
     let clash : Ok font ≡ Err r = sym accepted ∙ refuses in cc
 
+-- no font has a point and a fault
+not_point_and_fault : (told : Option (List ℕ)) (command : Inspect) (fault : FontFault)
+    (bytes : List ℕ) (point : Point) → IfSome told (λ font. inspected command font ≡ Err fault)
+    → told ≡ Some bytes → inspected command bytes ≡ Ok point → ⊥
+not_point_and_fault told command fault bytes point at_fault is_told gives =
+    let faults : inspected command bytes ≡ Err fault
+    = subst (λ (t : Option (List ℕ)). IfSome t (λ font. inspected command font ≡ Err fault)) is_told
+    at_fault in
+    let clash : Ok point ≡ Err fault = sym gives ∙ faults in cc
+
 -- a run that ends as it may is complete
-pub completes : (command : Option Build) (status : Status) (old new : Outside)
+pub completes : (command : Option Command) (status : Status) (old new : Outside)
     → RunEnds command status old new → IsComplete command status old new
 completes None status old new ends = tt
-completes (Some command) Done old new ends = λ accepted reads writes prints. inl refl
-completes (Some command) NoMemory old new ends = λ accepted reads writes prints. inr refl
-completes (Some command) Usage old new ends = λ accepted reads writes prints. absurd ends
-completes (Some command) (BadFont fault) old new ends = λ accepted reads writes prints. absurd ends
-completes (Some command) (Refused r) old new ends = λ accepted reads writes prints.
+completes (Some (building command)) Done old new ends = λ accepted reads writes prints. inl refl
+completes (Some (building command)) NoMemory old new ends = λ accepted reads writes prints. inr refl
+completes (Some (building command)) Usage old new ends = λ accepted reads writes prints. absurd ends
+completes (Some (building command)) (BadFont fault) old new ends =
+    λ accepted reads writes prints. absurd ends
+completes (Some (building command)) (Refused r) old new ends = λ accepted reads writes prints.
     absurd (not_both _ r accepted.0 accepted.1 ends.1 accepted.2 accepted.3)
-completes (Some command) ReadFault old new ends = λ accepted reads writes prints.
+completes (Some (building command)) ReadFault old new ends = λ accepted reads writes prints.
     absurd (reads ends.0.reads)
-completes (Some command) WriteFault old new ends = λ accepted reads writes prints.
+completes (Some (building command)) WriteFault old new ends = λ accepted reads writes prints.
     absurd (writes ends.0.writes)
-completes (Some command) ConsoleFault old new ends = λ accepted reads writes prints.
+completes (Some (building command)) ConsoleFault old new ends = λ accepted reads writes prints.
     absurd (prints ends.2.1)
+completes (Some (inspecting command)) Done old new ends = λ readable reads prints. inl refl
+completes (Some (inspecting command)) NoMemory old new ends = λ readable reads prints. inr refl
+completes (Some (inspecting command)) Usage old new ends = λ readable reads prints. absurd ends
+completes (Some (inspecting command)) (Refused r) old new ends = λ readable reads prints.
+    absurd ends
+completes (Some (inspecting command)) WriteFault old new ends = λ readable reads prints.
+    absurd ends
+completes (Some (inspecting command)) (BadFont fault) old new ends = λ readable reads prints.
+    absurd (not_point_and_fault _ command fault readable.0 readable.1 ends.1 readable.2 readable.3)
+completes (Some (inspecting command)) ReadFault old new ends = λ readable reads prints.
+    absurd (reads ends.0.reads)
+completes (Some (inspecting command)) ConsoleFault old new ends = λ readable reads prints.
+    absurd (prints ends.3.1)

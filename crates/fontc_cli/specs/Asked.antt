@@ -2,7 +2,7 @@
 use Rattle.std.specs.Prelude.{◌≡◌, ℕ, List, [], ◌++◌, Option, Some, None}
 use Rattle.outside_io.specs.Calls.{Call}
 use Rattle.whole_files.specs.Requests.{AreRoomyReads, AreWholeOffers}
-use Rattle.fontc_cli.specs.Commands.{Build}
+use Rattle.fontc_cli.specs.Commands.{Build, Command, building, inspecting}
 use Rattle.fontc_cli.specs.declared.status.Status.{Status}
 use Rattle.fontc_cli.specs.declared.status.Status.TheVariants.{Done, Usage, Refused, BadFont}
 use Rattle.fontc_cli.specs.declared.status.Status.TheVariants.{ReadFault, WriteFault, ConsoleFault}
@@ -26,7 +26,9 @@ BuildAsks command status calls = (reads : List Call) × (writes : List Call)
     × (calls ≡ reads ++ writes)
     × AreRoomyReads command.source reads × WritingAsks command.output status writes
 
--- what a run of any words asks: words that are no command ask nothing
-abbrev pub RunAsks : Option Build → Status → List Call → Type 0
+-- What a run of any words asks: words that are no command ask nothing, and an inspection reads its
+-- font alone, each read offering enough room.
+abbrev pub RunAsks : Option Command → Status → List Call → Type 0
 RunAsks None status calls = calls ≡ []
-RunAsks (Some command) status calls = BuildAsks command status calls
+RunAsks (Some (building command)) status calls = BuildAsks command status calls
+RunAsks (Some (inspecting command)) status calls = AreRoomyReads command.font calls

@@ -3,7 +3,7 @@ use Rattle.std.specs.Prelude.{◌≡◌, ◌⊎◌, ℕ, List, take, Option, Som
 use Rattle.outside_io.specs.Files.{Holding, told_bytes, replaced_by, Leaves}
 use Rattle.font_plan.specs.Alone.{SourceBoard, HasEnded}
 use Rattle.font_plan.specs.Font.{font_of}
-use Rattle.fontc_cli.specs.Commands.{Build}
+use Rattle.fontc_cli.specs.Commands.{Build, Command, building, inspecting}
 use Rattle.fontc_cli.specs.Runs.{Outside}
 use Rattle.fontc_cli.specs.declared.status.Status.{Status}
 use Rattle.fontc_cli.specs.declared.status.Status.TheVariants.{Done, Usage, Refused, BadFont}
@@ -41,14 +41,19 @@ NoneBegun (BadFont fault) = Unit {0}
 NoneBegun ReadFault = Unit {0}
 NoneBegun NoMemory = Unit {0}
 
--- A run has a board exactly where a font was begun to be written, and it is the board of that
+-- A build has a board exactly where a font was begun to be written, and it is the board of that
 -- font's compilation.
-abbrev pub HasBoard : Option Build → Status → Option SourceBoard → Outside → Outside → Type 0
-HasBoard command status None old new = NoneBegun status
-HasBoard None status (Some board) old new = ⊥
-HasBoard (Some command) status (Some board) old new = (font : List ℕ)
+abbrev pub HasBuildBoard : Build → Status → Option SourceBoard → Outside → Outside → Type 0
+HasBuildBoard command status None old new = NoneBegun status
+HasBuildBoard command status (Some board) old new = (font : List ℕ)
     × IsBoardOf (old.holds command.source) font board
     × Begun status font (old.holds command.output) (new.holds command.output)
+
+-- the same of any run: what isn't a build has none
+abbrev pub HasBoard : Option Command → Status → Option SourceBoard → Outside → Outside → Type 0
+HasBoard None status board old new = board ≡ None
+HasBoard (Some (building command)) status board old new = HasBuildBoard command status board old new
+HasBoard (Some (inspecting command)) status board old new = board ≡ None
 
 -- a font was begun, or memory ran out before
 abbrev pub MayBegin : Status → List ℕ → Holding → Holding → Type 0

@@ -1,6 +1,7 @@
 -- What a run prints, by how it ends: each line with its line feed. fontc's own.
 use Rattle.std.specs.Prelude.{ℕ, List, [], ◌∷◌, ◌++◌, codes}
-use Rattle.std.specs.Fmt.{decimal}
+use Rattle.std.specs.Fmt.{decimal, signed_decimal}
+use Rattle.font_reader.specs.declared.points.Point.{Point}
 use Rattle.font_reader.specs.Texts.{fault_text}
 use Rattle.refusal_codes.specs.Texts.{refusal_text}
 use Rattle.fontc_cli.specs.declared.status.Status.{Status}
@@ -16,14 +17,23 @@ line text = text ++ 10 ∷ []
 abbrev pub wrote : ℕ → List ℕ
 wrote count = codes "wrote " ++ decimal count ++ line (codes " bytes")
 
--- The lines of a status, of a run that wrote a font of so many bytes, or none: then the number is
--- 0. Those of `ConsoleFault` are the lines of `Done`, which the console failed.
-abbrev pub lines_of : ℕ → Status → List ℕ
-lines_of count Done = wrote count
-lines_of count Usage = line (codes "usage: fontc build IN OUT")
-lines_of count (Refused r) = line (codes "fontc: " ++ refusal_text r)
-lines_of count (BadFont fault) = line (codes "fontc: bad font: " ++ fault_text fault)
-lines_of count ReadFault = line (codes "fontc: read fault")
-lines_of count WriteFault = line (codes "fontc: write fault")
-lines_of count ConsoleFault = wrote count
-lines_of count NoMemory = []
+-- the line of a point, in 16.16
+abbrev pub point_line : Point → List ℕ
+point_line point = signed_decimal point.x ++ codes " " ++ line (signed_decimal point.y)
+
+-- a line for each command
+abbrev pub usage : List ℕ
+usage = line (codes "usage: fontc build IN OUT")
+    ++ line (codes "usage: fontc inspect point FONT GID INDEX COORDS")
+
+-- The lines of a status, by what a run prints that is done. Those of `ConsoleFault` are the lines
+-- of `Done`, which the console failed.
+abbrev pub lines_of : List ℕ → Status → List ℕ
+lines_of done Done = done
+lines_of done Usage = usage
+lines_of done (Refused r) = line (codes "fontc: " ++ refusal_text r)
+lines_of done (BadFont fault) = line (codes "fontc: bad font: " ++ fault_text fault)
+lines_of done ReadFault = line (codes "fontc: read fault")
+lines_of done WriteFault = line (codes "fontc: write fault")
+lines_of done ConsoleFault = done
+lines_of done NoMemory = []

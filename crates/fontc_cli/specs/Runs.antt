@@ -1,13 +1,17 @@
 -- How a run of a command ends, what it leaves, and what it prints. fontc's own.
-use Rattle.std.specs.Prelude.{◌≡◌, ◌⊎◌, ℕ, List, take, length, Option, Some, None, Ok, Err, IfSome}
+use Rattle.std.specs.Prelude.{◌≡◌, ◌⊎◌, ℕ, List, [], take, length, Option, Some, None}
+use Rattle.std.specs.Prelude.{Result, Ok, Err, IfSome}
 use Rattle.outside_io.specs.Counts.{HasRisen, NoneRises}
 use Rattle.outside_io.specs.Files.{Holding, told_bytes, replaced_by, Leaves, LeavesOthers}
 use Rattle.outside_io.specs.Files.{LeavesAll}
 use Rattle.whole_files.specs.Printing.{Printed, printed, PrintsAll, PrintsPart, Prints}
 use Rattle.refusal_codes.specs.declared.refusal.Refusal.{Refusal}
 use Rattle.font_plan.specs.Font.{font_of}
-use Rattle.fontc_cli.specs.Commands.{Build}
-use Rattle.fontc_cli.specs.Lines.{lines_of}
+use Rattle.font_reader.specs.declared.faults.FontFault.{FontFault}
+use Rattle.font_reader.specs.declared.points.Point.{Point}
+use Rattle.fontc_cli.specs.Commands.{Build, Inspect, Command, building, inspecting}
+use Rattle.fontc_cli.specs.Inspected.{inspected}
+use Rattle.fontc_cli.specs.Lines.{lines_of, wrote, point_line}
 use Rattle.fontc_cli.specs.declared.status.Status.{Status}
 use Rattle.fontc_cli.specs.declared.status.Status.TheVariants.{Done, Usage, Refused, BadFont}
 use Rattle.fontc_cli.specs.declared.status.Status.TheVariants.{ReadFault, WriteFault, ConsoleFault}
@@ -73,10 +77,10 @@ pub record IsPartlyBuilt (command : Build) (old new : Outside) : Type 0 where
   pub reads : NoneRises old.failed_reads new.failed_reads
   pub writes : HasRisen (old.failed_writes command.output) (new.failed_writes command.output)
 
--- A read of the source's path has failed, and no write. No path has changed.
-pub record IsUnread (command : Build) (old new : Outside) : Type 0 where
+-- A read of this path has failed, and no write. No path has changed.
+pub record IsUnread (path : List ℕ) (old new : Outside) : Type 0 where
   pub paths : LeavesAll old.holds new.holds
-  pub reads : HasRisen (old.failed_reads command.source) (new.failed_reads command.source)
+  pub reads : HasRisen (old.failed_reads path) (new.failed_reads path)
   pub writes : NoneRises old.failed_writes new.failed_writes
 
 -- no path has changed, each is as far told as before, and no read and no write has failed
@@ -91,21 +95,55 @@ abbrev pub BuildEnds : Build → Status → Outside → Outside → Type 0
 BuildEnds command Usage old new = ⊥
 BuildEnds command (BadFont fault) old new = ⊥
 BuildEnds command Done old new = (font : List ℕ) × IsBuilt command font old new
-    × PrintsAll (lines_of (length font) Done) old.console new.console
+    × PrintsAll (lines_of (wrote (length font)) Done) old.console new.console
 BuildEnds command ConsoleFault old new = (font : List ℕ) × IsBuilt command font old new
-    × PrintsPart (lines_of (length font) ConsoleFault) old.console new.console
+    × PrintsPart (lines_of (wrote (length font)) ConsoleFault) old.console new.console
 BuildEnds command (Refused r) old new = LeavesFiles old new
     × IsRefused (old.holds command.source) r
-    × Prints (lines_of 0 (Refused r)) old.console new.console
-BuildEnds command ReadFault old new = IsUnread command old new
-    × Prints (lines_of 0 ReadFault) old.console new.console
+    × Prints (lines_of [] (Refused r)) old.console new.console
+BuildEnds command ReadFault old new = IsUnread command.source old new
+    × Prints (lines_of [] ReadFault) old.console new.console
 BuildEnds command WriteFault old new = IsPartlyBuilt command old new
-    × Prints (lines_of 0 WriteFault) old.console new.console
+    × Prints (lines_of [] WriteFault) old.console new.console
 BuildEnds command NoMemory old new = LeavesFiles old new × (new.console ≡ old.console)
+
+-- inspecting what the font's path held gives this point, where the files tell it
+abbrev pub GivesPoint : Inspect → Holding → Point → Type 0
+GivesPoint command font point = IfSome (told_bytes font)
+    (λ bytes. inspected command bytes ≡ Ok point)
+
+-- it has this fault first
+abbrev pub IsAtFault : Inspect → Holding → FontFault → Type 0
+IsAtFault command font fault = IfSome (told_bytes font)
+    (λ bytes. inspected command bytes ≡ Err fault)
+
+-- it gives a point, and the files tell it
+abbrev pub IsReadable : Inspect → Holding → Type 0
+IsReadable command font = (bytes : List ℕ) × (point : Point) × (told_bytes font ≡ Some bytes)
+    × (inspected command bytes ≡ Ok point)
+
+-- What each status of an inspection says: when it comes, and what the console took. All files are
+-- left as before.
+abbrev pub InspectEnds : Inspect → Status → Outside → Outside → Type 0
+InspectEnds command Usage old new = ⊥
+InspectEnds command (Refused r) old new = ⊥
+InspectEnds command WriteFault old new = ⊥
+InspectEnds command Done old new = (point : Point) × LeavesFiles old new
+    × GivesPoint command (old.holds command.font) point
+    × PrintsAll (lines_of (point_line point) Done) old.console new.console
+InspectEnds command ConsoleFault old new = (point : Point) × LeavesFiles old new
+    × GivesPoint command (old.holds command.font) point
+    × PrintsPart (lines_of (point_line point) ConsoleFault) old.console new.console
+InspectEnds command (BadFont fault) old new = LeavesFiles old new
+    × IsAtFault command (old.holds command.font) fault
+    × Prints (lines_of [] (BadFont fault)) old.console new.console
+InspectEnds command ReadFault old new = IsUnread command.font old new
+    × Prints (lines_of [] ReadFault) old.console new.console
+InspectEnds command NoMemory old new = LeavesFiles old new × (new.console ≡ old.console)
 
 -- words that are no command are `Usage`, and leave all files as before
 abbrev pub UsageEnds : Status → Outside → Outside → Type 0
-UsageEnds Usage old new = LeavesFiles old new × Prints (lines_of 0 Usage) old.console new.console
+UsageEnds Usage old new = LeavesFiles old new × Prints (lines_of [] Usage) old.console new.console
 UsageEnds Done old new = ⊥
 UsageEnds (Refused r) old new = ⊥
 UsageEnds (BadFont fault) old new = ⊥
@@ -115,15 +153,22 @@ UsageEnds ConsoleFault old new = ⊥
 UsageEnds NoMemory old new = ⊥
 
 -- the same of any words
-abbrev pub RunEnds : Option Build → Status → Outside → Outside → Type 0
+abbrev pub RunEnds : Option Command → Status → Outside → Outside → Type 0
 RunEnds None status old new = UsageEnds status old new
-RunEnds (Some command) status old new = BuildEnds command status old new
+RunEnds (Some (building command)) status old new = BuildEnds command status old new
+RunEnds (Some (inspecting command)) status old new = InspectEnds command status old new
 
--- A command whose source is accepted, and of which no read, no write and no print fails, gives its
--- font, or memory runs out.
-abbrev pub IsComplete : Option Build → Status → Outside → Outside → Type 0
+-- A build whose source is accepted, and of which no read, no write and no print fails, gives its
+-- font, or memory runs out. An inspection of a font that can be read, of which no read and no print
+-- fails, gives its point, or memory runs out.
+abbrev pub IsComplete : Option Command → Status → Outside → Outside → Type 0
 IsComplete None status old new = Unit {0}
-IsComplete (Some command) status old new =
+IsComplete (Some (inspecting command)) status old new =
+    IsReadable command (old.holds command.font)
+    → (HasRisen (old.failed_reads command.font) (new.failed_reads command.font) → ⊥)
+    → (HasRisen old.console.failures new.console.failures → ⊥)
+    → (status ≡ Done) ⊎ (status ≡ NoMemory)
+IsComplete (Some (building command)) status old new =
     IsAccepted (old.holds command.source)
     → (HasRisen (old.failed_reads command.source) (new.failed_reads command.source) → ⊥)
     → (HasRisen (old.failed_writes command.output) (new.failed_writes command.output) → ⊥)
@@ -132,5 +177,21 @@ IsComplete (Some command) status old new =
 
 -- a refusal is printed, or memory runs out before anything is
 abbrev pub IsTold : Refusal → Status → Printed → Printed → Type 0
-IsTold r status old new = ((status ≡ Refused r) × Prints (lines_of 0 (Refused r)) old new)
+IsTold r status old new = ((status ≡ Refused r) × Prints (lines_of [] (Refused r)) old new)
     ⊎ ((status ≡ NoMemory) × (new ≡ old))
+
+-- what was read of a font is told, and a status answered: the point is printed, or the fault, or
+-- memory runs out before anything is
+abbrev pub IsPointTold : Status → Result Point FontFault → Printed → Printed → Type 0
+IsPointTold NoMemory read old new = new ≡ old
+IsPointTold Done (Ok point) old new = PrintsAll (point_line point) old new
+IsPointTold Done (Err fault) old new = ⊥
+IsPointTold ConsoleFault (Ok point) old new = PrintsPart (point_line point) old new
+IsPointTold ConsoleFault (Err fault) old new = ⊥
+IsPointTold (BadFont told) (Ok point) old new = ⊥
+IsPointTold (BadFont told) (Err fault) old new = (fault ≡ told)
+    × Prints (lines_of [] (BadFont told)) old new
+IsPointTold Usage read old new = ⊥
+IsPointTold (Refused r) read old new = ⊥
+IsPointTold ReadFault read old new = ⊥
+IsPointTold WriteFault read old new = ⊥

@@ -1,10 +1,12 @@
-//! The commands of fontc: their words, what each reads, compiles and writes, and what it prints.
+//! The commands of fontc: their words, what each reads and writes, and what it prints.
 #![tactic(auto)]
 
 mod command;
+mod inspect;
 mod lines;
 mod runs;
 mod status;
+mod words;
 
 pub use runs::{run, run_alone, run_program};
 pub use status::{Report, Status};

@@ -3,14 +3,15 @@ ghost use Rattle.std.specs.String.{string_bytes};
 ghost use Rattle.outside_io.specs.Files.{told_bytes};
 ghost use Rattle.whole_files.specs.Requests.{Since};
 ghost use Rattle.refusal_codes.specs.declared.limits.TheConstants.{SOURCE_BYTES};
-ghost use Rattle.fontc_cli.specs.Boards.{HasBoard, MayBegin};
+ghost use Rattle.fontc_cli.specs.Boards.{HasBoard, HasBuildBoard, MayBegin};
 ghost use Rattle.fontc_cli.specs.Asked.{WritingAsks, BuildAsks, RunAsks};
 ghost use Rattle.fontc_cli.specs.Commands.{command_of};
 ghost use Rattle.fontc_cli.specs.Runs.{BuildEnds, RunEnds, IsComplete, HoldsFontOf, Between};
 ghost use Rattle.fontc_cli.specs.Statuses.{ExitsBy};
-ghost use Rattle.fontc_cli.specs.Words.{shown};
+ghost use Rattle.fontc_cli.specs.Words.{shown, shown_command};
 
-use crate::command::{BuildCommand, read_command};
+use crate::command::{BuildCommand, Command, read_command};
+use crate::inspect::inspect;
 use crate::lines::{READ_FAULT, USAGE, WRITE_FAULT, refuse, tell, wrote_line};
 use crate::status::{Report, Status};
 use font_plan::{compile_one, source_too_large};
@@ -23,17 +24,24 @@ use whole_files::{ReadWholeError, print_whole, read_whole, write_whole};
 
 /// Runs the command that the words are, over these files and this console.
 ///
-/// The words are those behind the program's name: `build IN OUT`. The report says how the run
-/// ended: the font of what IN held stands in OUT; or the words are no command, the source is
+/// The words are those behind the program's name: `build IN OUT`, or
+/// `inspect point FONT GID INDEX COORDS`. The report says how the run ended.
+///
+/// Of a build: the font of what IN held stands in OUT; or the words are no command, the source is
 /// refused, a read of IN or a write of OUT failed, or memory ran out. Files are asked for reads of
 /// IN first. OUT is begun once the whole font and the line that tells of it stand in memory, and
 /// then all that is left of the font is offered to it, until it stands there or a write fails.
 ///
-/// The console takes one line, which says the same; where memory ran out it takes none. A console
-/// that fails takes first bytes of it, and changes how the run ended only where it would else be
-/// `Done`.
+/// Of an inspection: the point INDEX of the glyph GID of the font that FONT holds, at the place
+/// COORDS of the design space, was read; or the font, or what is asked of it, is at fault, a read
+/// of FONT failed, or memory ran out. Nothing is written.
 ///
-/// The report has a board exactly where the font was begun to be written: the board of its
+/// The console takes one line, which says the same, and of a point its coordinates in 16.16; of
+/// words that are no command it takes a line for each command, and where memory ran out none. A
+/// console that fails takes first bytes of it, and changes how the run ended only where it would
+/// else be `Done`.
+///
+/// The report has a board exactly where a font was begun to be written: the board of its
 /// compilation.
 pub fn run<F: Files, C: Console, G: Gate + Sync>(
     alloc: Global,
@@ -124,7 +132,29 @@ fn run_words<F: Files, C: Console>(
             tell(console, USAGE);
             Report::of(Status::Usage)
         }
-        Some(command) => build(alloc, command, files, console),
+        Some(command) => run_command(alloc, command, files, console),
+    }
+}
+
+/// Runs a command, and answers how that ended.
+fn run_command<F: Files, C: Console>(
+    alloc: Global,
+    command: Command<'_>,
+    files: &mut F,
+    console: &mut C,
+) -> Report
+    ensures ends { Between (RunEnds (Some (shown_command command.entry)) result.status)
+        F.holds F.failed_reads F.failed_writes C.took C.failed_writes files.old files.new
+        console.old console.new }
+    ensures board { Between (HasBoard (Some (shown_command command.entry)) result.status
+        result.board) F.holds F.failed_reads F.failed_writes C.took C.failed_writes files.old
+        files.new console.old console.new }
+    ensures asked { Since (RunAsks (Some (shown_command command.entry)) result.status)
+        (F.calls files.old) (F.calls files.new) }
+{
+    match command {
+        Command::Build(command) => build(alloc, command, files, console),
+        Command::Inspect(command) => Report::of(inspect(alloc, command, files, console)),
     }
 }
 
@@ -137,7 +167,7 @@ fn build<F: Files, C: Console>(
 ) -> Report
     ensures ends { Between (BuildEnds (shown command.entry) result.status) F.holds F.failed_reads
         F.failed_writes C.took C.failed_writes files.old files.new console.old console.new }
-    ensures board { Between (HasBoard (Some (shown command.entry)) result.status result.board)
+    ensures board { Between (HasBuildBoard (shown command.entry) result.status result.board)
         F.holds F.failed_reads F.failed_writes C.took C.failed_writes files.old files.new
         console.old console.new }
     ensures asked { Since (BuildAsks (shown command.entry) result.status)
@@ -169,7 +199,7 @@ fn build_source<F: Files, C: Console>(
         (λ bytes. source.now ≡ bytes) }
     ensures ends { Between (BuildEnds (shown command.entry) result.status) F.holds F.failed_reads
         F.failed_writes C.took C.failed_writes files.old files.new console.old console.new }
-    ensures board { Between (HasBoard (Some (shown command.entry)) result.status result.board)
+    ensures board { Between (HasBuildBoard (shown command.entry) result.status result.board)
         F.holds F.failed_reads F.failed_writes C.took C.failed_writes files.old files.new
         console.old console.new }
     ensures asked { Since (WritingAsks command.entry.output.now result.status)

@@ -12,20 +12,19 @@ use std::process::ExitCode;
 /// How a run ended.
 #[derive(Debug, Drop)]
 pub enum Status {
-    /// The font was written, and the console took the line that says so.
+    /// The font was written, or the point read, and the console took the line that says so.
     Done,
     /// The words are no command.
     Usage,
     /// The source fails a rule.
     Refused(Refusal),
-    /// A font that was to be inspected can't be read. It never comes before there is a command that
-    /// inspects one.
+    /// A font that was to be inspected is at fault, or what is asked of it.
     BadFont(FontFault),
-    /// The source could not be read.
+    /// The source could not be read, or the font that was to be inspected.
     ReadFault,
     /// The font could not be written.
     WriteFault,
-    /// The font was written, and the console failed the line that says so.
+    /// The font was written, or the point read, and the console failed the line that says so.
     ConsoleFault,
     /// Memory ran out.
     NoMemory,

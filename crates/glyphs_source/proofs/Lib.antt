@@ -1,5 +1,6 @@
 pub mod Examples
 pub mod HeaderLaws
+pub mod IndexEntries
 pub mod IndexLaws
 pub mod IndexNames
 pub mod LocalRules

@@ -1,9 +1,10 @@
 -- The glyphs that a source names, in the order of the file, and the rules that they may fail
 -- (Glyphs file format, version 3; the rules are fontc's own). Their layers are not read here.
-use Rattle.std.specs.Prelude.{ℕ, ◌+◌, Bool, false, not, ◌&&◌, ◌||◌, nat_eq, List, [], ◌∷◌}
-use Rattle.std.specs.Prelude.{◌++◌, map, Option, Some, None, Result, codes, if◌then◌else◌}
+use Rattle.std.specs.Prelude.{◌≡◌, ℕ, ◌+◌, ◌≤◌, Bool, true, false, not, ◌&&◌, ◌||◌, nat_eq, List}
+use Rattle.std.specs.Prelude.{[], ◌∷◌, ◌++◌, map, flat_map, Option, Some, None, Result, codes}
+use Rattle.std.specs.Prelude.{if◌then◌else◌}
 use Rattle.std.specs.Option.{option_map_or}
-use Rattle.std.specs.List.{All, list_any}
+use Rattle.std.specs.List.{All, IsDistinct, list_any}
 use Rattle.std.specs.Cmp.Lexicographic.{pointwise}
 use Rattle.plist_reader.specs.declared.tree.Tree.{Tree}
 use Rattle.plist_reader.specs.Tree.{find_in}
@@ -18,7 +19,7 @@ use Rattle.source_values.specs.declared.decimals.Decimal.{Decimal}
 use Rattle.source_values.specs.declared.kinds.Range.TheVariants.{Any, Code}
 use Rattle.source_values.specs.Decimals.{is_whole}
 use Rattle.source_values.specs.Values.{items_at, is_list, decimal_at, is_zero, in_range}
-use Rattle.source_values.specs.Values.{items_under}
+use Rattle.source_values.specs.Values.{items_under, is_code}
 use Rattle.source_values.specs.Values.{text_under, text_or_empty, decimal_under}
 use Rattle.source_values.specs.Asking.{fails, whole_failures, text_failures, name_failures, each}
 use Rattle.source_values.specs.Asking.{dictionary, required, optional}
@@ -135,3 +136,18 @@ index_of t =
 -- each name has 1 to 255 bytes
 abbrev pub AreNamed : List (List ℕ × IndexEntry) → Type 0
 AreNamed index = All (λ entry. IsNameLong entry.0) index
+
+-- the code of a character that a font may have: one of Unicode, but no surrogate and not 65535
+pub record IsCharacterCode (code : ℕ) : Type 0 where
+  pub most : code ≤ 1114111
+  pub character : is_code code ≡ true
+
+-- the codes of exported glyphs are distinct, joined in the order of the file, and each code is that
+-- of a character that a font may have
+pub record AreCoded (index : List (List ℕ × IndexEntry)) : Type 0 where
+  pub distinct : IsDistinct nat_eq (flat_map (λ entry. counting entry.1) index)
+  pub within : All (λ entry. All IsCharacterCode entry.1.codes) index
+
+-- each glyph named `.notdef` is exported
+abbrev pub IsNotdefExported : List (List ℕ × IndexEntry) → Type 0
+IsNotdefExported index = All (λ entry. entry.0 ≡ codes ".notdef" → entry.1.exported ≡ true) index

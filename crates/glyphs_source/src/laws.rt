@@ -8,7 +8,8 @@ ghost use Rattle.font_ir.specs.Headers.{IsHeader};
 ghost use Rattle.glyphs_source.specs.declared.entries.IndexEntry.{IndexEntry};
 ghost use Rattle.glyphs_source.specs.BuiltHeaders.{built_header_of};
 ghost use Rattle.glyphs_source.specs.HeaderReading.{header_of, IsReadHeader};
-ghost use Rattle.glyphs_source.specs.IndexReading.{index_of, AreNamed};
+ghost use Rattle.glyphs_source.specs.IndexReading.{index_of, AreNamed, AreCoded};
+ghost use Rattle.glyphs_source.specs.IndexReading.{IsNotdefExported};
 
 use axis_space::{first_repeat_is_the_first, first_unmapped_is_the_first};
 use source_axes::{sound_axes_are_read, sound_instances_are_read};
@@ -46,4 +47,18 @@ pub fn built_headers_have_one_master()
 pub fn glyph_names_are_short()
     ensures { (tree : Tree) (index : List (List ℕ × IndexEntry)) → index_of tree ≡ Ok index
         → AreNamed index }
+{}
+
+/// What `glyph_index` reads of a tree has no code twice among its exported glyphs, and each of its
+/// codes is that of a character that a font may have.
+pub fn exported_codes_are_distinct()
+    ensures { (tree : Tree) (index : List (List ℕ × IndexEntry)) → index_of tree ≡ Ok index
+        → AreCoded index }
+{}
+
+/// What `glyph_index` reads of a tree has `.notdef` among its exported glyphs, where it has a glyph
+/// of that name.
+pub fn notdef_is_exported()
+    ensures { (tree : Tree) (index : List (List ℕ × IndexEntry)) → index_of tree ≡ Ok index
+        → IsNotdefExported index }
 {}

@@ -53,12 +53,12 @@ pub struct Ended {
 }
 
 impl Ended {
-    /// How it ended, in a few words: the exit status, and the console's line.
+    /// How it ended, in a few words: the exit status, and the console's first line.
     pub fn summary(&self, alloc: Global) -> Result<String, AllocError> {
         let status = self.status;
-        match self.printed.trim() {
-            "" => format!(in alloc; "status {status}, nothing printed"),
-            line => format!(in alloc; "status {status}, {line}"),
+        match self.printed.lines().next() {
+            None => format!(in alloc; "status {status}, nothing printed"),
+            Some(line) => format!(in alloc; "status {status}, {line}"),
         }
     }
 }

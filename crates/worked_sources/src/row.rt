@@ -93,10 +93,12 @@ impl<'a> Row<'a> {
             "file" => self.source.push_file(rt, rest)?,
             "text" => self.source.push_text(rest)?,
             "hex" => self.source.push_hex(alloc, rest)?,
+            "hexfile" => self.source.push_hex_file(rt, rest)?,
             "spaces" => self.source.push_spaces(alloc, rest.parse::<usize>()?)?,
             "times" => self.push_times(alloc, rest)?,
             "old" => self.old = Some(rest),
             "new" => self.replace(alloc, rest)?,
+            "put" => self.put(alloc, rest)?,
             "cut" => self.source.cut(rest.parse::<usize>()?),
             _ => bail!("no line of a row begins with {word}"),
         }
@@ -123,6 +125,11 @@ impl<'a> Row<'a> {
     fn push_times(&mut self, alloc: Global, rest: &str) -> Result<()> {
         let (count, text) = counted(rest)?;
         self.source.push_times(alloc, count, text)
+    }
+
+    fn put(&mut self, alloc: Global, rest: &str) -> Result<()> {
+        let (place, digits) = counted(rest)?;
+        self.source.put_hex(alloc, place as usize, digits)
     }
 
     fn replace(&mut self, alloc: Global, new: &str) -> Result<()> {

@@ -40,6 +40,12 @@ impl Source {
         Ok(())
     }
 
+    /// Adds the bytes that the hex digits of a file write.
+    pub fn push_hex_file(&mut self, rt: &HostRuntime, name: &str) -> Result<()> {
+        let digits = fs::read_to_string(rt, name).context(format_args!("reading {name}"))?;
+        self.push_hex(rt.alloc(), digits.as_str())
+    }
+
     /// Adds so many spaces.
     pub fn push_spaces(&mut self, alloc: Global, count: usize) -> Result<()> {
         let spaces = vec![in alloc; b' '; count]?;
@@ -77,6 +83,20 @@ impl Source {
         ensure!(!behind.contains(old), "the old text stands twice");
         for piece in [before, new, behind] {
             changed.extend_from_slice(piece.as_bytes())?;
+        }
+        self.bytes = changed;
+        Ok(())
+    }
+
+    /// Puts the bytes that hex digits write in place of those from a place on.
+    pub fn put_hex(&mut self, alloc: Global, place: usize, digits: &str) -> Result<()> {
+        let bytes = bytes_of_hex(alloc, digits)?;
+        let end = place.saturating_add(bytes.len());
+        let old = self.bytes.as_slice();
+        ensure!(end <= old.len(), "the source has fewer bytes");
+        let mut changed = Vec::new(alloc);
+        for piece in [&old[..place], bytes.as_slice(), &old[end..]] {
+            changed.extend_from_slice(piece)?;
         }
         self.bytes = changed;
         Ok(())

@@ -1,0 +1,4 @@
+pub mod Members
+pub mod OrderLemmas
+pub mod Rising
+pub mod Rows
