@@ -4,9 +4,10 @@ ghost use Rattle.job_graph.specs.BoardView.{NowHas};
 ghost use Rattle.job_graph.specs.Histories.{out_at};
 ghost use Rattle.job_graph.specs.Rounds.{IsDue};
 
+use crate::font::FONT;
 use crate::plan::is_told;
 use access_context::{Reads, Settled};
-use fixtures::{FONT, SOURCE};
+use fixtures::SOURCE;
 use font_graph::JobId;
 use font_plan::{FontPlan, Item, compile_one, verdict};
 use job_graph::{Board, Claim, End, Event, Plan, Ticket, run_claimed};
@@ -123,14 +124,14 @@ fn finishes(events: &[Event<JobId>]) -> usize {
         .count()
 }
 
-/// Whether one worker has claimed and finished the fifteen jobs of a triangle, and none is left.
+/// Whether one worker has claimed and finished the 25 jobs of a triangle, and none is left.
 pub fn is_run_whole(board: &Board<FontPlan>) -> bool {
     let events = board.events();
     board.result() == End::Ended
         && board.workers() == 1
-        && events.len() == 30
-        && claims(events) == 15
-        && finishes(events) == 15
+        && events.len() == 50
+        && claims(events) == 25
+        && finishes(events) == 25
 }
 
 /// Whether an item is this font.
@@ -158,9 +159,9 @@ fn refusal_on(alloc: Global, board: &Board<FontPlan>) -> Option<Refusal> {
 }
 
 #[test]
-fn a_triangle_is_compiled_by_fifteen_jobs(rt: HostRuntime) -> Result<(), Fail> {
+fn a_triangle_is_compiled_by_25_jobs(rt: HostRuntime) -> Result<(), Fail> {
     let built = compile_one(rt.alloc(), SOURCE)?;
-    assert!(rt; built.font.len() == 280);
+    assert!(rt; built.font.len() == 728);
     assert!(rt; is_run_whole(&built.board));
     Ok(())
 }

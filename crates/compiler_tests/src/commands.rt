@@ -1,5 +1,6 @@
 use crate::board::is_run_whole;
-use fixtures::{FONT, SOURCE, cubic_source};
+use crate::font::FONT;
+use fixtures::{SOURCE, cubic_source};
 use fontc_cli::{Report, Status, run, run_alone};
 use outside_io::{MemConsole, MemFiles, OpenGate, SureConsole};
 use refusal_codes::Rule;
@@ -116,7 +117,7 @@ fn other_words_are_no_command(rt: HostRuntime) -> Result<(), Fail> {
 
 #[test]
 fn a_failed_read_or_begin_leaves_the_output(rt: HostRuntime) -> Result<(), Fail> {
-    // Calls 1 to 4 read, call 5 begins the output, and calls 6 to 8 append to it.
+    // Calls 1 to 4 read, call 5 begins the output, and calls 6 to 13 append to it.
     assert!(rt; is_failed(rt.alloc(), 3, 4, BEFORE)?);
     assert!(rt; is_failed(rt.alloc(), 5, 5, BEFORE)? || is_failed(rt.alloc(), 5, 5, b"")?);
     Ok(())
@@ -125,7 +126,7 @@ fn a_failed_read_or_begin_leaves_the_output(rt: HostRuntime) -> Result<(), Fail>
 #[test]
 fn a_failed_append_leaves_first_bytes(rt: HostRuntime) -> Result<(), Fail> {
     let mut font = hex::decode(rt.alloc(), FONT)?;
-    assert!(rt; is_failed(rt.alloc(), 9, 0, font.as_slice())?);
+    assert!(rt; is_failed(rt.alloc(), 14, 0, font.as_slice())?);
     font.truncate(200);
     assert!(rt; is_failed(rt.alloc(), 8, 5, font.as_slice())?);
     Ok(())
@@ -145,7 +146,7 @@ fn is_built_with(alloc: Global, console: &mut MemConsole, code: u8) -> Result<bo
 fn a_font_is_told_by_its_bytes(rt: HostRuntime) -> Result<(), Fail> {
     let mut console = MemConsole::with_room(rt.alloc(), 100)?;
     assert!(rt; is_built_with(rt.alloc(), &mut console, 0)?);
-    assert!(rt; console.held() == b"wrote 280 bytes\n".as_slice());
+    assert!(rt; console.held() == b"wrote 728 bytes\n".as_slice());
     Ok(())
 }
 

@@ -5,5 +5,6 @@
 mod board;
 #[cfg(test)]
 mod commands;
+mod font;
 #[cfg(test)]
 mod plan;

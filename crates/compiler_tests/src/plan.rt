@@ -62,7 +62,7 @@ unitsPerEm = 1000;
 fn notdef_is_the_first_glyph_and_hidden_ones_are_none(rt: HostRuntime) -> Result<(), Fail> {
     let built = compile_one(rt.alloc(), THREE_GLYPHS)?;
     let font = built.font.as_slice();
-    assert!(rt; font.len() == 280);
+    assert!(rt; font.len() == 728);
     // The table "hmtx" has two glyphs, of 600 and of 500 units; then come "loca", and "maxp", which
     // counts two.
     let expected = hex::decode(
@@ -71,7 +71,7 @@ fn notdef_is_the_first_glyph_and_hidden_ones_are_none(rt: HostRuntime) -> Result
         00000000000000000000001c\
         000100000002",
     )?;
-    assert!(rt; &font[228..254] == expected.as_slice());
+    assert!(rt; &font[432..458] == expected.as_slice());
     Ok(())
 }
 

@@ -5,14 +5,15 @@ use Rattle.font_ir.specs.declared.tag.Tag.{Tag}
 use Rattle.job_graph.specs.Members.{In}
 use Rattle.font_graph.specs.Parts.{Parts}
 use Rattle.font_graph.specs.Fonts.{IsFontOf}
-use Rattle.font_graph.specs.Graph.{numbers, value_of, plan, tree_value, header_value}
+use Rattle.font_graph.specs.Graph.{exported, varied, varied_of, value_of, plan, tree_value, header_value}
 use Rattle.font_graph.specs.Graph.{index_value, order_value}
 use Rattle.font_graph.specs.Graph.{advances_value, font_value}
 use Rattle.font_graph.specs.Solved.{numbers_are, raw_done}
-use Rattle.font_graph.specs.Made.{is_done_by, valued_done, made_font}
+use Rattle.font_graph.specs.Made.{is_done_by, valued_done, varied_are, made_font}
 use Rattle.font_graph.specs.Same.{same_id, identity}
 use Rattle.font_graph.specs.Values.{Source, tree_is, header_is, index_is, Drawn, flats_are, Ordered}
-use Rattle.font_graph.specs.Values.{order_is, Written, measures_are, parts_are, Tabled, tables_are}
+use Rattle.font_graph.specs.Values.{order_is, Written, measures_are, parts_are, variations_are}
+use Rattle.font_graph.specs.Values.{Tabled, tables_are}
 use Rattle.font_graph.specs.Failing.{each_job}
 use Rattle.font_graph.specs.declared.ids.JobId.{JobId}
 use Rattle.font_graph.specs.declared.ids.JobId.TheVariants as job
@@ -39,8 +40,10 @@ module _ (p : Parts) (font : p.File) (f : IsFontOf p font) where
   w = record {
     measures = f.measures;
     parts = f.parts;
+    variations = f.variations;
     glyphs_measured = f.glyphs_measured;
     glyphs_written = f.glyphs_written;
+    glyphs_varied = f.glyphs_varied;
   }
 
   abbrev t : Tabled p s d o w
@@ -49,19 +52,27 @@ module _ (p : Parts) (font : p.File) (f : IsFontOf p font) where
   abbrev HasValue : JobId → Type 0
   HasValue id = is_done (value_of p same_id id) ≡ true
 
-  in_index : (glyph : ℕ) → In glyph (numbers p same_id) → In glyph (p.numbers f.index)
+  in_index : (glyph : ℕ) → In glyph (exported p same_id) → In glyph (p.numbers f.index)
   in_index glyph i = subst (λ ns. In glyph ns)
       (sym (numbers_are p same_id f.index (index_is p s))) i
 
-  flat_done : (glyph : ℕ) → In glyph (numbers p same_id) → HasValue (job.Flat glyph)
+  flat_done : (glyph : ℕ) → In glyph (exported p same_id) → HasValue (job.Flat glyph)
   flat_done glyph i = valued_done p same_id identity f.tree (tree_is p s) f.header f.index
       (header_is p s) (index_is p s) job.Flat an.Flat (p.numbers f.index) f.flats (flats_are p s d)
       glyph (in_index glyph i)
 
-  simple_done : (glyph : ℕ) → In glyph (numbers p same_id) → HasValue (job.Simple glyph)
+  simple_done : (glyph : ℕ) → In glyph (exported p same_id) → HasValue (job.Simple glyph)
   simple_done glyph i = valued_done p same_id identity f.tree (tree_is p s) f.header f.index
       (header_is p s) (index_is p s) job.Simple an.Simple (p.numbers f.index) f.parts
       (parts_are p s d o w) glyph (in_index glyph i)
+
+  variations_done : (glyph : ℕ) → In glyph (varied p same_id) → HasValue (job.Variations glyph)
+  variations_done glyph i = valued_done p same_id identity f.tree (tree_is p s) f.header f.index
+      (header_is p s) (index_is p s) job.Variations an.Variations
+      (varied_of (p.is_variable f.header) (p.numbers f.index)) f.variations
+      (variations_are p s d o w) glyph
+      (subst (λ ns. In glyph ns) (sym (varied_are p same_id identity f.tree (tree_is p s) f.header
+      f.index (header_is p s) (index_is p s))) i)
 
   table_done : (tag : Tag) → In tag p.tags → HasValue (job.Table tag)
   table_done = valued_done p same_id identity f.tree (tree_is p s) f.header f.index
@@ -83,3 +94,4 @@ module _ (p : Parts) (font : p.File) (f : IsFontOf p font) where
       (λ glyph i. raw_done p same_id identity glyph (flat_done glyph i))
       flat_done
       simple_done
+      variations_done

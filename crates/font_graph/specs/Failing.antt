@@ -10,7 +10,8 @@ use Rattle.job_graph.specs.Rounds.{blocked}
 use Rattle.job_graph.specs.Members.{In, In-append_cases, list_all-In, In-from_Contains}
 use Rattle.job_graph.specs.Members.{In-flat_map, flat_map-In}
 use Rattle.font_graph.specs.Parts.{Parts}
-use Rattle.font_graph.specs.Graph.{Item, outcome, settled, reads_with, numbers, value_of, There}
+use Rattle.font_graph.specs.Graph.{Item, outcome, settled, reads_with, numbers, exported, varied}
+use Rattle.font_graph.specs.Graph.{value_of, There}
 use Rattle.font_graph.specs.Graph.{plan}
 use Rattle.font_graph.specs.Outcomes.{map-In, In-map, with_value, items, value}
 use Rattle.font_graph.specs.Made.{part_done}
@@ -36,23 +37,28 @@ module _ (p : Parts) where
         | false ↦ λ f. absurd (blocked≢refused r f)
       ] e
 
+  pub all_read : (id : JobId) (r : Refusal) → value_of p same_id id ≡ Refused r
+      → all_done (items p same_id id) ≡ true
+  all_read id r e = asked id (items p same_id id) r (value p same_id id ∙ e)
+
   pub refused_reads : (id : JobId) (r : Refusal) → value_of p same_id id ≡ Refused r
       → (read : JobId) → In read (reads_with p same_id (numbers p same_id) id)
       → is_done (value_of p same_id read) ≡ true
   refused_reads id r e read there = list_all-In (λ (item : JobId × Plain (Item p)). is_done item.1)
       (items p same_id id) (with_value p same_id read)
-      (asked id (items p same_id id) r (value p same_id id ∙ e))
+      (all_read id r e)
       (map-In (with_value p same_id) (reads_with p same_id (numbers p same_id) id) read there)
 
   -- ---- the jobs of the universe
 
   pub each_job : (P : JobId → Type 0) → P job.Tree → P job.Header → P job.Index → P job.Order
       → P job.Advances → P job.Font → ((tag : Tag) → In tag p.tags → P (job.Table tag))
-      → ((glyph : ℕ) → In glyph (numbers p same_id) → P (job.Raw glyph))
-      → ((glyph : ℕ) → In glyph (numbers p same_id) → P (job.Flat glyph))
-      → ((glyph : ℕ) → In glyph (numbers p same_id) → P (job.Simple glyph))
+      → ((glyph : ℕ) → In glyph (exported p same_id) → P (job.Raw glyph))
+      → ((glyph : ℕ) → In glyph (exported p same_id) → P (job.Flat glyph))
+      → ((glyph : ℕ) → In glyph (exported p same_id) → P (job.Simple glyph))
+      → ((glyph : ℕ) → In glyph (varied p same_id) → P (job.Variations glyph))
       → (id : JobId) → In id (plan p same_id).universe → P id
-  each_job P tree header index order advances font table raw flat simple id i = elim i [
+  each_job P tree header index order advances font table raw flat simple variations id i = elim i [
     | inl e ↦ subst P e tree
     | inr i ↦ elim i [
       | inl e ↦ subst P e header
@@ -73,15 +79,19 @@ module _ (p : Parts) where
           → In id (map make xs) → P id
       of make xs each i = let m = In-map make xs id i in subst P m.2 (each m.0 m.1)
 
-      others : In id (map job.Table p.tags ++ (map job.Raw (numbers p same_id)
-          ++ (map job.Flat (numbers p same_id) ++ map job.Simple (numbers p same_id)))) → P id
+      others : In id (map job.Table p.tags ++ (map job.Raw (exported p same_id)
+          ++ (map job.Flat (exported p same_id) ++ (map job.Simple (exported p same_id)
+          ++ map job.Variations (varied p same_id))))) → P id
       others i = elim (In-append_cases (map job.Table p.tags) _ id i) [
         | inl i ↦ of job.Table p.tags table i
-        | inr i ↦ elim (In-append_cases (map job.Raw (numbers p same_id)) _ id i) [
-          | inl i ↦ of job.Raw (numbers p same_id) raw i
-          | inr i ↦ elim (In-append_cases (map job.Flat (numbers p same_id)) _ id i) [
-            | inl i ↦ of job.Flat (numbers p same_id) flat i
-            | inr i ↦ of job.Simple (numbers p same_id) simple i
+        | inr i ↦ elim (In-append_cases (map job.Raw (exported p same_id)) _ id i) [
+          | inl i ↦ of job.Raw (exported p same_id) raw i
+          | inr i ↦ elim (In-append_cases (map job.Flat (exported p same_id)) _ id i) [
+            | inl i ↦ of job.Flat (exported p same_id) flat i
+            | inr i ↦ elim (In-append_cases (map job.Simple (exported p same_id)) _ id i) [
+              | inl i ↦ of job.Simple (exported p same_id) simple i
+              | inr i ↦ of job.Variations (varied p same_id) variations i
+            ]
           ]
         ]
       ]
@@ -124,6 +134,12 @@ module _ (p : Parts) where
         (λ glyph i r e. i)
         (λ glyph i r e. (i, refused_reads (job.Flat glyph) r e (job.Raw glyph) (inl refl)))
         (λ glyph i r e. (i, refused_reads (job.Simple glyph) r e (job.Flat glyph) (inr (inl refl))))
+        (λ glyph i r e. (
+          i,
+          part_done p same_id identity (job.Flat glyph)
+              (refused_reads (job.Variations glyph) r e (job.Flat glyph) (inr (inr (inl refl))))
+              (job.Raw glyph) (inl refl),
+        ))
 
     -- a refusal is told exactly where a job fails by it
     pub refused_there : (r : Refusal) → In r (refusals p) ↔ ((id : JobId) × Fails p id r)

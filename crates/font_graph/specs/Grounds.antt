@@ -1,6 +1,6 @@
 -- Which jobs of a source come to a value: those that are there, but for an order of glyphs of which
 -- some are not drawn. Lemmas.
-use Rattle.std.proofs.Common.{◌≡◌, ℕ, ◌≤◌, Bool, true, false, cond, inl, inr, List, [], ◌∷◌, map}
+use Rattle.std.proofs.Common.{◌≡◌, ℕ, ◌≤◌, true, inl, inr, List, [], ◌∷◌, map}
 use Rattle.std.proofs.Common.{Some, None, refl, sym, ◌∙◌, subst, arith}
 use Rattle.std.specs.Prelude.{Contains}
 use Rattle.std.specs.List.{AllByRecursion}
@@ -8,12 +8,14 @@ use Rattle.access_context.specs.Plain.{is_done}
 use Rattle.font_ir.specs.declared.tag.Tag.{Tag}
 use Rattle.job_graph.specs.Solutions.{Founded, opened, added}
 use Rattle.job_graph.specs.Members.{In, In-from_Contains}
-use Rattle.font_graph.specs.Parts.{Parts}
+use Rattle.font_graph.specs.Parts.{Parts, Needs, Nothing, TheIndex, TheMeasures}
+use Rattle.font_graph.specs.Parts.{TheMeasuresAndIndex, TheOutlines, TheVariations}
 use Rattle.font_graph.specs.Kinds.{stratum_of, awaited_by}
+use Rattle.font_graph.specs.Graph.{needed, exported, varied}
 use Rattle.font_graph.specs.Graph.{reads_with, numbers, value_of, spec_of, There, plan, raw_value}
 use Rattle.font_graph.specs.Graph.{order_value}
 use Rattle.font_graph.specs.Outcomes.{none_awaited, awaited_is, map-In}
-use Rattle.font_graph.specs.Solved.{raw_done, flats_done}
+use Rattle.font_graph.specs.Solved.{varied_in, raw_done, flats_done}
 use Rattle.font_graph.specs.Made.{part_done}
 use Rattle.font_graph.specs.Same.{same_id, identity}
 use Rattle.font_graph.specs.Due.{solved_by}
@@ -88,6 +90,14 @@ module _ (p : Parts) where
       founded_by (job.Simple glyph) there (founded_header, (flat, tt))
       (awaits_none (job.Simple glyph) refl)
 
+  founded_variations : (glyph : ℕ) → There p same_id (job.Variations glyph)
+      → IsFounded (job.Variations glyph)
+  founded_variations glyph there =
+      let is = varied_in p same_id glyph there.0 in
+      founded_by (job.Variations glyph) there
+      (founded_header, (founded_index, (founded_flat glyph (is.0, there.1), tt)))
+      (awaits_none (job.Variations glyph) refl)
+
   founded_low : (id : JobId) → There p same_id id → stratum_of id ≤ 1 → IsFounded id
   founded_low job.Tree there low = founded_tree
   founded_low job.Header there low = founded_header
@@ -95,6 +105,7 @@ module _ (p : Parts) where
   founded_low (job.Raw glyph) there low = founded_raw glyph there
   founded_low (job.Flat glyph) there low = founded_flat glyph there
   founded_low (job.Simple glyph) there low = founded_simple glyph there
+  founded_low (job.Variations glyph) there low = founded_variations glyph there
   founded_low job.Order there low = absurd (omega arith)
   founded_low job.Advances there low = absurd (omega arith)
   founded_low (job.Table tag) there low = absurd (omega arith)
@@ -104,13 +115,13 @@ module _ (p : Parts) where
   -- ---- the order, where each glyph is read
 
   founded_order : There p same_id job.Order
-      → ((glyph : ℕ) → In glyph (numbers p same_id) → is_done (raw_value p same_id glyph) ≡ true)
+      → ((glyph : ℕ) → In glyph (exported p same_id) → is_done (raw_value p same_id glyph) ≡ true)
       → IsFounded job.Order
   founded_order there raws = founded_by job.Order there (
     founded_header,
     (
       founded_index,
-      each_made IsFounded job.Flat (numbers p same_id)
+      each_made IsFounded job.Flat (exported p same_id)
           (λ glyph i. founded_flat glyph (i, raws glyph i)),
     ),
   )
@@ -120,7 +131,7 @@ module _ (p : Parts) where
   -- ---- what comes after it
 
   module _ (done : is_done (order_value p same_id) ≡ true) where
-    flat_there : (glyph : ℕ) → In glyph (numbers p same_id) → There p same_id (job.Flat glyph)
+    flat_there : (glyph : ℕ) → In glyph (exported p same_id) → There p same_id (job.Flat glyph)
     flat_there glyph i = (
       i,
       raw_done p same_id identity glyph
@@ -139,14 +150,15 @@ module _ (p : Parts) where
     founded_below (job.Raw glyph) there low = founded_raw glyph there
     founded_below (job.Flat glyph) there low = founded_flat glyph there
     founded_below (job.Simple glyph) there low = founded_simple glyph there
+    founded_below (job.Variations glyph) there low = founded_variations glyph there
     founded_below job.Order there low = order_founded
     founded_below job.Advances there low = absurd (omega arith)
     founded_below (job.Table tag) there low = absurd (omega arith)
     founded_below job.Font there low = absurd (omega arith)
     founded_below _ there low = absurd there
 
-    flats_founded : AllByRecursion IsFounded (map job.Flat (numbers p same_id))
-    flats_founded = each_made IsFounded job.Flat (numbers p same_id)
+    flats_founded : AllByRecursion IsFounded (map job.Flat (exported p same_id))
+    flats_founded = each_made IsFounded job.Flat (exported p same_id)
         (λ glyph i. founded_flat glyph (flat_there glyph i))
 
     advances_founded : IsFounded job.Advances
@@ -165,20 +177,35 @@ module _ (p : Parts) where
     founded_to_advances (job.Raw glyph) there low = founded_raw glyph there
     founded_to_advances (job.Flat glyph) there low = founded_flat glyph there
     founded_to_advances (job.Simple glyph) there low = founded_simple glyph there
+    founded_to_advances (job.Variations glyph) there low = founded_variations glyph there
     founded_to_advances job.Order there low = order_founded
     founded_to_advances _ there low = absurd there
 
+    -- a glyph's own jobs, where it is exported
+    simple_founded : (glyph : ℕ) → In glyph (exported p same_id) → IsFounded (job.Simple glyph)
+    simple_founded glyph i = founded_simple glyph
+        (i, flats_done p same_id identity done glyph i)
+
+    variations_founded : (glyph : ℕ) → In glyph (varied p same_id)
+        → IsFounded (job.Variations glyph)
+    variations_founded glyph i = founded_variations glyph
+        (i, (flat_there glyph (varied_in p same_id glyph i).0).1)
+
     table_founded : (tag : Tag) → In tag p.tags → IsFounded (job.Table tag)
     table_founded tag i = founded_by (job.Table tag) (i, done)
-        (founded_header, (order_founded, by_kind (p.is_of_outlines tag)))
+        (founded_header, (order_founded, by_needs (p.needs tag)))
         (λ stratum other e there low. founded_to_advances other there
         (let three = awaited_is 3 stratum e in omega arith))
       where
-        by_kind : (b : Bool) → AllByRecursion IsFounded
-            (cond b (map job.Simple (numbers p same_id)) (job.Advances ∷ []))
-        by_kind true = each_made IsFounded job.Simple (numbers p same_id)
-            (λ glyph i. founded_simple glyph (i, flats_done p same_id identity done glyph i))
-        by_kind false = (advances_founded, tt)
+        by_needs : (needs : Needs)
+            → AllByRecursion IsFounded (needed (numbers p same_id) needs)
+        by_needs Nothing = tt
+        by_needs TheIndex = (founded_index, tt)
+        by_needs TheMeasures = (advances_founded, tt)
+        by_needs TheMeasuresAndIndex = (advances_founded, (founded_index, tt))
+        by_needs TheOutlines = each_made IsFounded job.Simple (exported p same_id) simple_founded
+        by_needs TheVariations = each_made IsFounded job.Variations (varied p same_id)
+            variations_founded
 
     founded_to_tables : (id : JobId) → There p same_id id → stratum_of id ≤ 4 → IsFounded id
     founded_to_tables (job.Table tag) there low = table_founded tag there.0
@@ -190,6 +217,7 @@ module _ (p : Parts) where
     founded_to_tables (job.Raw glyph) there low = founded_raw glyph there
     founded_to_tables (job.Flat glyph) there low = founded_flat glyph there
     founded_to_tables (job.Simple glyph) there low = founded_simple glyph there
+    founded_to_tables (job.Variations glyph) there low = founded_variations glyph there
     founded_to_tables job.Order there low = order_founded
     founded_to_tables _ there low = absurd there
 
@@ -208,9 +236,10 @@ module _ (p : Parts) where
   grounded (job.Raw glyph) there reads = founded_raw glyph there
   grounded (job.Flat glyph) there reads = founded_flat glyph there
   grounded (job.Simple glyph) there reads = founded_simple glyph there
+  grounded (job.Variations glyph) there reads = founded_variations glyph there
   grounded job.Order there reads = founded_order there (λ glyph i.
       raw_done p same_id identity glyph
-      (reads (job.Flat glyph) (inr (inr (map-In job.Flat (numbers p same_id) glyph i)))))
+      (reads (job.Flat glyph) (inr (inr (map-In job.Flat (exported p same_id) glyph i)))))
   grounded job.Advances there reads = advances_founded there
   grounded (job.Table tag) there reads = table_founded there.1 tag there.0
   grounded job.Font there reads = font_founded there

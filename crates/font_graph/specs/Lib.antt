@@ -5,11 +5,14 @@ pub mod Fonts
 pub mod Same
 pub mod Verdicts
 pub mod Fails
+pub mod FailsBy
+pub mod Direct
 -- lemmas that the proofs of other crates need
 pub mod Outcomes
 pub mod Solved
 pub mod Made
 pub mod Due
+pub mod PartRefusals
 pub mod Running
 pub mod RefusalOrder
 pub mod Least
@@ -21,3 +24,4 @@ pub mod AllDone
 pub mod Judged
 pub mod Grounds
 pub mod Ended
+pub mod PartFailures

@@ -1,6 +1,7 @@
 -- A graph has a font exactly where each part answers and the font is made of their answers. For the
 -- plans of crates above. fontc's own.
-use Rattle.std.proofs.Common.{◌≡◌, ℕ, Bool, true, false, cond, inl, inr, List, [], ◌∷◌, map, Option}
+use Rattle.std.proofs.Common.{◌≡◌, ℕ, suc, Bool, true, false, cond, inl, inr, List, [], ◌∷◌, map}
+use Rattle.std.proofs.Common.{length, Option}
 use Rattle.std.proofs.Common.{Some, Result, Ok, Err, refl, sym, ap, ◌∙◌, subst}
 use Rattle.std.specs.Prelude.{◌↔◌, IsTrue, option_and_then}
 use Rattle.std.proofs.lemmas.Bool.{false≢true, and_from}
@@ -10,19 +11,22 @@ use Rattle.access_context.specs.Read.{all_done}
 use Rattle.font_ir.specs.declared.tag.Tag.{Tag}
 use Rattle.job_graph.specs.Rounds.{blocked}
 use Rattle.job_graph.specs.Members.{In, list_all-In}
-use Rattle.font_graph.specs.Parts.{Parts}
-use Rattle.font_graph.specs.Fonts.{AllMade, drawn, table, IsFontOf}
+use Rattle.font_graph.specs.Parts.{Parts, Needs, Nothing, TheIndex, TheMeasures}
+use Rattle.font_graph.specs.Parts.{TheMeasuresAndIndex, TheOutlines, TheVariations, Extra}
+use Rattle.font_graph.specs.Parts.{with_index, with_measures, with_both, with_data}
+use Rattle.font_graph.specs.Fonts.{AllMade, drawn, varying, extra, table, IsFontOf}
 use Rattle.refusal_codes.specs.Gives.{◌>>=◌}
 use Rattle.font_graph.specs.Graph.{Item}
 use Rattle.font_graph.specs.Graph.{as_tree, as_header, as_index, as_raw, as_flat, as_order}
 use Rattle.font_graph.specs.Graph.{as_measures, as_data, as_table, as_font, all_of, on, settle}
-use Rattle.font_graph.specs.Graph.{none, outcome}
+use Rattle.font_graph.specs.Graph.{none, outcome, needed, varied_of, data_behind, data_in}
+use Rattle.font_graph.specs.Graph.{extra_read, exported, varied, variations_value}
 use Rattle.font_graph.specs.Graph.{settled}
 use Rattle.font_graph.specs.Graph.{read_as, read_all, reads_with, numbers, value_of, tree_value}
 use Rattle.font_graph.specs.Graph.{header_value, index_value, raw_value, flat_value, simple_value}
 use Rattle.font_graph.specs.Graph.{order_value, advances_value, table_value, font_value}
 use Rattle.font_graph.specs.Outcomes.{map-In, In-map, with_value, items, reads_done, value}
-use Rattle.font_graph.specs.Solved.{found, numbers_are, raw_done, flats_done}
+use Rattle.font_graph.specs.Solved.{found, numbers_are, varies_is, raw_done}
 use Rattle.font_graph.specs.declared.ids.JobId.{JobId}
 use Rattle.font_graph.specs.declared.ids.JobId.TheVariants as job
 use Rattle.font_graph.specs.declared.items.Item.TheVariants as an
@@ -76,7 +80,7 @@ module _ (p : Parts) (same : JobId → JobId → Bool)
       ap (λ o. option_and_then kind (option_and_then done_value o))
       (found p same identity ids id there ∙ ap Some is) ∙ kinded
 
-  all_from : (ids : List JobId) → ((id : JobId) → In id ids → is_done (value_of p same id) ≡ true)
+  pub all_from : (ids : List JobId) → ((id : JobId) → In id ids → is_done (value_of p same id) ≡ true)
       → all_done (map (with_value p same) ids) ≡ true
   all_from [] every = refl
   all_from (id ∷ ids) every = and_from (is_done (value_of p same id))
@@ -182,10 +186,33 @@ module _ (p : Parts) (same : JobId → JobId → Bool)
           flat (inr (inl refl)) is refl))
           ∙ settle_value an.Simple (none p same) (p.simple header flat)
 
+      three : (a b c : JobId) → is_done (value_of p same a) ≡ true
+          → is_done (value_of p same b) ≡ true → is_done (value_of p same c) ≡ true
+          → all_done (map (with_value p same) (a ∷ b ∷ c ∷ [])) ≡ true
+      three a b c e f g = and_from (is_done (value_of p same a)) _ e (both b c f g)
+
+      pub variations_by : (glyph : ℕ) (flat : p.Flat)
+          → flat_value p same glyph ≡ Done (an.Flat flat)
+          → variations_value p same glyph
+          ≡ plain_of an.Variations (p.variations header index flat)
+      variations_by glyph flat is = by_outcome (job.Variations glyph)
+          (three job.Header job.Index (job.Flat glyph)
+          (is_done_by (header_value p same) (an.Header header) header_is)
+          (is_done_by (index_value p same) (an.Index index) index_is)
+          (is_done_by (flat_value p same glyph) (an.Flat flat) is))
+          ∙ ap (λ o. o.value)
+          (on_some _ _ header (header_read (job.Variations glyph) (inl refl)))
+          ∙ ap (λ o. o.value)
+          (on_some _ _ index (index_read (job.Variations glyph) (inr (inl refl))))
+          ∙ ap (λ o. o.value) (on_some _ _ flat (read_is (as_flat p)
+          (reads_with p same (numbers p same) (job.Variations glyph)) (job.Flat glyph)
+          (an.Flat flat) flat (inr (inr (inl refl))) is refl))
+          ∙ settle_value an.Variations (none p same) (p.variations header index flat)
+
       -- ---- of the glyphs together
 
       -- each of these jobs has a value of one kind
-      pub Valued : {X A : Type 0} → (X → JobId) → (A → Item p) → List X → List A → Type 0
+      unfoldable pub Valued : {X A : Type 0} → (X → JobId) → (A → Item p) → List X → List A → Type 0
       Valued make item [] [] = Unit {0}
       Valued make item (x ∷ xs) (a ∷ others) = (value_of p same (make x) ≡ Done (item a))
           × Valued make item xs others
@@ -204,6 +231,15 @@ module _ (p : Parts) (same : JobId → JobId → Bool)
         | inr there ↦ valued_done make item xs others v.1 x there
       ]
 
+      pub valued_length : {X A : Type 0} (make : X → JobId) (item : A → Item p) (xs : List X)
+          (answers : List A) → Valued make item xs answers → length answers ≡ length xs
+      unfolding Valued
+      valued_length make item [] [] v = refl
+      valued_length make item [] (a ∷ others) v = absurd v
+      valued_length make item (x ∷ xs) [] v = absurd v
+      valued_length make item (x ∷ xs) (a ∷ others) v =
+          ap suc (valued_length make item xs others v.1)
+
       pub read_all_is : {X A : Type 0} (kind : Item p → Option A) (id : JobId) (make : X → JobId)
           (item : A → Item p) → ((a : A) → kind (item a) ≡ Some a) → (xs : List X)
           (answers : List A) → Valued make item xs answers
@@ -220,10 +256,32 @@ module _ (p : Parts) (same : JobId → JobId → Bool)
           ∙ ap (option_and_then (λ rest. Some (a ∷ rest)))
           (read_all_is kind id make item kinded xs others v.1 (λ y i. read y (inr i)))
 
-      pub in_numbers : (glyph : ℕ) → In glyph (p.numbers index) → In glyph (numbers p same)
+      -- and these are the data of glyphs that are read
+      data_are : {X : Type 0} (make : X → JobId) (item : p.Data → Item p)
+          → ((bytes : p.Data) → as_data p (item bytes) ≡ Some bytes) → (xs : List X)
+          (answers : List p.Data) → Valued make item xs answers
+          → data_in p same (map (with_value p same) (map make xs)) ≡ answers
+      unfolding Valued
+      data_are make item kinded [] [] v = refl
+      data_are make item kinded [] (a ∷ others) v = absurd v
+      data_are make item kinded (x ∷ xs) [] v = absurd v
+      data_are make item kinded (x ∷ xs) (a ∷ others) v =
+          ap (λ plain. data_behind p same (option_and_then (as_data p) (done_value plain))
+          (data_in p same (map (with_value p same) (map make xs)))) v.0
+          ∙ ap (λ o. data_behind p same o (data_in p same (map (with_value p same) (map make xs))))
+          (kinded a)
+          ∙ ap (λ rest. a ∷ rest) (data_are make item kinded xs others v.1)
+
+      pub in_numbers : (glyph : ℕ) → In glyph (p.numbers index) → In glyph (exported p same)
       in_numbers glyph i = subst (λ ns. In glyph ns) (numbers_are p same index index_is) i
 
-      from_numbers : (glyph : ℕ) → In glyph (numbers p same) → In glyph (p.numbers index)
+      -- the glyphs that vary are these
+      pub varied_are : varied_of (p.is_variable header) (p.numbers index) ≡ varied p same
+      varied_are = ap (λ ns. varied_of (p.is_variable header) ns)
+          (numbers_are p same index index_is)
+          ∙ ap (λ b. varied_of b (exported p same)) (varies_is p same header header_is)
+
+      from_numbers : (glyph : ℕ) → In glyph (exported p same) → In glyph (p.numbers index)
       from_numbers glyph i = subst (λ ns. In glyph ns) (sym (numbers_are p same index index_is)) i
 
       abbrev IsDoneJob : JobId → Type 0
@@ -236,14 +294,14 @@ module _ (p : Parts) (same : JobId → JobId → Bool)
       index_done = is_done_by (index_value p same) (an.Index index) index_is
 
       module _ (flats : List p.Flat) (drawn : Valued job.Flat an.Flat (p.numbers index) flats) where
-        flat_reads_done : (id : JobId) → In id (map job.Flat (numbers p same)) → IsDoneJob id
-        flat_reads_done id i = let m = In-map job.Flat (numbers p same) id i in
+        flat_reads_done : (id : JobId) → In id (map job.Flat (exported p same)) → IsDoneJob id
+        flat_reads_done id i = let m = In-map job.Flat (exported p same) id i in
             subst IsDoneJob m.2 (valued_done job.Flat an.Flat (p.numbers index) flats drawn m.0
             (from_numbers m.0 m.1))
 
         pub order_by : order_value p same ≡ plain_of an.Order (p.order header index flats)
         order_by = by_outcome job.Order (all_from
-            (job.Header ∷ job.Index ∷ map job.Flat (numbers p same)) (λ id i. elim i [
+            (job.Header ∷ job.Index ∷ map job.Flat (exported p same)) (λ id i. elim i [
               | inl is ↦ subst IsDoneJob is header_done
               | inr i ↦ elim i [
                 | inl is ↦ subst IsDoneJob is index_done
@@ -254,7 +312,7 @@ module _ (p : Parts) (same : JobId → JobId → Bool)
             ∙ ap (λ o. o.value) (on_some _ _ index (index_read job.Order (inr (inl refl))))
             ∙ ap (λ o. o.value) (on_some _ _ flats (read_all_is (as_flat p) job.Order job.Flat
             an.Flat (λ flat. refl) (p.numbers index) flats drawn
-            (λ g i. inr (inr (map-In job.Flat (numbers p same) g (in_numbers g i))))))
+            (λ g i. inr (inr (map-In job.Flat (exported p same) g (in_numbers g i))))))
             ∙ settle_value an.Order _ (p.order header index flats)
 
         module _ (order : p.Order) (order_is : order_value p same ≡ Done (an.Order order)) where
@@ -279,7 +337,7 @@ module _ (p : Parts) (same : JobId → JobId → Bool)
           pub advances_by : advances_value p same
               ≡ plain_of an.Advances (p.measures header order flats)
           advances_by = by_outcome job.Advances (all_from
-              (job.Header ∷ job.Order ∷ map job.Flat (numbers p same)) (λ id i. elim i [
+              (job.Header ∷ job.Order ∷ map job.Flat (exported p same)) (λ id i. elim i [
                 | inl is ↦ subst IsDoneJob is header_done
                 | inr i ↦ elim i [
                   | inl is ↦ subst IsDoneJob is order_done
@@ -293,68 +351,146 @@ module _ (p : Parts) (same : JobId → JobId → Bool)
               ordered_are
               ∙ read_all_is (as_flat p) job.Advances job.Flat an.Flat (λ flat. refl)
               (p.numbers index) flats drawn
-              (λ g i. inr (inr (map-In job.Flat (numbers p same) g (in_numbers g i))))))
+              (λ g i. inr (inr (map-In job.Flat (exported p same) g (in_numbers g i))))))
               ∙ settle_value an.Advances (none p same) (p.measures header order flats)
+
+          -- ---- what a table reads
+
+          abbrev pub table_reads : Needs → List JobId
+          table_reads needs = job.Header ∷ job.Order ∷ needed (numbers p same) needs
+
+          -- neither the header nor the order is a glyph's data
+          pub needed_data : (needs : Needs)
+              → data_in p same (map (with_value p same) (table_reads needs))
+              ≡ data_in p same (map (with_value p same) (needed (numbers p same) needs))
+          needed_data needs =
+              ap (λ v. data_behind p same (option_and_then (as_data p) (done_value v))
+              (data_behind p same (option_and_then (as_data p) (done_value (order_value p same)))
+              (data_in p same (map (with_value p same) (needed (numbers p same) needs)))))
+              header_is
+              ∙ ap (λ v. data_behind p same (option_and_then (as_data p) (done_value v))
+              (data_in p same (map (with_value p same) (needed (numbers p same) needs))))
+              order_is
+
+          pub outlines_read : (parts : List p.Data)
+              → Valued job.Simple an.Simple (p.numbers index) parts
+              → extra_read p same (map (with_value p same) (table_reads TheOutlines)) TheOutlines
+              ≡ Some (with_data parts)
+          outlines_read parts written = ap (λ ds. Some (with_data ds)) (needed_data TheOutlines
+              ∙ ap (λ ns. data_in p same (map (with_value p same) (map job.Simple ns)))
+              (sym (numbers_are p same index index_is))
+              ∙ data_are job.Simple an.Simple (λ bytes. refl) (p.numbers index) parts written)
+
+          pub variations_read : (variations : List p.Data)
+              → Valued job.Variations an.Variations
+              (varied_of (p.is_variable header) (p.numbers index)) variations
+              → extra_read p same (map (with_value p same) (table_reads TheVariations))
+              TheVariations ≡ Some (with_data variations)
+          variations_read variations varied_so = ap (λ ds. Some (with_data ds))
+              (needed_data TheVariations
+              ∙ ap (λ ns. data_in p same (map (with_value p same) (map job.Variations ns)))
+              (sym varied_are)
+              ∙ data_are job.Variations an.Variations (λ bytes. refl)
+              (varied_of (p.is_variable header) (p.numbers index)) variations varied_so)
+
+          index_among : (needs : Needs) → In job.Index (table_reads needs)
+              → read_as p same (as_index p) (map (with_value p same) (table_reads needs))
+              job.Index ≡ Some index
+          index_among needs there = read_is (as_index p) (table_reads needs) job.Index
+              (an.Index index) index there index_is refl
+
+          pub index_needed : extra_read p same (map (with_value p same) (table_reads TheIndex))
+              TheIndex ≡ Some (with_index index)
+          index_needed = ap (option_and_then (λ index. Some (with_index index)))
+              (index_among TheIndex (inr (inr (inl refl))))
+
+          module _ (measures : p.Measures)
+              (measures_is : advances_value p same ≡ Done (an.Advances measures)) where
+            measures_among : (needs : Needs) → In job.Advances (table_reads needs)
+                → read_as p same (as_measures p) (map (with_value p same) (table_reads needs))
+                job.Advances ≡ Some measures
+            measures_among needs there = read_is (as_measures p) (table_reads needs) job.Advances
+                (an.Advances measures) measures there measures_is refl
+
+            pub measures_needed : extra_read p same
+                (map (with_value p same) (table_reads TheMeasures)) TheMeasures
+                ≡ Some (with_measures measures)
+            measures_needed = ap (option_and_then (λ measures. Some (with_measures measures)))
+                (measures_among TheMeasures (inr (inr (inl refl))))
+
+            pub both_needed : extra_read p same
+                (map (with_value p same) (table_reads TheMeasuresAndIndex)) TheMeasuresAndIndex
+                ≡ Some (with_both measures index)
+            both_needed = ap (option_and_then (λ measures.
+                option_and_then (λ index. Some (with_both measures index))
+                (read_as p same (as_index p)
+                (map (with_value p same) (table_reads TheMeasuresAndIndex)) job.Index)))
+                (measures_among TheMeasuresAndIndex (inr (inr (inl refl))))
+                ∙ ap (option_and_then (λ index. Some (with_both measures index)))
+                (index_among TheMeasuresAndIndex (inr (inr (inr (inl refl)))))
+
+          -- a table whose reads have values is made of them
+          pub table_from : (tag : Tag) (more : Extra p.Index p.Measures p.Data)
+              → all_done (items p same (job.Table tag)) ≡ true
+              → extra_read p same (items p same (job.Table tag)) (p.needs tag) ≡ Some more
+              → table_value p same tag ≡ plain_of an.Table (p.table tag header order more)
+          table_from tag more done e = by_outcome (job.Table tag) done
+              ∙ ap (λ o. o.value) (on_some _ _ header (header_read (job.Table tag) (inl refl)))
+              ∙ ap (λ o. o.value)
+              (on_some _ _ order (order_read (job.Table tag) (inr (inl refl))))
+              ∙ ap (λ o. o.value) (on_some _ _ more e)
+              ∙ settle_value an.Table (none p same) (p.table tag header order more)
 
           module _ (measures : p.Measures)
               (measures_is : advances_value p same ≡ Done (an.Advances measures))
-              (parts : List p.Data)
-              (written : Valued job.Simple an.Simple (p.numbers index) parts) where
-            abbrev others : Bool → List JobId
-            others b = cond b (map job.Simple (numbers p same)) (job.Advances ∷ [])
+              (parts variations : List p.Data)
+              (written : Valued job.Simple an.Simple (p.numbers index) parts)
+              (varied_so : Valued job.Variations an.Variations
+              (varied_of (p.is_variable header) (p.numbers index)) variations) where
+            measures_done : IsDoneJob job.Advances
+            measures_done = is_done_by (advances_value p same) (an.Advances measures) measures_is
 
-            others_done : (b : Bool) (id : JobId) → In id (others b) → IsDoneJob id
-            others_done true id i = let m = In-map job.Simple (numbers p same) id i in
+            needed_done : (needs : Needs) (id : JobId) → In id (needed (numbers p same) needs)
+                → IsDoneJob id
+            needed_done Nothing id i = absurd i
+            needed_done TheIndex id i = elim i
+                [ inl is ↦ subst IsDoneJob is index_done | inr none ↦ absurd none ]
+            needed_done TheMeasures id i = elim i
+                [ inl is ↦ subst IsDoneJob is measures_done | inr none ↦ absurd none ]
+            needed_done TheMeasuresAndIndex id i = elim i [
+              | inl is ↦ subst IsDoneJob is measures_done
+              | inr i ↦ elim i
+                  [ inl is ↦ subst IsDoneJob is index_done | inr none ↦ absurd none ]
+            ]
+            needed_done TheOutlines id i = let m = In-map job.Simple (exported p same) id i in
                 subst IsDoneJob m.2 (valued_done job.Simple an.Simple (p.numbers index) parts
                 written m.0 (from_numbers m.0 m.1))
-            others_done false id i = elim i [
-              | inl is ↦ subst IsDoneJob is
-                  (is_done_by (advances_value p same) (an.Advances measures) measures_is)
-              | inr none ↦ absurd none
-            ]
+            needed_done TheVariations id i = let m = In-map job.Variations (varied p same) id i in
+                subst IsDoneJob m.2 (valued_done job.Variations an.Variations
+                (varied_of (p.is_variable header) (p.numbers index)) variations varied_so m.0
+                (subst (λ ns. In m.0 ns) (sym varied_are) m.1))
 
-            made_by : (tag : Tag) (b : Bool) → p.is_of_outlines tag ≡ b
-                → (cond b
-                (on p same (read_all p same (as_data p) (items p same (job.Table tag))
-                (map job.Simple (p.ordered order)))
-                (λ parts. settle p same an.Table (none p same)
-                (p.outline_table tag header order parts)))
-                (on p same (read_as p same (as_measures p) (items p same (job.Table tag))
-                job.Advances)
-                (λ measures. settle p same an.Table (none p same)
-                (p.metrics_table tag header order measures)))).value
-                ≡ plain_of an.Table (cond b (p.outline_table tag header order parts)
-                (p.metrics_table tag header order measures))
-            made_by tag true e = ap (λ o. o.value) (on_some _ _ parts
-                (ap (λ ns. read_all p same (as_data p) (items p same (job.Table tag))
-                (map job.Simple ns)) ordered_are
-                ∙ read_all_is (as_data p) (job.Table tag) job.Simple an.Simple (λ bytes. refl)
-                (p.numbers index) parts written
-                (λ g i. inr (inr (subst (λ b. In (job.Simple g) (others b)) (sym e)
-                (map-In job.Simple (numbers p same) g (in_numbers g i)))))))
-                ∙ settle_value an.Table (none p same) (p.outline_table tag header order parts)
-            made_by tag false e = ap (λ o. o.value) (on_some _ _ measures (read_is (as_measures p)
-                (reads_with p same (numbers p same) (job.Table tag)) job.Advances
-                (an.Advances measures) measures
-                (inr (inr (subst (λ b. In job.Advances (others b)) (sym e) (inl refl))))
-                measures_is refl))
-                ∙ settle_value an.Table (none p same) (p.metrics_table tag header order measures)
+            -- a table finds what it needs
+            extra_found : (needs : Needs)
+                → extra_read p same (map (with_value p same) (table_reads needs)) needs
+                ≡ Some (extra p index measures parts variations needs)
+            extra_found Nothing = refl
+            extra_found TheIndex = index_needed
+            extra_found TheMeasures = measures_needed measures measures_is
+            extra_found TheMeasuresAndIndex = both_needed measures measures_is
+            extra_found TheOutlines = outlines_read parts written
+            extra_found TheVariations = variations_read variations varied_so
 
             pub table_by : (tag : Tag) → table_value p same tag
-                ≡ plain_of an.Table (table p header order measures parts tag)
-            table_by tag = by_outcome (job.Table tag) (all_from
-                (job.Header ∷ job.Order ∷ others (p.is_of_outlines tag))
-                (λ id i. elim i [
+                ≡ plain_of an.Table (table p header index order measures parts variations tag)
+            table_by tag = table_from tag (extra p index measures parts variations (p.needs tag))
+                (all_from (table_reads (p.needs tag)) (λ id i. elim i [
                   | inl is ↦ subst IsDoneJob is header_done
                   | inr i ↦ elim i [
                     | inl is ↦ subst IsDoneJob is order_done
-                    | inr i ↦ others_done (p.is_of_outlines tag) id i
+                    | inr i ↦ needed_done (p.needs tag) id i
                   ]
-                ]))
-                ∙ ap (λ o. o.value) (on_some _ _ header (header_read (job.Table tag) (inl refl)))
-                ∙ ap (λ o. o.value)
-                (on_some _ _ order (order_read (job.Table tag) (inr (inl refl))))
-                ∙ made_by tag (p.is_of_outlines tag) refl
+                ])) (extra_found (p.needs tag))
 
       pub font_by : (tables : List p.Table) → Valued job.Table an.Table p.tags tables
           → font_value p same ≡ plain_of an.Font (p.font tables)
@@ -402,6 +538,39 @@ module _ (p : Parts) (same : JobId → JobId → Bool)
             (simple_by glyph flat v.0) m.0,
         all_written glyphs flats parts v.1 m.1,
       )
+
+      all_varied_from : (glyphs : List ℕ) (flats : List p.Flat) (variations : List p.Data)
+          → Valued job.Flat an.Flat glyphs flats
+          → AllMade (p.variations header index) flats variations
+          → Valued job.Variations an.Variations glyphs variations
+      unfolding Valued
+      all_varied_from [] [] [] v m = tt
+      all_varied_from [] [] (part ∷ parts) v m = absurd m
+      all_varied_from [] (flat ∷ flats) parts v m = absurd v
+      all_varied_from (glyph ∷ glyphs) [] parts v m = absurd v
+      all_varied_from (glyph ∷ glyphs) (flat ∷ flats) [] v m = absurd m
+      all_varied_from (glyph ∷ glyphs) (flat ∷ flats) (part ∷ parts) v m = (
+        of_answer an.Variations (p.variations header index flat)
+            (variations_value p same glyph) part (variations_by glyph flat v.0) m.0,
+        all_varied_from glyphs flats parts v.1 m.1,
+      )
+
+      none_varied : (variations : List p.Data) → AllMade (p.variations header index) [] variations
+          → Valued job.Variations an.Variations [] variations
+      unfolding Valued
+      none_varied [] m = tt
+      none_varied (part ∷ parts) m = absurd m
+
+      pub all_varied : (glyphs : List ℕ) (flats : List p.Flat) (variations : List p.Data)
+          → Valued job.Flat an.Flat glyphs flats
+          → AllMade (p.variations header index) (varying p header flats) variations
+          → Valued job.Variations an.Variations (varied_of (p.is_variable header) glyphs) variations
+      all_varied glyphs flats variations v m = by (p.is_variable header) m
+        where
+          by : (b : Bool) → AllMade (p.variations header index) (cond b flats []) variations
+              → Valued job.Variations an.Variations (varied_of b glyphs) variations
+          by true m = all_varied_from glyphs flats variations v m
+          by false m = none_varied variations m
 
       pub all_made : (make : Tag → Result p.Table Refusal)
           → ((tag : Tag) → table_value p same tag ≡ plain_of an.Table (make tag))
@@ -452,6 +621,37 @@ module _ (p : Parts) (same : JobId → JobId → Bool)
           let more = writings glyphs flats v.1 (λ g i. done g (inr i)) in
           record { parts = part.0 ∷ more.parts; written_are = (part.1, more.written_are) }
 
+      pub record Varyings (flats : List p.Flat) : Type 0 where
+        pub variations : List p.Data
+        pub varied_are : AllMade (p.variations header index) flats variations
+
+      varyings_from : (glyphs : List ℕ) (flats : List p.Flat)
+          → Valued job.Flat an.Flat glyphs flats
+          → ((glyph : ℕ) → In glyph glyphs → is_done (variations_value p same glyph) ≡ true)
+          → Varyings flats
+      unfolding Valued
+      varyings_from [] [] v done = record { variations = []; varied_are = tt }
+      varyings_from [] (flat ∷ flats) v done = absurd v
+      varyings_from (glyph ∷ glyphs) [] v done = absurd v
+      varyings_from (glyph ∷ glyphs) (flat ∷ flats) v done =
+          let part = answered an.Variations (p.variations header index flat)
+          (variations_value p same glyph) (variations_by glyph flat v.0)
+          (done glyph (inl refl)) in
+          let more = varyings_from glyphs flats v.1 (λ g i. done g (inr i)) in
+          record { variations = part.0 ∷ more.variations; varied_are = (part.1, more.varied_are) }
+
+      pub varyings : (glyphs : List ℕ) (flats : List p.Flat)
+          → Valued job.Flat an.Flat glyphs flats
+          → ((glyph : ℕ) → In glyph (varied_of (p.is_variable header) glyphs)
+          → is_done (variations_value p same glyph) ≡ true)
+          → Varyings (varying p header flats)
+      varyings glyphs flats v done = by (p.is_variable header) done
+        where
+          by : (b : Bool) → ((glyph : ℕ) → In glyph (varied_of b glyphs)
+              → is_done (variations_value p same glyph) ≡ true) → Varyings (cond b flats [])
+          by true done = varyings_from glyphs flats v done
+          by false done = record { variations = []; varied_are = tt }
+
       pub record Tables (make : Tag → Result p.Table Refusal) (tags : List Tag) : Type 0 where
         pub tables : List p.Table
         pub made_are : AllMade make tags tables
@@ -487,10 +687,13 @@ module _ (p : Parts) (same : JobId → JobId → Bool)
       order_is) f.glyphs_measured in
       let parts = all_written f.tree tree_is f.header f.index header_is index_is
       (p.numbers f.index) f.flats f.parts flats f.glyphs_written in
+      let varied_so = all_varied f.tree tree_is f.header f.index header_is index_is
+      (p.numbers f.index) f.flats f.variations flats f.glyphs_varied in
       let tables = all_made f.tree tree_is f.header f.index header_is index_is
-      (table p f.header f.order f.measures f.parts)
+      (table p f.header f.index f.order f.measures f.parts f.variations)
       (table_by f.tree tree_is f.header f.index header_is index_is f.flats flats f.order
-      order_is f.measures measures_is f.parts parts) p.tags f.tables f.tables_made in
+      order_is f.measures measures_is f.parts f.variations parts varied_so) p.tags f.tables
+      f.tables_made in
       of_answer an.Font (p.font f.tables) (font_value p same) font
       (font_by f.tree tree_is f.header f.index header_is index_is f.tables tables) f.is_font
 
@@ -509,76 +712,3 @@ module _ (p : Parts) (same : JobId → JobId → Bool)
     where
       some_same : Some made ≡ Some font → made ≡ font
       some_same e = cc
-
-  -- where there is a table of outlines and one of metrics, so that all parts are asked
-  pub font_made : (outlines metrics : Tag) → In outlines p.tags → In metrics p.tags
-      → p.is_of_outlines outlines ≡ true → p.is_of_outlines metrics ≡ false → (font : p.File)
-      → font_value p same ≡ Done (an.Font font) → IsFontOf p font
-  font_made outlines metrics outlines_there metrics_there is_one is_none font e =
-      let font_done = is_done_by (font_value p same) (an.Font font) e in
-      let table_done : (tag : Tag) → In tag p.tags → is_done (table_value p same tag) ≡ true
-      = λ tag i. part_done job.Font font_done (job.Table tag) (map-In job.Table p.tags tag i) in
-      let of_metrics = table_done metrics metrics_there in
-      let of_outlines = table_done outlines outlines_there in
-      let header_done = part_done (job.Table metrics) of_metrics job.Header (inl refl) in
-      let order_done = part_done (job.Table metrics) of_metrics job.Order (inr (inl refl)) in
-      let index_done = part_done job.Order order_done job.Index (inr (inl refl)) in
-      let advances_done = part_done (job.Table metrics) of_metrics job.Advances
-      (inr (inr (subst (λ b. In job.Advances
-      (cond b (map job.Simple (numbers p same)) (job.Advances ∷ []))) (sym is_none)
-      (inl refl)))) in
-      let simple_done : (glyph : ℕ) → In glyph (numbers p same)
-      → is_done (simple_value p same glyph) ≡ true
-      = λ glyph i. part_done (job.Table outlines) of_outlines (job.Simple glyph)
-      (inr (inr (subst (λ b. In (job.Simple glyph)
-      (cond b (map job.Simple (numbers p same)) (job.Advances ∷ []))) (sym is_one)
-      (map-In job.Simple (numbers p same) glyph i)))) in
-      let tree_done = part_done job.Header header_done job.Tree (inl refl) in
-      let tree = answered an.Tree p.tree (tree_value p same) tree_by tree_done in
-      let header = answered an.Header (p.header tree.0) (header_value p same)
-      (header_by tree.0 tree.2) header_done in
-      let index = answered an.Index (p.index tree.0) (index_value p same)
-      (index_by tree.0 tree.2) index_done in
-      let known : (glyph : ℕ) → In glyph (p.numbers index.0) → In glyph (numbers p same)
-      = λ glyph i. subst (λ ns. In glyph ns) (numbers_are p same index.0 index.2) i in
-      let glyphs = drawings tree.0 tree.2 header.0 index.0 header.2 index.2 (p.numbers index.0)
-      (λ g i. flats_done p same identity order_done g (known g i)) in
-      let flats = all_drawn tree.0 tree.2 header.0 index.0 header.2 index.2 (p.numbers index.0)
-      glyphs.flats glyphs.drawn_are in
-      let order = answered an.Order (p.order header.0 index.0 glyphs.flats) (order_value p same)
-      (order_by tree.0 tree.2 header.0 index.0 header.2 index.2 glyphs.flats flats) order_done
-      in
-      let measures = answered an.Advances (p.measures header.0 order.0 glyphs.flats)
-      (advances_value p same) (advances_by tree.0 tree.2 header.0 index.0 header.2 index.2
-      glyphs.flats flats order.0 order.2) advances_done in
-      let written = writings tree.0 tree.2 header.0 index.0 header.2 index.2 (p.numbers index.0)
-      glyphs.flats flats (λ g i. simple_done g (known g i)) in
-      let parts = all_written tree.0 tree.2 header.0 index.0 header.2 index.2 (p.numbers index.0)
-      glyphs.flats written.parts flats written.written_are in
-      let by = table_by tree.0 tree.2 header.0 index.0 header.2 index.2 glyphs.flats flats order.0
-      order.2 measures.0 measures.2 written.parts parts in
-      let made = tables_of tree.0 tree.2 header.0 index.0 header.2 index.2
-      (table p header.0 order.0 measures.0 written.parts) by p.tags table_done in
-      let tables = all_made tree.0 tree.2 header.0 index.0 header.2 index.2
-      (table p header.0 order.0 measures.0 written.parts) by p.tags made.tables made.made_are in
-      let last = answered an.Font (p.font made.tables) (font_value p same)
-      (font_by tree.0 tree.2 header.0 index.0 header.2 index.2 made.tables tables) font_done in
-      record {
-        tree = tree.0;
-        header = header.0;
-        index = index.0;
-        flats = glyphs.flats;
-        parts = written.parts;
-        order = order.0;
-        measures = measures.0;
-        tables = made.tables;
-        tree_read = tree.1;
-        header_read = header.1;
-        index_read = index.1;
-        glyphs_drawn = glyphs.drawn_are;
-        glyphs_written = written.written_are;
-        glyphs_ordered = order.1;
-        glyphs_measured = measures.1;
-        tables_made = made.made_are;
-        is_font = last.1 ∙ ap Ok (same_file last.0 font (sym last.2 ∙ e));
-      }

@@ -12,14 +12,13 @@ use Rattle.font_ir.specs.declared.tag.Tag.{Tag}
 use Rattle.job_graph.specs.Rounds.{blocked}
 use Rattle.job_graph.specs.Members.{In}
 use Rattle.job_graph.specs.Solutions.{solved_outcome}
-use Rattle.font_graph.specs.Parts.{Parts}
-use Rattle.font_graph.specs.Graph.{Item}
-use Rattle.font_graph.specs.Graph.{as_index, spec_with, on, settle}
-use Rattle.font_graph.specs.Graph.{none, after_index, after_order, outcome, settled, index_value}
-use Rattle.font_graph.specs.Graph.{numbers, order_value}
-use Rattle.font_graph.specs.Graph.{value_of, spec_of, There, plan, read_as, read_all, reads_with}
-use Rattle.font_graph.specs.Graph.{as_data, as_measures, header_value, simple_value}
-use Rattle.font_graph.specs.Graph.{advances_value}
+use Rattle.font_graph.specs.Parts.{Parts, Needs, Nothing, TheIndex, TheMeasures}
+use Rattle.font_graph.specs.Parts.{TheMeasuresAndIndex, TheOutlines, TheVariations}
+use Rattle.font_graph.specs.Graph.{Item, as_header, as_index, Numbers, needed, of_index, of_order}
+use Rattle.font_graph.specs.Graph.{of_glyph, spec_with, on, settle, none, after_index, after_raw}
+use Rattle.font_graph.specs.Graph.{after_order, outcome, settled, header_value, index_value}
+use Rattle.font_graph.specs.Graph.{exported, varied, numbers, order_value, needed_items}
+use Rattle.font_graph.specs.Graph.{value_of, spec_of, There, plan, read_as, reads_with}
 use Rattle.font_graph.specs.declared.ids.JobId.{JobId}
 use Rattle.font_graph.specs.declared.ids.JobId.TheVariants as job
 use Rattle.font_graph.specs.declared.items.Item.TheVariants as an
@@ -120,21 +119,10 @@ module _ (p : Parts) (same : JobId → JobId → Bool) where
       (λ flats. quiet_settle an.Order _ (p.order header index flats))))
   quiet job.Advances reads = quiet_on _ _ (λ header. quiet_on _ _ (λ order. quiet_on _ _
       (λ flats. quiet_settle an.Advances _ (p.measures header order flats))))
-  quiet (job.Table tag) reads = quiet_on _ _ (λ header. quiet_on _ _
-      (λ order. by_kind (p.is_of_outlines tag) header order))
-    where
-      by_kind : (b : Bool) (header : p.Header) (order : p.Order) → IsQuiet
-          (cond b
-          (on p same (read_all p same (as_data p) reads (map job.Simple (p.ordered order)))
-          (λ parts. settle p same an.Table (none p same)
-          (p.outline_table tag header order parts)))
-          (on p same (read_as p same (as_measures p) reads job.Advances)
-          (λ measures. settle p same an.Table (none p same)
-          (p.metrics_table tag header order measures))))
-      by_kind true header order = quiet_on _ _ (λ parts. quiet_settle an.Table (none p same)
-          (p.outline_table tag header order parts))
-      by_kind false header order = quiet_on _ _ (λ measures. quiet_settle an.Table (none p same)
-          (p.metrics_table tag header order measures))
+  quiet (job.Variations glyph) reads = quiet_on _ _ (λ header. quiet_on _ _ (λ index.
+      quiet_on _ _ (λ flat. quiet_settle an.Variations _ (p.variations header index flat))))
+  quiet (job.Table tag) reads = quiet_on _ _ (λ header. quiet_on _ _ (λ order. quiet_on _ _
+      (λ extra. quiet_settle an.Table _ (p.table tag header order extra))))
   quiet job.Font reads = quiet_on _ _ (λ tables. quiet_settle an.Font (none p same) (p.font tables))
   quiet _ reads = λ e. refl
 
@@ -157,24 +145,25 @@ module _ (p : Parts) (same : JobId → JobId → Bool) where
   value (job.Raw glyph) = refl
   value (job.Flat glyph) = refl
   value (job.Simple glyph) = refl
+  value (job.Variations glyph) = refl
   value job.Order = ap (λ items. (settled p same job.Order ((job.Header, header_value p same)
       ∷ (job.Index, index_value p same) ∷ items)).value)
-      (map_twice job.Flat with_value (numbers p same))
+      (map_twice job.Flat with_value (exported p same))
   value job.Advances = ap (λ items. (settled p same job.Advances ((job.Header, header_value p same)
       ∷ (job.Order, order_value p same) ∷ items)).value)
-      (map_twice job.Flat with_value (numbers p same))
-  value (job.Table tag) = by_kind (p.is_of_outlines tag)
+      (map_twice job.Flat with_value (exported p same))
+  value (job.Table tag) = ap (λ items. (settled p same (job.Table tag)
+      ((job.Header, header_value p same) ∷ (job.Order, order_value p same) ∷ items)).value)
+      (by_needs (p.needs tag))
     where
-      of : List (JobId × Plain (Item p)) → Plain (Item p)
-      of items = (settled p same (job.Table tag) ((job.Header, header_value p same)
-          ∷ (job.Order, order_value p same) ∷ items)).value
-
-      by_kind : (b : Bool)
-          → of (map with_value (cond b (map job.Simple (numbers p same)) (job.Advances ∷ [])))
-          ≡ of (cond b (map (λ glyph. (job.Simple glyph, simple_value p same glyph))
-          (numbers p same)) ((job.Advances, advances_value p same) ∷ []))
-      by_kind true = ap of (map_twice job.Simple with_value (numbers p same))
-      by_kind false = refl
+      by_needs : (needs : Needs) → map with_value (needed (numbers p same) needs)
+          ≡ needed_items p same needs
+      by_needs Nothing = refl
+      by_needs TheIndex = refl
+      by_needs TheMeasures = refl
+      by_needs TheMeasuresAndIndex = refl
+      by_needs TheOutlines = map_twice job.Simple with_value (exported p same)
+      by_needs TheVariations = map_twice job.Variations with_value (varied p same)
   value job.Font = ap (λ items. (settled p same job.Font items).value)
       (map_twice job.Table with_value p.tags)
   value _ = refl
@@ -219,48 +208,49 @@ module _ (p : Parts) (same : JobId → JobId → Bool) where
       leaf_on _ _ (λ order. leaf_on _ _ (λ flats.
       leaf_settle an.Advances (p.measures header order flats)))))
 
+  pub leaf_variations : (glyph : ℕ) (reads : List (JobId × Plain (Item p)))
+      → IsLeaf (settled p same (job.Variations glyph) reads)
+  leaf_variations glyph reads = leaf_if (all_done reads) _ (leaf_on _ _ (λ header.
+      leaf_on _ _ (λ index. leaf_on _ _ (λ flat.
+      leaf_settle an.Variations (p.variations header index flat)))))
+
   pub leaf_table : (tag : Tag) (reads : List (JobId × Plain (Item p)))
       → IsLeaf (settled p same (job.Table tag) reads)
   leaf_table tag reads = leaf_if (all_done reads) _ (leaf_on _ _ (λ header.
-      leaf_on _ _ (λ order. by_kind (p.is_of_outlines tag) header order)))
-    where
-      by_kind : (b : Bool) (header : p.Header) (order : p.Order) → IsLeaf
-          (cond b
-          (on p same (read_all p same (as_data p) reads (map job.Simple (p.ordered order)))
-          (λ parts. settle p same an.Table (none p same)
-          (p.outline_table tag header order parts)))
-          (on p same (read_as p same (as_measures p) reads job.Advances)
-          (λ measures. settle p same an.Table (none p same)
-          (p.metrics_table tag header order measures))))
-      by_kind true header order = leaf_on _ _
-          (λ parts. leaf_settle an.Table (p.outline_table tag header order parts))
-      by_kind false header order = leaf_on _ _
-          (λ measures. leaf_settle an.Table (p.metrics_table tag header order measures))
+      leaf_on _ _ (λ order. leaf_on _ _ (λ extra.
+      leaf_settle an.Table (p.table tag header order extra)))))
 
   pub leaf_font : (reads : List (JobId × Plain (Item p))) → IsLeaf (settled p same job.Font reads)
   leaf_font reads = leaf_if (all_done reads) _
       (leaf_on _ _ (λ tables. leaf_settle an.Font (p.font tables)))
 
   pub makes_index : (reads : List (JobId × Plain (Item p)))
-      → Makes an.Index (λ index. after_index p same (p.numbers index))
+      → Makes an.Index (λ index. after_index p same (of_index p same index))
       (settled p same job.Index reads)
-  makes_index reads = makes_if an.Index (λ index. after_index p same (p.numbers index))
-      (all_done reads) _ (makes_on an.Index (λ index. after_index p same (p.numbers index)) _ _
-      (λ tree e. makes_settle an.Index (λ index. after_index p same (p.numbers index))
-      (p.index tree)))
+  makes_index reads = makes_if an.Index adds (all_done reads) _ (makes_on an.Index adds _ _
+      (λ tree e. makes_settle an.Index adds (p.index tree)))
+    where
+      adds : p.Index → List (Spec JobId)
+      adds index = after_index p same (of_index p same index)
 
-  abbrev pub flat_next : {A : Type 0} → ℕ → A → List (Spec JobId)
-  flat_next glyph a = spec_with p same [] (job.Flat glyph) ∷ []
+  abbrev pub raw_next : {A : Type 0} → Bool → ℕ → A → List (Spec JobId)
+  raw_next varies glyph a = after_raw p same varies glyph
 
-  pub makes_raw : (glyph : ℕ) (reads : List (JobId × Plain (Item p)))
-      → Makes an.Raw (flat_next glyph) (settled p same (job.Raw glyph) reads)
-  makes_raw glyph reads = makes_if an.Raw (flat_next glyph) (all_done reads) _
-      (makes_on an.Raw (flat_next glyph) _ _ (λ tree e. makes_on an.Raw (flat_next glyph) _ _
-      (λ header f. makes_on an.Raw (flat_next glyph) _ _
-      (λ index g. makes_settle an.Raw (flat_next glyph) (p.raw tree header index glyph)))))
+  pub makes_raw : (glyph : ℕ) (varies : Bool) (reads : List (JobId × Plain (Item p)))
+      → ((header : p.Header) → read_as p same (as_header p) reads job.Header ≡ Some header
+      → p.is_variable header ≡ varies)
+      → Makes an.Raw (raw_next varies glyph) (settled p same (job.Raw glyph) reads)
+  makes_raw glyph varies reads known = makes_if an.Raw (raw_next varies glyph) (all_done reads) _
+      (makes_on an.Raw (raw_next varies glyph) _ _ (λ tree e.
+      makes_on an.Raw (raw_next varies glyph) _ _ (λ header f.
+      makes_on an.Raw (raw_next varies glyph) _ _ (λ index g.
+      subst (λ v. Makes an.Raw (raw_next v glyph) (settle p same an.Raw
+      (raw_next (p.is_variable header) glyph) (p.raw tree header index glyph))) (known header f)
+      (makes_settle an.Raw (raw_next (p.is_variable header) glyph)
+      (p.raw tree header index glyph))))))
 
   abbrev pub simple_next : {A : Type 0} → ℕ → A → List (Spec JobId)
-  simple_next glyph a = spec_with p same [] (job.Simple glyph) ∷ []
+  simple_next glyph a = spec_with p same (of_glyph p same) (job.Simple glyph) ∷ []
 
   pub makes_flat : (glyph : ℕ) (reads : List (JobId × Plain (Item p)))
       → Makes an.Flat (simple_next glyph) (settled p same (job.Flat glyph) reads)
@@ -268,15 +258,20 @@ module _ (p : Parts) (same : JobId → JobId → Bool) where
       (makes_on an.Flat (simple_next glyph) _ _ (λ raw e. makes_on an.Flat (simple_next glyph) _ _
       (λ index f. makes_settle an.Flat (simple_next glyph) (p.flat raw index))))
 
-  abbrev pub order_next : {A : Type 0} → List ℕ → A → List (Spec JobId)
-  order_next ns a = after_order p same ns
+  abbrev pub order_next : {A : Type 0} → Numbers → A → List (Spec JobId)
+  order_next numbers a = after_order p same numbers
 
-  pub makes_order : (ns : List ℕ) (reads : List (JobId × Plain (Item p)))
-      → ((index : p.Index) → read_as p same (as_index p) reads job.Index ≡ Some index
-      → p.numbers index ≡ ns) → Makes an.Order (order_next ns) (settled p same job.Order reads)
+  pub makes_order : (ns : Numbers) (reads : List (JobId × Plain (Item p)))
+      → ((header : p.Header) (index : p.Index)
+      → read_as p same (as_header p) reads job.Header ≡ Some header
+      → read_as p same (as_index p) reads job.Index ≡ Some index
+      → of_order p same header (p.numbers index) ≡ ns)
+      → Makes an.Order (order_next ns) (settled p same job.Order reads)
   makes_order ns reads known = makes_if an.Order (order_next ns) (all_done reads) _
       (makes_on an.Order (order_next ns) _ _ (λ header e. makes_on an.Order (order_next ns) _ _
       (λ index f. makes_on an.Order (order_next ns) _ _ (λ flats g.
       subst (λ ms. Makes an.Order (order_next ms) (settle p same an.Order
-      (order_next (p.numbers index)) (p.order header index flats))) (known index f)
-      (makes_settle an.Order (order_next (p.numbers index)) (p.order header index flats))))))
+      (order_next (of_order p same header (p.numbers index))) (p.order header index flats)))
+      (known header index e f)
+      (makes_settle an.Order (order_next (of_order p same header (p.numbers index)))
+      (p.order header index flats))))))

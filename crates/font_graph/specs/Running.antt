@@ -1,28 +1,36 @@
 -- What a job of a source's graph finds where it is run: each item that it reads is there, and is
 -- what its part answered. And what comes of the job by its part. For the plans of crates above.
 -- fontc's own.
-use Rattle.std.proofs.Common.{◌≡◌, ℕ, true, false, cond, inl, inr, List, [], ◌∷◌, map, Option}
+use Rattle.std.proofs.Common.{◌≡◌, ℕ, true, inl, inr, List, [], ◌∷◌, map, Option}
 use Rattle.std.proofs.Common.{Some, Ok, refl, sym, ap, ◌∙◌, subst}
 use Rattle.std.specs.Prelude.{IsSome}
-use Rattle.access_context.specs.Plain.{Plain, Done, PlainOutcome, is_done}
+use Rattle.access_context.specs.Plain.{Plain, Done, is_done}
 use Rattle.access_context.specs.Read.{all_done}
 use Rattle.font_ir.specs.declared.tag.Tag.{Tag}
 use Rattle.job_graph.specs.Rounds.{IsDue}
 use Rattle.job_graph.specs.Members.{In, list_all-In}
-use Rattle.font_graph.specs.Parts.{Parts}
-use Rattle.font_graph.specs.Fonts.{AllMade, drawn, table}
+use Rattle.font_graph.specs.Parts.{Parts, Needs, Nothing, TheIndex, TheMeasures}
+use Rattle.font_graph.specs.Parts.{TheMeasuresAndIndex, TheOutlines, TheVariations, Extra}
+use Rattle.font_graph.specs.Parts.{nothing, with_index, with_measures, with_both, with_data}
+use Rattle.font_graph.specs.Fonts.{AreInOrder, IsExtraOf, IsOfGlyphs, IsTableOf, AreTablesOf}
 use Rattle.font_graph.specs.Graph.{Item, as_tree, as_header, as_index, as_raw, as_flat, as_order}
-use Rattle.font_graph.specs.Graph.{as_measures, as_data, as_table, on, settle, none, outcome}
-use Rattle.font_graph.specs.Graph.{read_as, read_all, reads_with, numbers, value_of, plan}
-use Rattle.font_graph.specs.Graph.{tree_value, header_value, index_value, raw_value, flat_value}
-use Rattle.font_graph.specs.Graph.{order_value, advances_value, simple_value, table_value}
+use Rattle.font_graph.specs.Graph.{as_measures, as_table, needed, of_index}
+use Rattle.font_graph.specs.Graph.{of_order, settle, none, outcome, extra_read}
+use Rattle.font_graph.specs.Graph.{read_as, read_all, reads_with, numbers, exported, varied}
+use Rattle.font_graph.specs.Graph.{value_of, plan, tree_value}
+use Rattle.font_graph.specs.Graph.{raw_value, flat_value, advances_value, table_value}
 use Rattle.font_graph.specs.Graph.{after_index, after_order}
-use Rattle.font_graph.specs.Outcomes.{items, map-In, with_value, flat_next, simple_next}
-use Rattle.font_graph.specs.Solved.{numbers_are, raw_done, flats_done}
-use Rattle.font_graph.specs.Made.{on_some, answered, read_is, tree_by, header_by, index_by, raw_by}
-use Rattle.font_graph.specs.Made.{flat_by, Valued, read_all_is, order_by, advances_by}
-use Rattle.font_graph.specs.Made.{table_by, all_drawn, all_written, all_made, drawings, writings}
-use Rattle.font_graph.specs.Made.{tables_of, part_done}
+use Rattle.font_graph.specs.Outcomes.{items, map-In, with_value, raw_next, simple_next, reads_done}
+use Rattle.font_graph.specs.Outcomes.{value}
+use Rattle.font_graph.specs.Solved.{numbers_are, varied_in, raw_done}
+use Rattle.font_graph.specs.Made.{on_some, answered, plain_of, read_is, tree_by, raw_by, flat_by}
+use Rattle.font_graph.specs.Made.{Valued, read_all_is, varied_are, index_needed, measures_needed}
+use Rattle.font_graph.specs.Made.{both_needed, outlines_read, variations_read, table_from}
+use Rattle.font_graph.specs.Made.{all_written, all_varied, writings, varyings}
+use Rattle.font_graph.specs.PartRefusals.{source_made, raw_source, all_drawn, advances_so, InOrder}
+use Rattle.font_graph.specs.PartRefusals.{in_order}
+use Rattle.font_graph.specs.Values.{Source, tree_is, header_is, index_is, Drawn, flats_are}
+use Rattle.font_graph.specs.Values.{order_is}
 use Rattle.font_graph.specs.Same.{same_id, identity}
 use Rattle.font_graph.specs.Due.{due}
 use Rattle.font_graph.specs.declared.ids.JobId.{JobId}
@@ -70,8 +78,9 @@ module _ (p : Parts) where
   abbrev pub flats_read : List ℕ → Reads → Option (List p.Flat)
   flats_read glyphs reads = read_all p same_id (as_flat p) reads (map job.Flat glyphs)
 
-  abbrev pub data_read : List ℕ → Reads → Option (List p.Data)
-  data_read glyphs reads = read_all p same_id (as_data p) reads (map job.Simple glyphs)
+  -- what a table of these needs reads
+  abbrev pub more_read : Needs → Reads → Option (Extra p.Index p.Measures p.Data)
+  more_read needs reads = extra_read p same_id reads needs
 
   abbrev pub tables_read : Reads → Option (List p.Table)
   tables_read reads = read_all p same_id (as_table p) reads (map job.Table p.tags)
@@ -85,14 +94,16 @@ module _ (p : Parts) where
 
   pub index_runs : (reads : Reads) (tree : p.Tree) → tree_read reads ≡ Some tree
       → outcome p same_id job.Index reads
-      ≡ settle p same_id an.Index (λ index. after_index p same_id (p.numbers index)) (p.index tree)
+      ≡ settle p same_id an.Index (λ index. after_index p same_id (of_index p same_id index))
+      (p.index tree)
   index_runs reads tree a = on_some p same_id identity _ _ tree a
 
   pub raw_runs : (glyph : ℕ) (reads : Reads) (tree : p.Tree) (header : p.Header) (index : p.Index)
       → tree_read reads ≡ Some tree → header_read reads ≡ Some header
       → index_read reads ≡ Some index
       → outcome p same_id (job.Raw glyph) reads
-      ≡ settle p same_id an.Raw (flat_next p same_id glyph) (p.raw tree header index glyph)
+      ≡ settle p same_id an.Raw (raw_next p same_id (p.is_variable header) glyph)
+      (p.raw tree header index glyph)
   raw_runs glyph reads tree header index a b c = on_some p same_id identity _ _ tree a
       ∙ on_some p same_id identity _ _ header b ∙ on_some p same_id identity _ _ index c
 
@@ -110,11 +121,20 @@ module _ (p : Parts) where
   simple_runs glyph reads header flat a b = on_some p same_id identity _ _ header a
       ∙ on_some p same_id identity _ _ flat b
 
+  pub variations_runs : (glyph : ℕ) (reads : Reads) (header : p.Header) (index : p.Index)
+      (flat : p.Flat) → header_read reads ≡ Some header → index_read reads ≡ Some index
+      → flat_read glyph reads ≡ Some flat
+      → outcome p same_id (job.Variations glyph) reads
+      ≡ settle p same_id an.Variations (none p same_id) (p.variations header index flat)
+  variations_runs glyph reads header index flat a b c = on_some p same_id identity _ _ header a
+      ∙ on_some p same_id identity _ _ index b ∙ on_some p same_id identity _ _ flat c
+
   pub order_runs : (reads : Reads) (header : p.Header) (index : p.Index) (flats : List p.Flat)
       → header_read reads ≡ Some header → index_read reads ≡ Some index
       → flats_read (p.numbers index) reads ≡ Some flats
       → outcome p same_id job.Order reads
-      ≡ settle p same_id an.Order (λ order. after_order p same_id (p.numbers index))
+      ≡ settle p same_id an.Order
+      (λ order. after_order p same_id (of_order p same_id header (p.numbers index)))
       (p.order header index flats)
   order_runs reads header index flats a b c = on_some p same_id identity _ _ header a
       ∙ on_some p same_id identity _ _ index b ∙ on_some p same_id identity _ _ flats c
@@ -127,38 +147,13 @@ module _ (p : Parts) where
   advances_runs reads header order flats a b c = on_some p same_id identity _ _ header a
       ∙ on_some p same_id identity _ _ order b ∙ on_some p same_id identity _ _ flats c
 
-  abbrev outlines_made : Tag → Reads → p.Header → p.Order → PlainOutcome (Item p) JobId
-  outlines_made tag reads header order =
-      on p same_id (data_read (p.ordered order) reads)
-      (λ parts. settle p same_id an.Table (none p same_id) (p.outline_table tag header order parts))
-
-  abbrev metrics_made : Tag → Reads → p.Header → p.Order → PlainOutcome (Item p) JobId
-  metrics_made tag reads header order =
-      on p same_id (measures_read reads)
-      (λ measures. settle p same_id an.Table (none p same_id)
-      (p.metrics_table tag header order measures))
-
-  pub outline_runs : (tag : Tag) (reads : Reads) (header : p.Header) (order : p.Order)
-      (parts : List p.Data) → p.is_of_outlines tag ≡ true → header_read reads ≡ Some header
-      → order_read reads ≡ Some order → data_read (p.ordered order) reads ≡ Some parts
+  pub table_runs : (tag : Tag) (reads : Reads) (header : p.Header) (order : p.Order)
+      (more : Extra p.Index p.Measures p.Data) → header_read reads ≡ Some header
+      → order_read reads ≡ Some order → more_read (p.needs tag) reads ≡ Some more
       → outcome p same_id (job.Table tag) reads
-      ≡ settle p same_id an.Table (none p same_id) (p.outline_table tag header order parts)
-  outline_runs tag reads header order parts e a b c =
-      on_some p same_id identity _ _ header a ∙ on_some p same_id identity _ _ order b
-      ∙ ap (λ b. cond b (outlines_made tag reads header order)
-      (metrics_made tag reads header order)) e
-      ∙ on_some p same_id identity _ _ parts c
-
-  pub metrics_runs : (tag : Tag) (reads : Reads) (header : p.Header) (order : p.Order)
-      (measures : p.Measures) → p.is_of_outlines tag ≡ false → header_read reads ≡ Some header
-      → order_read reads ≡ Some order → measures_read reads ≡ Some measures
-      → outcome p same_id (job.Table tag) reads
-      ≡ settle p same_id an.Table (none p same_id) (p.metrics_table tag header order measures)
-  metrics_runs tag reads header order measures e a b c =
-      on_some p same_id identity _ _ header a ∙ on_some p same_id identity _ _ order b
-      ∙ ap (λ b. cond b (outlines_made tag reads header order)
-      (metrics_made tag reads header order)) e
-      ∙ on_some p same_id identity _ _ measures c
+      ≡ settle p same_id an.Table (none p same_id) (p.table tag header order more)
+  table_runs tag reads header order more a b c = on_some p same_id identity _ _ header a
+      ∙ on_some p same_id identity _ _ order b ∙ on_some p same_id identity _ _ more c
 
   pub font_runs : (reads : Reads) (tables : List p.Table) → tables_read reads ≡ Some tables
       → outcome p same_id job.Font reads
@@ -174,67 +169,36 @@ module _ (p : Parts) where
       (items p same_id id) (with_value p same_id read) done
       (map-In (with_value p same_id) (reads_with p same_id (numbers p same_id) id) read there)
 
-  record Source : Type 0 where
-    tree : p.Tree
-    header : p.Header
-    index : p.Index
-    tree_is : tree_value p same_id ≡ Done (an.Tree tree)
-    header_is : header_value p same_id ≡ Done (an.Header header)
-    index_is : index_value p same_id ≡ Done (an.Index index)
-    header_made : p.header tree ≡ Ok header
-    index_made : p.index tree ≡ Ok index
-
-  source : is_done (header_value p same_id) ≡ true → is_done (index_value p same_id) ≡ true
-      → Source
-  source header_done index_done =
-      let tree = answered p same_id identity an.Tree p.tree (tree_value p same_id)
-      (tree_by p same_id identity)
-      (part_done p same_id identity job.Header header_done job.Tree (inl refl)) in
-      let header = answered p same_id identity an.Header (p.header tree.0)
-      (header_value p same_id) (header_by p same_id identity tree.0 tree.2) header_done in
-      let index = answered p same_id identity an.Index (p.index tree.0)
-      (index_value p same_id) (index_by p same_id identity tree.0 tree.2) index_done in
-      record {
-        tree = tree.0;
-        header = header.0;
-        index = index.0;
-        tree_is = tree.2;
-        header_is = header.2;
-        index_is = index.2;
-        header_made = header.1;
-        index_made = index.1;
-      }
-
   -- the source's three, of a job that reads them
-  tree_known : (s : Source) (id : JobId)
+  tree_known : (s : Source p) (id : JobId)
       → In job.Tree (reads_with p same_id (numbers p same_id) id)
       → tree_read (items p same_id id) ≡ Some s.tree
   tree_known s id there = read_is p same_id identity (as_tree p)
-      (reads_with p same_id (numbers p same_id) id) job.Tree (an.Tree s.tree) s.tree there s.tree_is
+      (reads_with p same_id (numbers p same_id) id) job.Tree (an.Tree s.tree) s.tree there (tree_is p s)
       refl
 
-  header_known : (s : Source) (id : JobId)
+  header_known : (s : Source p) (id : JobId)
       → In job.Header (reads_with p same_id (numbers p same_id) id)
       → header_read (items p same_id id) ≡ Some s.header
   header_known s id there = read_is p same_id identity (as_header p)
       (reads_with p same_id (numbers p same_id) id) job.Header (an.Header s.header) s.header there
-      s.header_is refl
+      (header_is p s) refl
 
-  index_known : (s : Source) (id : JobId)
+  index_known : (s : Source p) (id : JobId)
       → In job.Index (reads_with p same_id (numbers p same_id) id)
       → index_read (items p same_id id) ≡ Some s.index
   index_known s id there = read_is p same_id identity (as_index p)
       (reads_with p same_id (numbers p same_id) id) job.Index (an.Index s.index) s.index there
-      s.index_is refl
+      (index_is p s) refl
 
-  from_numbers : (s : Source) (glyph : ℕ) → In glyph (numbers p same_id)
+  from_numbers : (s : Source p) (glyph : ℕ) → In glyph (exported p same_id)
       → In glyph (p.numbers s.index)
   from_numbers s glyph i = subst (λ ns. In glyph ns)
-      (sym (numbers_are p same_id s.index s.index_is)) i
+      (sym (numbers_are p same_id s.index (index_is p s))) i
 
-  into_numbers : (s : Source) (glyph : ℕ) → In glyph (p.numbers s.index)
-      → In glyph (numbers p same_id)
-  into_numbers s glyph i = subst (λ ns. In glyph ns) (numbers_are p same_id s.index s.index_is) i
+  into_numbers : (s : Source p) (glyph : ℕ) → In glyph (p.numbers s.index)
+      → In glyph (exported p same_id)
+  into_numbers s glyph i = subst (λ ns. In glyph ns) (numbers_are p same_id s.index (index_is p s)) i
 
   abbrev Due : JobId → Reads → Type 0
   Due id reads = IsDue same_id (plan p same_id) id reads
@@ -286,7 +250,7 @@ module _ (p : Parts) where
       let known = due p id reads d in
       let all : all_done (items p same_id id) ≡ true
       = subst (λ rs. all_done rs ≡ true) known.1 done in
-      let s = source (done_of id all job.Header (inr (inl refl)))
+      let s = source_made p (done_of id all job.Header (inr (inl refl)))
       (done_of id all job.Index (inr (inr (inl refl)))) in
       let tree = tree_known s id (inl refl) in
       let header = header_known s id (inr (inl refl)) in
@@ -297,10 +261,10 @@ module _ (p : Parts) where
         index = some_read (index_read (items p same_id id)) s.index index;
         header_is = λ t h a b. as_read (λ t. p.header t ≡ Ok h) (tree_read (items p same_id id))
             s.tree t tree a (as_read (λ h. p.header s.tree ≡ Ok h)
-            (header_read (items p same_id id)) s.header h header b s.header_made);
+            (header_read (items p same_id id)) s.header h header b s.header_read);
         index_is = λ t i a b. as_read (λ t. p.index t ≡ Ok i) (tree_read (items p same_id id))
             s.tree t tree a (as_read (λ i. p.index s.tree ≡ Ok i)
-            (index_read (items p same_id id)) s.index i index b s.index_made);
+            (index_read (items p same_id id)) s.index i index b s.index_read);
         glyph_is = λ i a. as_read (λ i. In glyph (p.numbers i)) (index_read (items p same_id id))
             s.index i index a (from_numbers s glyph known.0);
       })
@@ -320,12 +284,6 @@ module _ (p : Parts) where
     pub raw_is : (r : p.Raw) (i : p.Index) → raw_read glyph reads ≡ Some r
         → index_read reads ≡ Some i → IsReadOf i glyph r
 
-  -- the source of a glyph that was read
-  raw_source : (glyph : ℕ) → is_done (raw_value p same_id glyph) ≡ true → Source
-  raw_source glyph done = source
-      (part_done p same_id identity (job.Raw glyph) done job.Header (inr (inl refl)))
-      (part_done p same_id identity (job.Raw glyph) done job.Index (inr (inr (inl refl))))
-
   pub flat_finds : (glyph : ℕ) (reads : Reads) → Due (job.Flat glyph) reads
       → all_done reads ≡ true → FlatFound glyph reads
   flat_finds glyph reads d done =
@@ -334,10 +292,10 @@ module _ (p : Parts) where
       let all : all_done (items p same_id id) ≡ true
       = subst (λ rs. all_done rs ≡ true) known.1 done in
       let raw_done = done_of id all (job.Raw glyph) (inl refl) in
-      let s = raw_source glyph raw_done in
+      let s = raw_source p glyph raw_done in
       let made = answered p same_id identity an.Raw (p.raw s.tree s.header s.index glyph)
       (raw_value p same_id glyph)
-      (raw_by p same_id identity s.tree s.tree_is s.header s.index s.header_is s.index_is glyph)
+      (raw_by p same_id identity s.tree (tree_is p s) s.header s.index (header_is p s) (index_is p s) glyph)
       raw_done in
       let raw : raw_read glyph (items p same_id id) ≡ Some made.0
       = read_is p same_id identity (as_raw p) (reads_with p same_id (numbers p same_id) id)
@@ -346,8 +304,8 @@ module _ (p : Parts) where
       let is : IsReadOf s.index glyph made.0 = record {
         tree = s.tree;
         header = s.header;
-        header_made = s.header_made;
-        index_made = s.index_made;
+        header_made = s.header_read;
+        index_made = s.index_read;
         raw_made = made.1;
       } in
       subst (FlatFound glyph) (sym known.1) (record {
@@ -377,23 +335,22 @@ module _ (p : Parts) where
     pub flat_is : (h : p.Header) (f : p.Flat) → header_read reads ≡ Some h
         → flat_read glyph reads ≡ Some f → IsDrawnOf h f
 
-  record Drawing (s : Source) (glyph : ℕ) : Type 0 where
+  record Drawing (s : Source p) (glyph : ℕ) : Type 0 where
     raw : p.Raw
     flat : p.Flat
     raw_made : p.raw s.tree s.header s.index glyph ≡ Ok raw
     flat_made : p.flat raw s.index ≡ Ok flat
     flat_is : flat_value p same_id glyph ≡ Done (an.Flat flat)
 
-  drawing : (s : Source) (glyph : ℕ) → is_done (flat_value p same_id glyph) ≡ true
+  drawing : (s : Source p) (glyph : ℕ) → is_done (flat_value p same_id glyph) ≡ true
       → Drawing s glyph
   drawing s glyph done =
       let raw = answered p same_id identity an.Raw (p.raw s.tree s.header s.index glyph)
       (raw_value p same_id glyph)
-      (raw_by p same_id identity s.tree s.tree_is s.header s.index s.header_is s.index_is glyph)
+      (raw_by p same_id identity s.tree (tree_is p s) s.header s.index (header_is p s) (index_is p s) glyph)
       (raw_done p same_id identity glyph done) in
       let flat = answered p same_id identity an.Flat (p.flat raw.0 s.index)
-      (flat_value p same_id glyph) (flat_by p same_id identity s.tree s.tree_is s.header s.index
-      s.header_is s.index_is glyph raw.0 raw.2) done in
+      (flat_value p same_id glyph) (flat_by p same_id identity s.tree (tree_is p s) s.header s.index (header_is p s) (index_is p s) glyph raw.0 raw.2) done in
       record {
         raw = raw.0;
         flat = flat.0;
@@ -402,14 +359,14 @@ module _ (p : Parts) where
         flat_is = flat.2;
       }
 
-  drawing_of : (s : Source) (glyph : ℕ) (d : Drawing s glyph) → IsDrawnOf s.header d.flat
+  drawing_of : (s : Source p) (glyph : ℕ) (d : Drawing s glyph) → IsDrawnOf s.header d.flat
   drawing_of s glyph d = record {
     tree = s.tree;
     index = s.index;
     glyph = glyph;
     raw = d.raw;
-    header_made = s.header_made;
-    index_made = s.index_made;
+    header_made = s.header_read;
+    index_made = s.index_read;
     raw_made = d.raw_made;
     flat_made = d.flat_made;
   }
@@ -422,7 +379,7 @@ module _ (p : Parts) where
       let all : all_done (items p same_id id) ≡ true
       = subst (λ rs. all_done rs ≡ true) known.1 done in
       let flat_done = done_of id all (job.Flat glyph) (inr (inl refl)) in
-      let s = raw_source glyph (raw_done p same_id identity glyph flat_done) in
+      let s = raw_source p glyph (raw_done p same_id identity glyph flat_done) in
       let made = drawing s glyph flat_done in
       let header = header_known s id (inl refl) in
       let flat : flat_read glyph (items p same_id id) ≡ Some made.flat
@@ -436,41 +393,69 @@ module _ (p : Parts) where
             (flat_read glyph (items p same_id id)) made.flat f flat b (drawing_of s glyph made));
       })
 
-  -- ---- jobs that read all glyphs
-
-  record Glyphs (s : Source) : Type 0 where
-    flats : List p.Flat
-    drawn_are : AllMade (drawn p s.tree s.header s.index) (p.numbers s.index) flats
-    valued : Valued p same_id identity s.tree s.tree_is s.header s.index s.header_is s.index_is
-        job.Flat an.Flat (p.numbers s.index) flats
-
-  glyphs : (s : Source) → ((glyph : ℕ) → In glyph (numbers p same_id)
-      → is_done (flat_value p same_id glyph) ≡ true) → Glyphs s
-  glyphs s done =
-      let made = drawings p same_id identity s.tree s.tree_is s.header s.index s.header_is
-      s.index_is (p.numbers s.index) (λ g i. done g (into_numbers s g i)) in
-      record {
-        flats = made.flats;
-        drawn_are = made.drawn_are;
-        valued = all_drawn p same_id identity s.tree s.tree_is s.header s.index s.header_is
-            s.index_is (p.numbers s.index) made.flats made.drawn_are;
-      }
-
-  -- all flat glyphs, of a job that reads them
-  flats_known : (s : Source) (g : Glyphs s) (id : JobId)
-      → ((glyph : ℕ) → In glyph (numbers p same_id)
-      → In (job.Flat glyph) (reads_with p same_id (numbers p same_id) id))
-      → flats_read (p.numbers s.index) (items p same_id id) ≡ Some g.flats
-  flats_known s g id there = read_all_is p same_id identity s.tree s.tree_is s.header s.index
-      s.header_is s.index_is (as_flat p) id job.Flat an.Flat (λ flat. refl) (p.numbers s.index)
-      g.flats g.valued (λ n i. there n (into_numbers s n i))
-
-  -- the glyphs of an index were drawn so, of this header
-  pub record AreDrawnOf (header : p.Header) (index : p.Index) (flats : List p.Flat) : Type 0 where
+  -- a glyph was drawn so, of this header and this index
+  pub record IsDrawnIn (header : p.Header) (index : p.Index) (flat : p.Flat) : Type 0 where
     pub tree : p.Tree
+    pub glyph : ℕ
+    pub raw : p.Raw
     pub header_made : p.header tree ≡ Ok header
     pub index_made : p.index tree ≡ Ok index
-    pub drawn_are : AllMade (drawn p tree header index) (p.numbers index) flats
+    pub glyph_is : In glyph (p.numbers index)
+    pub raw_made : p.raw tree header index glyph ≡ Ok raw
+    pub flat_made : p.flat raw index ≡ Ok flat
+
+  pub record VariationsFound (glyph : ℕ) (reads : Reads) : Type 0 where
+    pub header : IsSome (header_read reads)
+    pub index : IsSome (index_read reads)
+    pub flat : IsSome (flat_read glyph reads)
+    pub flat_is : (h : p.Header) (i : p.Index) (f : p.Flat) → header_read reads ≡ Some h
+        → index_read reads ≡ Some i → flat_read glyph reads ≡ Some f → IsDrawnIn h i f
+
+  pub variations_finds : (glyph : ℕ) (reads : Reads) → Due (job.Variations glyph) reads
+      → all_done reads ≡ true → VariationsFound glyph reads
+  variations_finds glyph reads d done =
+      let id = job.Variations glyph in
+      let known = due p id reads d in
+      let all : all_done (items p same_id id) ≡ true
+      = subst (λ rs. all_done rs ≡ true) known.1 done in
+      let flat_done = done_of id all (job.Flat glyph) (inr (inr (inl refl))) in
+      let s = raw_source p glyph (raw_done p same_id identity glyph flat_done) in
+      let made = drawing s glyph flat_done in
+      let header = header_known s id (inl refl) in
+      let index = index_known s id (inr (inl refl)) in
+      let flat : flat_read glyph (items p same_id id) ≡ Some made.flat
+      = read_is p same_id identity (as_flat p) (reads_with p same_id (numbers p same_id) id)
+      (job.Flat glyph) (an.Flat made.flat) made.flat (inr (inr (inl refl))) made.flat_is refl in
+      let is : IsDrawnIn s.header s.index made.flat = record {
+        tree = s.tree;
+        glyph = glyph;
+        raw = made.raw;
+        header_made = s.header_read;
+        index_made = s.index_read;
+        glyph_is = from_numbers s glyph (varied_in p same_id glyph known.0.0).0;
+        raw_made = made.raw_made;
+        flat_made = made.flat_made;
+      } in
+      subst (VariationsFound glyph) (sym known.1) (record {
+        header = some_read (header_read (items p same_id id)) s.header header;
+        index = some_read (index_read (items p same_id id)) s.index index;
+        flat = some_read (flat_read glyph (items p same_id id)) made.flat flat;
+        flat_is = λ h i f a b c. as_read (λ h. IsDrawnIn h i f)
+            (header_read (items p same_id id)) s.header h header a
+            (as_read (λ i. IsDrawnIn s.header i f) (index_read (items p same_id id)) s.index i
+            index b (as_read (λ f. IsDrawnIn s.header s.index f)
+            (flat_read glyph (items p same_id id)) made.flat f flat c is));
+      })
+
+  -- ---- jobs that read all glyphs
+
+  -- all flat glyphs, of a job that reads them
+  flats_known : (s : Source p) (g : Drawn p s) (id : JobId)
+      → ((glyph : ℕ) → In glyph (exported p same_id)
+      → In (job.Flat glyph) (reads_with p same_id (numbers p same_id) id))
+      → flats_read (p.numbers s.index) (items p same_id id) ≡ Some g.flats
+  flats_known s g id there = read_all_is p same_id identity s.tree (tree_is p s) s.header s.index (header_is p s) (index_is p s) (as_flat p) id job.Flat an.Flat (λ flat. refl) (p.numbers s.index)
+      g.flats (flats_are p s g) (λ n i. there n (into_numbers s n i))
 
   pub record OrderFound (reads : Reads) : Type 0 where
     pub header : IsSome (header_read reads)
@@ -484,63 +469,47 @@ module _ (p : Parts) where
       let known = due p id reads d in
       let all : all_done (items p same_id id) ≡ true
       = subst (λ rs. all_done rs ≡ true) known.1 done in
-      let s = source (done_of id all job.Header (inl refl))
+      let s = source_made p (done_of id all job.Header (inl refl))
       (done_of id all job.Index (inr (inl refl))) in
-      let there : (glyph : ℕ) → In glyph (numbers p same_id)
+      let there : (glyph : ℕ) → In glyph (exported p same_id)
       → In (job.Flat glyph) (reads_with p same_id (numbers p same_id) id)
-      = λ n i. inr (inr (map-In job.Flat (numbers p same_id) n i)) in
-      let g = glyphs s (λ n i. done_of id all (job.Flat n) (there n i)) in
+      = λ n i. inr (inr (map-In job.Flat (exported p same_id) n i)) in
+      let d = all_drawn p s (λ n i. done_of id all (job.Flat n) (there n i)) in
       let header = header_known s id (inl refl) in
       let index = index_known s id (inr (inl refl)) in
-      let flats = flats_known s g id there in
+      let flats = flats_known s d id there in
       subst OrderFound (sym known.1) (record {
         header = some_read (header_read (items p same_id id)) s.header header;
         index = some_read (index_read (items p same_id id)) s.index index;
         flats = λ i a. as_read (λ i. IsSome (flats_read (p.numbers i) (items p same_id id)))
             (index_read (items p same_id id)) s.index i index a
-            (some_read (flats_read (p.numbers s.index) (items p same_id id)) g.flats flats);
+            (some_read (flats_read (p.numbers s.index) (items p same_id id)) d.flats flats);
       })
 
   -- ---- jobs behind the order
 
-  record Ordered (s : Source) (g : Glyphs s) : Type 0 where
-    order : p.Order
-    order_made : p.order s.header s.index g.flats ≡ Ok order
-    order_is : order_value p same_id ≡ Done (an.Order order)
+  ordered_are : (k : InOrder p) → p.ordered k.o.order ≡ p.numbers k.s.index
+  ordered_are k = p.ordered_is k.s.header k.s.index k.d.flats k.o.order k.o.glyphs_ordered
 
-  ordered : (s : Source) (g : Glyphs s) → is_done (order_value p same_id) ≡ true → Ordered s g
-  ordered s g done =
-      let order = answered p same_id identity an.Order (p.order s.header s.index g.flats)
-      (order_value p same_id) (order_by p same_id identity s.tree s.tree_is s.header s.index
-      s.header_is s.index_is g.flats g.valued) done in
-      record { order = order.0; order_made = order.1; order_is = order.2 }
-
-  -- what an order was made of
-  order_source : is_done (order_value p same_id) ≡ true → Source
-  order_source done = source
-      (part_done p same_id identity job.Order done job.Header (inl refl))
-      (part_done p same_id identity job.Order done job.Index (inr (inl refl)))
-
-  order_glyphs : (done : is_done (order_value p same_id) ≡ true) → Glyphs (order_source done)
-  order_glyphs done = glyphs (order_source done) (flats_done p same_id identity done)
-
-  ordered_are : (s : Source) (g : Glyphs s) (o : Ordered s g)
-      → p.ordered o.order ≡ p.numbers s.index
-  ordered_are s g o = p.ordered_is s.header s.index g.flats o.order o.order_made
-
-  order_known : (s : Source) (g : Glyphs s) (o : Ordered s g) (id : JobId)
+  order_known : (k : InOrder p) (id : JobId)
       → In job.Order (reads_with p same_id (numbers p same_id) id)
-      → order_read (items p same_id id) ≡ Some o.order
-  order_known s g o id there = read_is p same_id identity (as_order p)
-      (reads_with p same_id (numbers p same_id) id) job.Order (an.Order o.order) o.order there
-      o.order_is refl
+      → order_read (items p same_id id) ≡ Some k.o.order
+  order_known k id there = read_is p same_id identity (as_order p)
+      (reads_with p same_id (numbers p same_id) id) job.Order (an.Order k.o.order) k.o.order there
+      (order_is p k.s k.d k.o) refl
 
-  -- the glyphs of an index were drawn so, of this header, and so ordered
-  pub record AreOrderedOf (header : p.Header) (order : p.Order) (flats : List p.Flat)
-      : Type 0 where
-    pub index : p.Index
-    pub drawn_of : AreDrawnOf header index flats
-    pub order_made : p.order header index flats ≡ Ok order
+  pub are_in_order : (k : InOrder p) → AreInOrder p k.s.header k.s.index k.d.flats k.o.order
+  are_in_order k = record {
+    tree = k.s.tree;
+    tree_read = k.s.tree_read;
+    header_read = k.s.header_read;
+    index_read = k.s.index_read;
+    glyphs_drawn = k.d.glyphs_drawn;
+    glyphs_ordered = k.o.glyphs_ordered;
+  }
+
+  abbrev IsOrderedOf : p.Header → p.Order → List p.Flat → Type 0
+  IsOrderedOf header order flats = (index : p.Index) × AreInOrder p header index flats order
 
   pub record AdvancesFound (reads : Reads) : Type 0 where
     pub header : IsSome (header_read reads)
@@ -548,204 +517,245 @@ module _ (p : Parts) where
     pub flats : (o : p.Order) → order_read reads ≡ Some o → IsSome (flats_read (p.ordered o) reads)
     pub flats_are : (h : p.Header) (o : p.Order) (fs : List p.Flat) → header_read reads ≡ Some h
         → order_read reads ≡ Some o → flats_read (p.ordered o) reads ≡ Some fs
-        → AreOrderedOf h o fs
+        → (index : p.Index) × AreInOrder p h index fs o
 
   pub advances_finds : (reads : Reads) → Due job.Advances reads → all_done reads ≡ true
       → AdvancesFound reads
   advances_finds reads d done =
       let id = job.Advances in
       let known = due p id reads d in
-      let s = order_source known.0 in
-      let g = order_glyphs known.0 in
-      let o = ordered s g known.0 in
-      let there : (glyph : ℕ) → In glyph (numbers p same_id)
+      let k = in_order p known.0 in
+      let there : (glyph : ℕ) → In glyph (exported p same_id)
       → In (job.Flat glyph) (reads_with p same_id (numbers p same_id) id)
-      = λ n i. inr (inr (map-In job.Flat (numbers p same_id) n i)) in
+      = λ n i. inr (inr (map-In job.Flat (exported p same_id) n i)) in
       let rs = items p same_id id in
-      let header = header_known s id (inl refl) in
-      let order = order_known s g o id (inr (inl refl)) in
-      let flats : flats_read (p.ordered o.order) rs ≡ Some g.flats
-      = ap (λ ns. flats_read ns rs) (ordered_are s g o) ∙ flats_known s g id there in
-      let are : AreOrderedOf s.header o.order g.flats = record {
-        index = s.index;
-        drawn_of = record {
-          tree = s.tree;
-          header_made = s.header_made;
-          index_made = s.index_made;
-          drawn_are = g.drawn_are;
-        };
-        order_made = o.order_made;
-      } in
+      let header = header_known k.s id (inl refl) in
+      let order = order_known k id (inr (inl refl)) in
+      let flats : flats_read (p.ordered k.o.order) rs ≡ Some k.d.flats
+      = ap (λ ns. flats_read ns rs) (ordered_are k) ∙ flats_known k.s k.d id there in
+      let are : IsOrderedOf k.s.header k.o.order k.d.flats = (k.s.index, are_in_order k) in
       subst AdvancesFound (sym known.1) (record {
-        header = some_read (header_read rs) s.header header;
-        order = some_read (order_read rs) o.order order;
+        header = some_read (header_read rs) k.s.header header;
+        order = some_read (order_read rs) k.o.order order;
         flats = λ n a. as_read (λ n. IsSome (flats_read (p.ordered n) rs))
-            (order_read rs) o.order n order a
-            (some_read (flats_read (p.ordered o.order) rs) g.flats flats);
+            (order_read rs) k.o.order n order a
+            (some_read (flats_read (p.ordered k.o.order) rs) k.d.flats flats);
         flats_are = λ h n fs a b e.
             as_read (λ h. (fs : List p.Flat) → flats_read (p.ordered n) rs ≡ Some fs
-            → AreOrderedOf h n fs) (header_read rs) s.header h header a
+            → IsOrderedOf h n fs) (header_read rs) k.s.header h header a
             (as_read (λ n. (fs : List p.Flat) → flats_read (p.ordered n) rs ≡ Some fs
-            → AreOrderedOf s.header n fs) (order_read rs) o.order n order b
-            (λ fs f. as_read (λ fs. AreOrderedOf s.header o.order fs)
-            (flats_read (p.ordered o.order) rs) g.flats fs flats f are)) fs e;
+            → IsOrderedOf k.s.header n fs) (order_read rs) k.o.order n order b
+            (λ fs f. as_read (λ fs. IsOrderedOf k.s.header k.o.order fs)
+            (flats_read (p.ordered k.o.order) rs) k.d.flats fs flats f are)) fs e;
       })
 
-  -- the glyphs of an index were ordered so
-  pub record IsOrderOf (header : p.Header) (order : p.Order) : Type 0 where
-    pub index : p.Index
-    pub flats : List p.Flat
-    pub order_made : p.order header index flats ≡ Ok order
+  -- ---- tables
 
-  pub record TableFound (reads : Reads) : Type 0 where
+  -- a job of a table finds what it needs
+  pub record Found (k : InOrder p) (needs : Needs) (reads : Reads) : Type 0 where
+    pub more : Extra p.Index p.Measures p.Data
+    pub more_is : more_read needs reads ≡ Some more
+    pub is_extra : IsExtraOf p k.s.header k.s.index k.d.flats k.o.order needs more
+
+  module _ (k : InOrder p) where
+    abbrev Measured : Type 0
+    Measured = (measures : p.Measures)
+        × (p.measures k.s.header k.o.order k.d.flats ≡ Ok measures)
+        × (advances_value p same_id ≡ Done (an.Advances measures))
+
+    measured : is_done (advances_value p same_id) ≡ true → Measured
+    measured done = answered p same_id identity an.Advances
+        (p.measures k.s.header k.o.order k.d.flats) (advances_value p same_id)
+        (advances_so p k.s k.d k.o) done
+
+    abbrev TableReads : Needs → Reads
+    TableReads needs = map (with_value p same_id)
+        (job.Header ∷ job.Order ∷ needed (numbers p same_id) needs)
+
+    abbrev HasValue : JobId → Type 0
+    HasValue id = is_done (value_of p same_id id) ≡ true
+
+    found : (needs : Needs) → ((id : JobId) → In id (needed (numbers p same_id) needs)
+        → HasValue id) → Found k needs (TableReads needs)
+    found Nothing all = record { more = nothing; more_is = refl; is_extra = tt }
+    found TheIndex all = record {
+      more = with_index k.s.index;
+      more_is = index_needed p same_id identity k.s.tree (tree_is p k.s) k.s.header k.s.index
+          (header_is p k.s) (index_is p k.s) k.d.flats (flats_are p k.s k.d) k.o.order
+          (order_is p k.s k.d k.o);
+      is_extra = refl;
+    }
+    found TheMeasures all =
+        let m = measured (all job.Advances (inl refl)) in
+        record {
+          more = with_measures m.0;
+          more_is = measures_needed p same_id identity k.s.tree (tree_is p k.s) k.s.header k.s.index
+              (header_is p k.s) (index_is p k.s) k.d.flats (flats_are p k.s k.d) k.o.order
+              (order_is p k.s k.d k.o) m.0 m.2;
+          is_extra = m.1;
+        }
+    found TheMeasuresAndIndex all =
+        let m = measured (all job.Advances (inl refl)) in
+        record {
+          more = with_both m.0 k.s.index;
+          more_is = both_needed p same_id identity k.s.tree (tree_is p k.s) k.s.header k.s.index
+              (header_is p k.s) (index_is p k.s) k.d.flats (flats_are p k.s k.d) k.o.order
+              (order_is p k.s k.d k.o) m.0 m.2;
+          is_extra = (m.1, refl);
+        }
+    found TheOutlines all =
+        let made = writings p same_id identity k.s.tree (tree_is p k.s) k.s.header k.s.index
+        (header_is p k.s) (index_is p k.s) (p.numbers k.s.index) k.d.flats (flats_are p k.s k.d)
+        (λ n i. all (job.Simple n)
+        (map-In job.Simple (exported p same_id) n (into_numbers k.s n i))) in
+        let valued = all_written p same_id identity k.s.tree (tree_is p k.s) k.s.header k.s.index
+        (header_is p k.s) (index_is p k.s) (p.numbers k.s.index) k.d.flats made.parts
+        (flats_are p k.s k.d) made.written_are in
+        record {
+          more = with_data made.parts;
+          more_is = outlines_read p same_id identity k.s.tree (tree_is p k.s) k.s.header k.s.index
+              (header_is p k.s) (index_is p k.s) k.d.flats (flats_are p k.s k.d) k.o.order
+              (order_is p k.s k.d k.o) made.parts valued;
+          is_extra = made.written_are;
+        }
+    found TheVariations all =
+        let known = varied_are p same_id identity k.s.tree (tree_is p k.s) k.s.header k.s.index
+        (header_is p k.s) (index_is p k.s) in
+        let made = varyings p same_id identity k.s.tree (tree_is p k.s) k.s.header k.s.index
+        (header_is p k.s) (index_is p k.s) (p.numbers k.s.index) k.d.flats (flats_are p k.s k.d)
+        (λ n i. all (job.Variations n) (map-In job.Variations (varied p same_id) n
+        (subst (λ ns. In n ns) known i))) in
+        let valued = all_varied p same_id identity k.s.tree (tree_is p k.s) k.s.header k.s.index
+        (header_is p k.s) (index_is p k.s) (p.numbers k.s.index) k.d.flats made.variations
+        (flats_are p k.s k.d) made.varied_are in
+        record {
+          more = with_data made.variations;
+          more_is = variations_read p same_id identity k.s.tree (tree_is p k.s) k.s.header k.s.index
+              (header_is p k.s) (index_is p k.s) k.d.flats (flats_are p k.s k.d) k.o.order
+              (order_is p k.s k.d k.o) made.variations valued;
+          is_extra = made.varied_are;
+        }
+
+    pub table_found : (tag : Tag) → all_done (items p same_id (job.Table tag)) ≡ true
+        → Found k (p.needs tag) (items p same_id (job.Table tag))
+    table_found tag all = found (p.needs tag) (λ id i. done_of (job.Table tag) all id (inr (inr i)))
+
+    pub table_so : (tag : Tag) (more : Extra p.Index p.Measures p.Data)
+        → all_done (items p same_id (job.Table tag)) ≡ true
+        → more_read (p.needs tag) (items p same_id (job.Table tag)) ≡ Some more
+        → table_value p same_id tag
+        ≡ plain_of p same_id identity an.Table (p.table tag k.s.header k.o.order more)
+    table_so = table_from p same_id identity k.s.tree (tree_is p k.s) k.s.header k.s.index
+        (header_is p k.s) (index_is p k.s) k.d.flats (flats_are p k.s k.d) k.o.order
+        (order_is p k.s k.d k.o)
+
+    pub of_glyphs : (needs : Needs) (more : Extra p.Index p.Measures p.Data)
+        → IsExtraOf p k.s.header k.s.index k.d.flats k.o.order needs more
+        → IsOfGlyphs p k.s.header k.o.order needs more
+    of_glyphs needs more is = record {
+      index = k.s.index;
+      flats = k.d.flats;
+      in_order = are_in_order k;
+      is_extra = is;
+    }
+
+  -- the header and the order of a table, and what it is made of
+  pub record TableFound (tag : Tag) (reads : Reads) : Type 0 where
     pub header : IsSome (header_read reads)
     pub order : IsSome (order_read reads)
-    pub order_is : (h : p.Header) (o : p.Order) → header_read reads ≡ Some h
-        → order_read reads ≡ Some o → IsOrderOf h o
+    pub more : IsSome (more_read (p.needs tag) reads)
+    pub are : (h : p.Header) (o : p.Order) (e : Extra p.Index p.Measures p.Data)
+        → header_read reads ≡ Some h → order_read reads ≡ Some o
+        → more_read (p.needs tag) reads ≡ Some e → IsOfGlyphs p h o (p.needs tag) e
 
-  table_known : (tag : Tag) → is_done (order_value p same_id) ≡ true
-      → TableFound (items p same_id (job.Table tag))
-  table_known tag done =
+  pub table_finds : (tag : Tag) (reads : Reads) → Due (job.Table tag) reads
+      → all_done reads ≡ true → TableFound tag reads
+  table_finds tag reads d done =
       let id = job.Table tag in
-      let s = order_source done in
-      let g = order_glyphs done in
-      let o = ordered s g done in
+      let known = due p id reads d in
+      let all : all_done (items p same_id id) ≡ true
+      = subst (λ rs. all_done rs ≡ true) known.1 done in
+      let k = in_order p known.0.1 in
       let rs = items p same_id id in
-      let header = header_known s id (inl refl) in
-      let order = order_known s g o id (inr (inl refl)) in
+      let header = header_known k.s id (inl refl) in
+      let order = order_known k id (inr (inl refl)) in
+      let f = table_found k tag all in
+      let n = p.needs tag in
+      subst (TableFound tag) (sym known.1) (record {
+        header = some_read (header_read rs) k.s.header header;
+        order = some_read (order_read rs) k.o.order order;
+        more = some_read (more_read n rs) f.more f.more_is;
+        are = λ h o e a b c. as_read (λ h. IsOfGlyphs p h o n e) (header_read rs) k.s.header h
+            header a (as_read (λ o. IsOfGlyphs p k.s.header o n e) (order_read rs) k.o.order o order
+            b (as_read (λ e. IsOfGlyphs p k.s.header k.o.order n e) (more_read n rs) f.more e
+            f.more_is c (of_glyphs k n f.more f.is_extra)));
+      })
+
+  record TableMade (tag : Tag) : Type 0 where
+    made : p.Table
+    made_is : table_value p same_id tag ≡ Done (an.Table made)
+    is_table : IsTableOf p tag made
+
+  table_made : InOrder p → (tag : Tag) → is_done (table_value p same_id tag) ≡ true
+      → TableMade tag
+  table_made k tag e =
+      let all = reads_done p same_id (job.Table tag) (items p same_id (job.Table tag))
+      (ap is_done (value p same_id (job.Table tag)) ∙ e) in
+      let f = table_found k tag all in
+      let made = answered p same_id identity an.Table (p.table tag k.s.header k.o.order f.more)
+      (table_value p same_id tag) (table_so k tag f.more all f.more_is) e in
       record {
-        header = some_read (header_read rs) s.header header;
-        order = some_read (order_read rs) o.order order;
-        order_is = λ h n a b. as_read (λ h. IsOrderOf h n) (header_read rs) s.header h header a
-            (as_read (λ n. IsOrderOf s.header n) (order_read rs) o.order n order b
-            (record { index = s.index; flats = g.flats; order_made = o.order_made }));
+        made = made.0;
+        made_is = made.2;
+        is_table = record {
+          header = k.s.header;
+          order = k.o.order;
+          more = f.more;
+          of_glyphs = of_glyphs k (p.needs tag) f.more f.is_extra;
+          table_made = made.1;
+        };
       }
 
-  pub table_finds : (tag : Tag) (reads : Reads) → Due (job.Table tag) reads → TableFound reads
-  table_finds tag reads d =
-      let known = due p (job.Table tag) reads d in
-      subst TableFound (sym known.1) (table_known tag known.0.1)
+  pub record TablesMade (k : InOrder p) (tags : List Tag) : Type 0 where
+    pub tables : List p.Table
+    pub valued : Valued p same_id identity k.s.tree (tree_is p k.s) k.s.header k.s.index
+        (header_is p k.s) (index_is p k.s) job.Table an.Table tags tables
+    pub are : AreTablesOf p tags tables
 
-  -- a table of outlines finds all glyphs' data
-  pub outline_finds : (tag : Tag) (reads : Reads) → p.is_of_outlines tag ≡ true
-      → Due (job.Table tag) reads → all_done reads ≡ true → (o : p.Order)
-      → order_read reads ≡ Some o → IsSome (data_read (p.ordered o) reads)
-  outline_finds tag reads is d done =
-      let id = job.Table tag in
-      let known = due p id reads d in
-      let all : all_done (items p same_id id) ≡ true
-      = subst (λ rs. all_done rs ≡ true) known.1 done in
-      let s = order_source known.0.1 in
-      let g = order_glyphs known.0.1 in
-      let o = ordered s g known.0.1 in
-      let there : (glyph : ℕ) → In glyph (numbers p same_id)
-      → In (job.Simple glyph) (reads_with p same_id (numbers p same_id) id)
-      = λ n i. inr (inr (subst (λ b. In (job.Simple n)
-      (cond b (map job.Simple (numbers p same_id)) (job.Advances ∷ []))) (sym is)
-      (map-In job.Simple (numbers p same_id) n i))) in
-      let made = writings p same_id identity s.tree s.tree_is s.header s.index s.header_is
-      s.index_is (p.numbers s.index) g.flats g.valued
-      (λ n i. done_of id all (job.Simple n) (there n (into_numbers s n i))) in
-      let parts = read_all_is p same_id identity s.tree s.tree_is s.header s.index s.header_is
-      s.index_is (as_data p) id job.Simple an.Simple (λ part. refl) (p.numbers s.index) made.parts
-      (all_written p same_id identity s.tree s.tree_is s.header s.index s.header_is s.index_is
-      (p.numbers s.index) g.flats made.parts g.valued made.written_are)
-      (λ n i. there n (into_numbers s n i)) in
-      let rs = items p same_id id in
-      subst (λ rs. (o : p.Order) → order_read rs ≡ Some o → IsSome (data_read (p.ordered o) rs))
-      (sym known.1) (λ n a. as_read (λ n. IsSome (data_read (p.ordered n) rs)) (order_read rs)
-      o.order n (order_known s g o id (inr (inl refl))) a
-      (some_read (data_read (p.ordered o.order) rs) made.parts
-      (ap (λ ns. data_read ns rs) (ordered_are s g o) ∙ parts)))
-
-  -- and one of metrics what was measured
-  pub metrics_finds : (tag : Tag) (reads : Reads) → p.is_of_outlines tag ≡ false
-      → Due (job.Table tag) reads → all_done reads ≡ true → IsSome (measures_read reads)
-  metrics_finds tag reads is d done =
-      let id = job.Table tag in
-      let known = due p id reads d in
-      let all : all_done (items p same_id id) ≡ true
-      = subst (λ rs. all_done rs ≡ true) known.1 done in
-      let s = order_source known.0.1 in
-      let g = order_glyphs known.0.1 in
-      let o = ordered s g known.0.1 in
-      let there : In job.Advances (reads_with p same_id (numbers p same_id) id)
-      = inr (inr (subst (λ b. In job.Advances
-      (cond b (map job.Simple (numbers p same_id)) (job.Advances ∷ []))) (sym is)
-      (inl refl))) in
-      let made = answered p same_id identity an.Advances (p.measures s.header o.order g.flats)
-      (advances_value p same_id) (advances_by p same_id identity s.tree s.tree_is s.header s.index
-      s.header_is s.index_is g.flats g.valued o.order o.order_is)
-      (done_of id all job.Advances there) in
-      let measures : measures_read (items p same_id id) ≡ Some made.0
-      = read_is p same_id identity (as_measures p) (reads_with p same_id (numbers p same_id) id)
-      job.Advances (an.Advances made.0) made.0 there made.2 refl in
-      subst (λ rs. IsSome (measures_read rs)) (sym known.1)
-      (some_read (measures_read (items p same_id id)) made.0 measures)
-
-  -- all tables were made so
-  pub record AreTablesOf (tables : List p.Table) : Type 0 where
-    pub header : p.Header
-    pub order : p.Order
-    pub measures : p.Measures
-    pub parts : List p.Data
-    pub tables_are : AllMade (table p header order measures parts) p.tags tables
+  pub tables_made : (k : InOrder p) (tags : List Tag)
+      → ((tag : Tag) → In tag tags → is_done (table_value p same_id tag) ≡ true)
+      → TablesMade k tags
+  unfolding Valued
+  tables_made k [] each = record { tables = []; valued = tt; are = tt }
+  tables_made k (tag ∷ tags) each =
+      let m = table_made k tag (each tag (inl refl)) in
+      let more = tables_made k tags (λ t i. each t (inr i)) in
+      record {
+        tables = m.made ∷ more.tables;
+        valued = (m.made_is, more.valued);
+        are = (m.is_table, more.are);
+      }
 
   pub record FontFound (reads : Reads) : Type 0 where
     pub tables : IsSome (tables_read reads)
-    pub tables_are : (ts : List p.Table) → tables_read reads ≡ Some ts → AreTablesOf ts
+    pub tables_are : (ts : List p.Table) → tables_read reads ≡ Some ts → AreTablesOf p p.tags ts
 
-  -- where there is a table of outlines and one of metrics, so that all parts are asked
-  pub font_finds : (outlines metrics : Tag) → In outlines p.tags → In metrics p.tags
-      → p.is_of_outlines outlines ≡ true → p.is_of_outlines metrics ≡ false → (reads : Reads)
-      → Due job.Font reads → all_done reads ≡ true → FontFound reads
-  font_finds outlines metrics outlines_there metrics_there is_one is_none reads d done =
+  pub font_finds : (reads : Reads) → Due job.Font reads → all_done reads ≡ true → FontFound reads
+  font_finds reads d done =
       let id = job.Font in
       let known = due p id reads d in
       let all : all_done (items p same_id id) ≡ true
       = subst (λ rs. all_done rs ≡ true) known.1 done in
-      let s = order_source known.0 in
-      let g = order_glyphs known.0 in
-      let o = ordered s g known.0 in
-      let table_done : (tag : Tag) → In tag p.tags → is_done (table_value p same_id tag) ≡ true
-      = λ tag i. done_of id all (job.Table tag) (map-In job.Table p.tags tag i) in
-      let advances_done = part_done p same_id identity (job.Table metrics)
-      (table_done metrics metrics_there) job.Advances
-      (inr (inr (subst (λ b. In job.Advances
-      (cond b (map job.Simple (numbers p same_id)) (job.Advances ∷ []))) (sym is_none)
-      (inl refl)))) in
-      let simple_done : (glyph : ℕ) → In glyph (numbers p same_id)
-      → is_done (simple_value p same_id glyph) ≡ true
-      = λ n i. part_done p same_id identity (job.Table outlines)
-      (table_done outlines outlines_there) (job.Simple n)
-      (inr (inr (subst (λ b. In (job.Simple n)
-      (cond b (map job.Simple (numbers p same_id)) (job.Advances ∷ []))) (sym is_one)
-      (map-In job.Simple (numbers p same_id) n i)))) in
-      let measures = answered p same_id identity an.Advances (p.measures s.header o.order g.flats)
-      (advances_value p same_id) (advances_by p same_id identity s.tree s.tree_is s.header s.index
-      s.header_is s.index_is g.flats g.valued o.order o.order_is) advances_done in
-      let written = writings p same_id identity s.tree s.tree_is s.header s.index s.header_is
-      s.index_is (p.numbers s.index) g.flats g.valued
-      (λ n i. simple_done n (into_numbers s n i)) in
-      let parts = all_written p same_id identity s.tree s.tree_is s.header s.index s.header_is
-      s.index_is (p.numbers s.index) g.flats written.parts g.valued written.written_are in
-      let make = table p s.header o.order measures.0 written.parts in
-      let by = table_by p same_id identity s.tree s.tree_is s.header s.index s.header_is s.index_is
-      g.flats g.valued o.order o.order_is measures.0 measures.2 written.parts parts in
-      let made = tables_of p same_id identity s.tree s.tree_is s.header s.index s.header_is
-      s.index_is make by p.tags table_done in
-      let read = read_all_is p same_id identity s.tree s.tree_is s.header s.index s.header_is
-      s.index_is (as_table p) id job.Table an.Table (λ t. refl) p.tags made.tables
-      (all_made p same_id identity s.tree s.tree_is s.header s.index s.header_is s.index_is make by
-      p.tags made.tables made.made_are) (λ tag i. map-In job.Table p.tags tag i) in
+      let k = in_order p known.0 in
+      let m = tables_made k p.tags
+      (λ tag i. done_of id all (job.Table tag) (map-In job.Table p.tags tag i)) in
       let rs = items p same_id id in
+      let read : tables_read rs ≡ Some m.tables = read_all_is p same_id identity k.s.tree
+      (tree_is p k.s) k.s.header k.s.index (header_is p k.s) (index_is p k.s) (as_table p) id
+      job.Table an.Table (λ made. refl) p.tags m.tables m.valued
+      (λ tag i. map-In job.Table p.tags tag i) in
       subst FontFound (sym known.1) (record {
-        tables = some_read (tables_read rs) made.tables read;
-        tables_are = λ ts a. as_read AreTablesOf (tables_read rs) made.tables ts read a (record {
-          header = s.header;
-          order = o.order;
-          measures = measures.0;
-          parts = written.parts;
-          tables_are = made.made_are;
-        });
+        tables = some_read (tables_read rs) m.tables read;
+        tables_are = λ ts a. as_read (AreTablesOf p p.tags) (tables_read rs) m.tables ts read a
+            m.are;
       })

@@ -12,9 +12,12 @@ use Rattle.font_ir.specs.declared.tag.Tag.{Tag}
 use Rattle.job_graph.specs.Members.{In, In-append_left, In-append_right, In-append_cases}
 use Rattle.job_graph.specs.Members.{In-from_Contains, Contains-from_In, list_all-In}
 use Rattle.job_graph.specs.Solutions.{Founded, opened, added, IsMade, IsSolution}
-use Rattle.font_graph.specs.Parts.{Parts}
+use Rattle.font_graph.specs.Parts.{Parts, Needs, Nothing, TheIndex, TheMeasures}
+use Rattle.font_graph.specs.Parts.{TheMeasuresAndIndex, TheOutlines, TheVariations}
 use Rattle.font_graph.specs.Graph.{Item}
-use Rattle.font_graph.specs.Graph.{as_index, spec_with}
+use Rattle.font_graph.specs.Graph.{as_header, as_index, spec_with, needed, varied_of, of_index}
+use Rattle.font_graph.specs.Graph.{of_order, of_glyph, after_raw, exported, varies_in, varies}
+use Rattle.font_graph.specs.Graph.{varied}
 use Rattle.font_graph.specs.Kinds.{stratum_of, awaited_by}
 use Rattle.font_graph.specs.Graph.{none, after_index, after_order, index_value}
 use Rattle.font_graph.specs.Graph.{numbers_in, numbers, raw_value, flat_value, order_value}
@@ -28,18 +31,23 @@ use Rattle.font_graph.specs.Outcomes.{map-In, In-map, none_awaited, awaited_is}
 use Rattle.font_graph.specs.Outcomes.{reads_done, quiet, with_value, S, items, value, leaf_tree}
 use Rattle.font_graph.specs.Outcomes.{leaf_header, leaf_simple, leaf_advances, leaf_table}
 use Rattle.font_graph.specs.Outcomes.{leaf_font, makes_index, makes_raw, makes_flat, makes_order}
-use Rattle.font_graph.specs.Outcomes.{order_next, Makes, IsLeaf}
+use Rattle.font_graph.specs.Outcomes.{order_next, raw_next, leaf_variations, Makes, IsLeaf}
 
 module _ (p : Parts) (same : JobId → JobId → Bool) where
   -- ---- what is there
 
   pub numbers_are : (index : p.Index) → index_value p same ≡ Done (an.Index index)
-      → p.numbers index ≡ numbers p same
+      → p.numbers index ≡ exported p same
   numbers_are index e = sym (ap (λ v. numbers_in p same
       (option_and_then (as_index p) (done_value v))) e)
 
+  pub varies_is : (header : p.Header) → header_value p same ≡ Done (an.Header header)
+      → p.is_variable header ≡ varies p same
+  varies_is header e = sym (ap (λ v. varies_in p same
+      (option_and_then (as_header p) (done_value v))) e)
+
   -- where the index has no value no glyph has a number
-  numbered : (glyph : ℕ) → In glyph (numbers p same) → is_done (index_value p same) ≡ true
+  numbered : (glyph : ℕ) → In glyph (exported p same) → is_done (index_value p same) ≡ true
   numbered glyph i =
       elim (index_value p same) as (λ v.
       In glyph (numbers_in p same (option_and_then (as_index p) (done_value v)))
@@ -49,6 +57,20 @@ module _ (p : Parts) (same : JobId → JobId → Bool) where
         | Rattle.access_context.specs.Plain.Blocked ↦ λ j. absurd j
       ] i
 
+  -- a glyph that varies is exported, in a font whose glyphs vary
+  pub varied_in : (glyph : ℕ) → In glyph (varied p same)
+      → In glyph (exported p same) × (varies p same ≡ true)
+  varied_in glyph i = by (varies p same) i
+    where
+      by : (b : Bool) → In glyph (varied_of b (exported p same))
+          → In glyph (exported p same) × (b ≡ true)
+      by true j = (j, refl)
+      by false j = absurd j
+
+  pub in_varied : (glyph : ℕ) → In glyph (exported p same) → varies p same ≡ true
+      → In glyph (varied p same)
+  in_varied glyph i e = subst (λ b. In glyph (varied_of b (exported p same))) (sym e) i
+
   abbrev index_items : List (JobId × Plain (Item p))
   index_items = (job.Tree, tree_value p same) ∷ []
 
@@ -57,9 +79,12 @@ module _ (p : Parts) (same : JobId → JobId → Bool) where
       ≡ after_index p same (numbers p same)
   index_adds done = elim ((makes_index p same) index_items) [
     | inl m ↦ ap (λ o. o.added) m.1
-        ∙ ap (after_index p same) (numbers_are m.0 (ap (λ o. o.value) m.1))
+        ∙ ap of (numbers_are m.0 (ap (λ o. o.value) m.1))
     | inr n ↦ absurd (false≢true (sym n.1 ∙ done))
   ]
+    where
+      of : List ℕ → List (Spec JobId)
+      of glyphs = after_index p same (record { exported = glyphs; varied = [] })
 
   -- and otherwise none
   adds_none : {A : Type 0} (item : A → Item p) (adds : A → List (Spec JobId))
@@ -104,23 +129,39 @@ module _ (p : Parts) (same : JobId → JobId → Bool) where
           ]
         ] refl
 
-    -- so the order's index is that of the source
+    -- so the header and the index that are read are those of the source
+    header_varies : (id : JobId) (header : p.Header)
+        → In job.Header (reads_with p same (numbers p same) id)
+        → read_as p same (as_header p) ((items p same) id) job.Header ≡ Some header
+        → p.is_variable header ≡ varies p same
+    header_varies id header there e =
+        let read : value_read same ((items p same) id) job.Header ≡ done_value (header_value p same)
+        = ap (option_and_then done_value)
+        (found (reads_with p same (numbers p same) id) job.Header there) in
+        sym (ap (varies_in p same) (sym (ap (option_and_then (as_header p)) read) ∙ e))
+
     order_numbers : (index : p.Index)
-        → read_as p same (as_index p) (map (with_value p same)
-        (reads_with p same (numbers p same) job.Order))
-        job.Index ≡ Some index → p.numbers index ≡ numbers p same
+        → read_as p same (as_index p) ((items p same) job.Order) job.Index ≡ Some index
+        → p.numbers index ≡ exported p same
     order_numbers index e =
-        let read : value_read same (map (with_value p same)
-        (reads_with p same (numbers p same) job.Order))
-        job.Index ≡ done_value (index_value p same)
+        let read : value_read same ((items p same) job.Order) job.Index
+        ≡ done_value (index_value p same)
         = ap (option_and_then done_value)
         (found (reads_with p same (numbers p same) job.Order) job.Index (inr (inl refl))) in
         sym (ap (numbers_in p same) (sym (ap (option_and_then (as_index p)) read) ∙ e))
 
     order_made : (Makes p same) an.Order ((order_next p same) (numbers p same))
         ((S p same) job.Order)
-    order_made = (makes_order p same) (numbers p same)
-        (map (with_value p same) (reads_with p same (numbers p same) job.Order)) order_numbers
+    order_made = (makes_order p same) (numbers p same) ((items p same) job.Order)
+        (λ header index e f.
+        ap (λ glyphs. of_order p same header glyphs) (order_numbers index f)
+        ∙ ap (λ b. record { exported = exported p same; varied = varied_of b (exported p same) })
+        (header_varies job.Order header (inl refl) e))
+
+    raw_made : (glyph : ℕ) → (Makes p same) an.Raw ((raw_next p same) (varies p same) glyph)
+        ((S p same) (job.Raw glyph))
+    raw_made glyph = (makes_raw p same) glyph (varies p same) ((items p same) (job.Raw glyph))
+        (λ header e. header_varies (job.Raw glyph) header (inr (inl refl)) e)
 
     abbrev has_value : JobId × Plain (Item p) → Bool
     has_value item = is_done item.1
@@ -134,12 +175,12 @@ module _ (p : Parts) (same : JobId → JobId → Bool) where
         ∷ []
 
     -- of what is read in the order each flat glyph has a value
-    pub flats_done : is_done (order_value p same) ≡ true → (glyph : ℕ) → In glyph (numbers p same)
+    pub flats_done : is_done (order_value p same) ≡ true → (glyph : ℕ) → In glyph (exported p same)
         → is_done (flat_value p same glyph) ≡ true
     flats_done done glyph i =
         let all = (reads_done p same) job.Order order_items done in
         list_all-In has_value order_items (job.Flat glyph, flat_value p same glyph) all
-        (inr (inr (map-In (λ g. (job.Flat g, flat_value p same g)) (numbers p same) glyph i)))
+        (inr (inr (map-In (λ g. (job.Flat g, flat_value p same g)) (exported p same) glyph i)))
 
     index_done : is_done (order_value p same) ≡ true → is_done (index_value p same) ≡ true
     index_done done = list_all-In has_value order_items (job.Index, index_value p same)
@@ -164,7 +205,7 @@ module _ (p : Parts) (same : JobId → JobId → Bool) where
     adds_there job.Index there s i = elim (cases_Bool (is_done (index_value p same))) [
       | inl done ↦ after_index_there done (subst (λ ss. In s ss) (index_adds done) i)
       | inr not ↦ absurd (subst (λ ss. In s ss) (adds_none an.Index
-          (λ index. after_index p same (p.numbers index)) ((S p same) job.Index)
+          (λ index. after_index p same (of_index p same index)) ((S p same) job.Index)
           ((makes_index p same) index_items)
           not) i)
     ]
@@ -172,9 +213,9 @@ module _ (p : Parts) (same : JobId → JobId → Bool) where
         after_index_there : is_done (index_value p same) ≡ true
             → In s (after_index p same (numbers p same)) → IsJob s
         after_index_there done j = elim (In-append_cases
-            (map (λ g. spec_with p same (numbers p same) (job.Raw g)) (numbers p same)) _ s j) [
-              | inl raws ↦ let m = In-map (λ g. spec_with p same (numbers p same) (job.Raw g))
-                  (numbers p same) s raws in subst IsJob m.2 (m.1, refl)
+            (map (λ g. spec_with p same (of_glyph p same) (job.Raw g)) (exported p same)) _ s j) [
+              | inl raws ↦ let m = In-map (λ g. spec_with p same (of_glyph p same) (job.Raw g))
+                  (exported p same) s raws in subst IsJob m.2 (m.1, refl)
               | inr order ↦ elim order [
                 | inl e ↦ subst IsJob e (done, refl)
                 | inr none ↦
@@ -182,12 +223,23 @@ module _ (p : Parts) (same : JobId → JobId → Bool) where
               ]
             ]
     adds_there (job.Raw glyph) there s i =
-        let a = adds_some an.Raw (spec_with p same [] (job.Flat glyph) ∷ [])
-        ((S p same) (job.Raw glyph))
-        ((makes_raw p same) glyph ((items p same) (job.Raw glyph))) s i in
-        elim a.1 [ inl e ↦ subst IsJob e ((there, a.0), refl) | inr none ↦ absurd none ]
+        let a = adds_some an.Raw (after_raw p same (varies p same) glyph)
+        ((S p same) (job.Raw glyph)) (raw_made glyph) s i in
+        elim a.1 [
+          | inl e ↦ subst IsJob e ((there, a.0), refl)
+          | inr more ↦ by (varies p same) refl a.0 more
+        ]
+      where
+        by : (b : Bool) → varies p same ≡ b → is_done (raw_value p same glyph) ≡ true
+            → In s (cond b (spec_with p same (of_glyph p same) (job.Variations glyph) ∷ []) [])
+            → IsJob s
+        by true v done j = elim j [
+          | inl e ↦ subst IsJob e ((in_varied glyph there v, done), refl)
+          | inr none ↦ absurd none
+        ]
+        by false v done j = absurd j
     adds_there (job.Flat glyph) there s i =
-        let a = adds_some an.Flat (spec_with p same [] (job.Simple glyph) ∷ [])
+        let a = adds_some an.Flat (spec_with p same (of_glyph p same) (job.Simple glyph) ∷ [])
         ((S p same) (job.Flat glyph))
         ((makes_flat p same) glyph ((items p same) (job.Flat glyph))) s i in
         elim a.1 [ inl e ↦ subst IsJob e ((there.0, a.0), refl) | inr none ↦ absurd none ]
@@ -195,6 +247,9 @@ module _ (p : Parts) (same : JobId → JobId → Bool) where
         = absurd (leaf_adds ((S p same) (job.Simple glyph))
         ((leaf_simple p same) glyph ((items p same) (job.Simple glyph))) s
         i)
+    adds_there (job.Variations glyph) there s i
+        = absurd (leaf_adds ((S p same) (job.Variations glyph))
+        ((leaf_variations p same) glyph ((items p same) (job.Variations glyph))) s i)
     adds_there job.Order there s i =
         let a = adds_some an.Order (after_order p same (numbers p same)) ((S p same) job.Order)
         order_made s i
@@ -255,14 +310,14 @@ module _ (p : Parts) (same : JobId → JobId → Bool) where
     index_has done s i = Contains-from_In ((S p same) job.Index).added s
         (subst (λ ss. In s ss) (sym (index_adds done)) i)
 
-    raw_added : (glyph : ℕ) → In glyph (numbers p same)
+    raw_added : (glyph : ℕ) → In glyph (exported p same)
         → Contains ((S p same) job.Index).added (spec_of p same (job.Raw glyph))
     raw_added glyph i = index_has (numbered glyph i) (spec_of p same (job.Raw glyph))
-        (In-append_left (map (λ g. spec_with p same (numbers p same) (job.Raw g)) (numbers p same))
+        (In-append_left (map (λ g. spec_with p same (of_glyph p same) (job.Raw g)) (exported p same))
         (spec_of p same job.Order ∷ []) (spec_of p same (job.Raw glyph))
-        (map-In (λ g. spec_with p same (numbers p same) (job.Raw g)) (numbers p same) glyph i))
+        (map-In (λ g. spec_with p same (of_glyph p same) (job.Raw g)) (exported p same) glyph i))
 
-    founded_raw : (glyph : ℕ) → In glyph (numbers p same) → Is (job.Raw glyph)
+    founded_raw : (glyph : ℕ) → In glyph (exported p same) → Is (job.Raw glyph)
     unfolding Is
     founded_raw glyph i = added (job.Raw glyph) job.Index founded_index (raw_added glyph i)
         (λ read c. elim (In-from_Contains (job.Tree ∷ job.Header ∷ job.Index ∷ []) read c) [
@@ -273,15 +328,27 @@ module _ (p : Parts) (same : JobId → JobId → Bool) where
           ]
         ]) (no_wait (job.Raw glyph) refl)
 
+    raw_adds : (glyph : ℕ) → is_done (raw_value p same glyph) ≡ true → (id : JobId)
+        → In (spec_of p same id) (after_raw p same (varies p same) glyph)
+        → Contains ((S p same) (job.Raw glyph)).added (spec_of p same id)
+    raw_adds glyph done id i = Contains-from_In ((S p same) (job.Raw glyph)).added
+        (spec_of p same id) (subst (λ ss. In (spec_of p same id) ss)
+        (sym (adds_these an.Raw (after_raw p same (varies p same) glyph)
+        ((S p same) (job.Raw glyph)) (raw_made glyph) done)) i)
+
     flat_added : (glyph : ℕ) → is_done (raw_value p same glyph) ≡ true
         → Contains ((S p same) (job.Raw glyph)).added (spec_of p same (job.Flat glyph))
-    flat_added glyph done = Contains-from_In ((S p same) (job.Raw glyph)).added
-        (spec_of p same (job.Flat glyph)) (subst (λ ss. In (spec_of p same (job.Flat glyph)) ss)
-        (sym (adds_these an.Raw (spec_with p same [] (job.Flat glyph) ∷ [])
-        ((S p same) (job.Raw glyph))
-        ((makes_raw p same) glyph ((items p same) (job.Raw glyph))) done)) (inl refl))
+    flat_added glyph done = raw_adds glyph done (job.Flat glyph) (inl refl)
 
-    founded_flat : (glyph : ℕ) → In glyph (numbers p same)
+    variations_added : (glyph : ℕ) → varies p same ≡ true
+        → is_done (raw_value p same glyph) ≡ true
+        → Contains ((S p same) (job.Raw glyph)).added (spec_of p same (job.Variations glyph))
+    variations_added glyph v done = raw_adds glyph done (job.Variations glyph) (inr
+        (subst (λ b. In (spec_of p same (job.Variations glyph))
+        (cond b (spec_with p same (of_glyph p same) (job.Variations glyph) ∷ []) []))
+        (sym v) (inl refl)))
+
+    founded_flat : (glyph : ℕ) → In glyph (exported p same)
         → is_done (raw_value p same glyph) ≡ true → Is (job.Flat glyph)
     unfolding Is
     founded_flat glyph i done = added (job.Flat glyph) (job.Raw glyph) (founded_raw glyph i)
@@ -296,11 +363,11 @@ module _ (p : Parts) (same : JobId → JobId → Bool) where
     simple_added glyph done = Contains-from_In ((S p same) (job.Flat glyph)).added
         (spec_of p same (job.Simple glyph))
         (subst (λ ss. In (spec_of p same (job.Simple glyph)) ss)
-        (sym (adds_these an.Flat (spec_with p same [] (job.Simple glyph) ∷ [])
+        (sym (adds_these an.Flat (spec_with p same (of_glyph p same) (job.Simple glyph) ∷ [])
         ((S p same) (job.Flat glyph))
         ((makes_flat p same) glyph ((items p same) (job.Flat glyph))) done)) (inl refl))
 
-    founded_simple : (glyph : ℕ) → In glyph (numbers p same)
+    founded_simple : (glyph : ℕ) → In glyph (exported p same)
         → is_done (flat_value p same glyph) ≡ true → Is (job.Simple glyph)
     unfolding Is
     founded_simple glyph i done = added (job.Simple glyph) (job.Flat glyph)
@@ -313,6 +380,24 @@ module _ (p : Parts) (same : JobId → JobId → Bool) where
           ]
         ]) (no_wait (job.Simple glyph) refl)
 
+    founded_variations : (glyph : ℕ) → There p same (job.Variations glyph)
+        → Is (job.Variations glyph)
+    unfolding Is
+    founded_variations glyph there =
+        let is = varied_in glyph there.0 in
+        added (job.Variations glyph) (job.Raw glyph) (founded_raw glyph is.0)
+        (variations_added glyph is.1 there.1)
+        (λ read c. elim (In-from_Contains (job.Header ∷ job.Index ∷ job.Flat glyph ∷ []) read c) [
+          | inl e ↦ subst Is e founded_header
+          | inr c ↦ elim c [
+            | inl e ↦ subst Is e founded_index
+            | inr c ↦ elim c [
+              | inl e ↦ subst Is e (founded_flat glyph is.0 there.1)
+              | inr n ↦ absurd n
+            ]
+          ]
+        ]) (no_wait (job.Variations glyph) refl)
+
     -- what is there of the strata of the source and of the glyphs
     founded_low : (id : JobId) → There p same id → stratum_of id ≤ 1 → Is id
     founded_low job.Tree there low = founded_tree
@@ -321,6 +406,7 @@ module _ (p : Parts) (same : JobId → JobId → Bool) where
     founded_low (job.Raw glyph) there low = founded_raw glyph there
     founded_low (job.Flat glyph) there low = founded_flat glyph there.0 there.1
     founded_low (job.Simple glyph) there low = founded_simple glyph there.0 there.1
+    founded_low (job.Variations glyph) there low = founded_variations glyph there
     founded_low job.Order there low = absurd (omega arith)
     founded_low job.Advances there low = absurd (omega arith)
     founded_low (job.Table tag) there low = absurd (omega arith)
@@ -328,20 +414,20 @@ module _ (p : Parts) (same : JobId → JobId → Bool) where
     founded_low _ there low = absurd there
 
     module _ (done : is_done (order_value p same) ≡ true) where
-      flats_founded : (id : JobId) → In id (map job.Flat (numbers p same)) → Is id
-      flats_founded id i = let m = In-map job.Flat (numbers p same) id i in
+      flats_founded : (id : JobId) → In id (map job.Flat (exported p same)) → Is id
+      flats_founded id i = let m = In-map job.Flat (exported p same) id i in
           subst Is m.2 (founded_flat m.0 m.1 (raw_done m.0 (flats_done done m.0 m.1)))
 
       order_added : Contains ((S p same) job.Index).added (spec_of p same job.Order)
       order_added = index_has (index_done done) (spec_of p same job.Order)
-          (In-append_right (map (λ g. spec_with p same (numbers p same) (job.Raw g))
-          (numbers p same)) (spec_of p same job.Order ∷ []) (spec_of p same job.Order) (inl refl))
+          (In-append_right (map (λ g. spec_with p same (of_glyph p same) (job.Raw g))
+          (exported p same)) (spec_of p same job.Order ∷ []) (spec_of p same job.Order) (inl refl))
 
       founded_order : Is job.Order
       unfolding Is
       founded_order = added job.Order job.Index founded_index order_added
           (λ read c. elim (In-from_Contains
-          (job.Header ∷ job.Index ∷ map job.Flat (numbers p same)) read c) [
+          (job.Header ∷ job.Index ∷ map job.Flat (exported p same)) read c) [
             | inl e ↦ subst Is e founded_header
             | inr c ↦ elim c [
               | inl e ↦ subst Is e founded_index
@@ -366,6 +452,7 @@ module _ (p : Parts) (same : JobId → JobId → Bool) where
       founded_below (job.Raw glyph) there low = founded_raw glyph there
       founded_below (job.Flat glyph) there low = founded_flat glyph there.0 there.1
       founded_below (job.Simple glyph) there low = founded_simple glyph there.0 there.1
+      founded_below (job.Variations glyph) there low = founded_variations glyph there
       founded_below job.Order there low = founded_order
       founded_below job.Advances there low = absurd (omega arith)
       founded_below (job.Table tag) there low = absurd (omega arith)
@@ -379,7 +466,7 @@ module _ (p : Parts) (same : JobId → JobId → Bool) where
       unfolding Is
       founded_advances = added job.Advances job.Order founded_order advances_has
           (λ read c. elim (In-from_Contains
-          (job.Header ∷ job.Order ∷ map job.Flat (numbers p same)) read c) [
+          (job.Header ∷ job.Order ∷ map job.Flat (exported p same)) read c) [
             | inl e ↦ subst Is e founded_header
             | inr c ↦ elim c [
               | inl e ↦ subst Is e founded_order
@@ -429,13 +516,20 @@ module _ (p : Parts) (same : JobId → JobId → Bool) where
           = founded_flat glyph there.0 (raw_done glyph there.1);
       adds = simple_added glyph there.1;
     })
+    least (job.Variations glyph) there =
+        let is = varied_in glyph there.0 in
+        inr (record {
+          maker = job.Raw glyph;
+          founded = founded_raw glyph is.0;
+          adds = variations_added glyph is.1 there.1;
+        })
     least job.Order there = inr (record {
       maker = job.Index;
       founded = founded_index;
       adds
           = index_has there (spec_of p same job.Order)
-          (In-append_right (map (λ g. spec_with p same (numbers p same) (job.Raw g))
-          (numbers p same)) (spec_of p same job.Order ∷ []) (spec_of p same job.Order) (inl refl));
+          (In-append_right (map (λ g. spec_with p same (of_glyph p same) (job.Raw g))
+          (exported p same)) (spec_of p same job.Order ∷ []) (spec_of p same job.Order) (inl refl));
     })
     least job.Advances there = inr (record {
       maker = job.Order;
@@ -463,13 +557,26 @@ module _ (p : Parts) (same : JobId → JobId → Bool) where
     table_ids = map job.Table p.tags
 
     abbrev raw_ids : List JobId
-    raw_ids = map job.Raw (numbers p same)
+    raw_ids = map job.Raw (exported p same)
 
     abbrev flat_ids : List JobId
-    flat_ids = map job.Flat (numbers p same)
+    flat_ids = map job.Flat (exported p same)
 
     abbrev simple_ids : List JobId
-    simple_ids = map job.Simple (numbers p same)
+    simple_ids = map job.Simple (exported p same)
+
+    abbrev variations_ids : List JobId
+    variations_ids = map job.Variations (varied p same)
+
+    abbrev glyph_ids : List JobId
+    glyph_ids = raw_ids ++ (flat_ids ++ (simple_ids ++ variations_ids))
+
+    -- behind the six that are always there
+    behind_six : (id : JobId) → In id (table_ids ++ glyph_ids) → In id (plan p same).universe
+    behind_six id i = inr (inr (inr (inr (inr (inr i)))))
+
+    of_glyphs : (id : JobId) → In id glyph_ids → In id (plan p same).universe
+    of_glyphs id i = behind_six id (In-append_right table_ids glyph_ids id i)
 
     In-universe : (id : JobId) → There p same id → In id (plan p same).universe
     In-universe job.Tree there = inl refl
@@ -478,23 +585,25 @@ module _ (p : Parts) (same : JobId → JobId → Bool) where
     In-universe job.Order there = inr (inr (inr (inl refl)))
     In-universe job.Advances there = inr (inr (inr (inr (inl refl))))
     In-universe job.Font there = inr (inr (inr (inr (inr (inl refl)))))
-    In-universe (job.Table tag) there = inr (inr (inr (inr (inr (inr
-        (In-append_left table_ids (raw_ids ++ (flat_ids ++ simple_ids)) (job.Table tag)
-        (map-In job.Table p.tags tag there.0)))))))
-    In-universe (job.Raw glyph) there = inr (inr (inr (inr (inr (inr
-        (In-append_right table_ids (raw_ids ++ (flat_ids ++ simple_ids)) (job.Raw glyph)
-        (In-append_left raw_ids (flat_ids ++ simple_ids) (job.Raw glyph)
-        (map-In job.Raw (numbers p same) glyph there))))))))
-    In-universe (job.Flat glyph) there = inr (inr (inr (inr (inr (inr
-        (In-append_right table_ids (raw_ids ++ (flat_ids ++ simple_ids)) (job.Flat glyph)
-        (In-append_right raw_ids (flat_ids ++ simple_ids) (job.Flat glyph)
-        (In-append_left flat_ids simple_ids (job.Flat glyph)
-        (map-In job.Flat (numbers p same) glyph there.0)))))))))
-    In-universe (job.Simple glyph) there = inr (inr (inr (inr (inr (inr
-        (In-append_right table_ids (raw_ids ++ (flat_ids ++ simple_ids)) (job.Simple glyph)
-        (In-append_right raw_ids (flat_ids ++ simple_ids) (job.Simple glyph)
-        (In-append_right flat_ids simple_ids (job.Simple glyph)
-        (map-In job.Simple (numbers p same) glyph there.0)))))))))
+    In-universe (job.Table tag) there = behind_six (job.Table tag)
+        (In-append_left table_ids glyph_ids (job.Table tag) (map-In job.Table p.tags tag there.0))
+    In-universe (job.Raw glyph) there = of_glyphs (job.Raw glyph)
+        (In-append_left raw_ids (flat_ids ++ (simple_ids ++ variations_ids)) (job.Raw glyph)
+        (map-In job.Raw (exported p same) glyph there))
+    In-universe (job.Flat glyph) there = of_glyphs (job.Flat glyph)
+        (In-append_right raw_ids (flat_ids ++ (simple_ids ++ variations_ids)) (job.Flat glyph)
+        (In-append_left flat_ids (simple_ids ++ variations_ids) (job.Flat glyph)
+        (map-In job.Flat (exported p same) glyph there.0)))
+    In-universe (job.Simple glyph) there = of_glyphs (job.Simple glyph)
+        (In-append_right raw_ids (flat_ids ++ (simple_ids ++ variations_ids)) (job.Simple glyph)
+        (In-append_right flat_ids (simple_ids ++ variations_ids) (job.Simple glyph)
+        (In-append_left simple_ids variations_ids (job.Simple glyph)
+        (map-In job.Simple (exported p same) glyph there.0))))
+    In-universe (job.Variations glyph) there = of_glyphs (job.Variations glyph)
+        (In-append_right raw_ids (flat_ids ++ (simple_ids ++ variations_ids)) (job.Variations glyph)
+        (In-append_right flat_ids (simple_ids ++ variations_ids) (job.Variations glyph)
+        (In-append_right simple_ids variations_ids (job.Variations glyph)
+        (map-In job.Variations (varied p same) glyph there.0))))
     In-universe _ there = absurd there
 
     -- ---- strata
@@ -507,18 +616,32 @@ module _ (p : Parts) (same : JobId → JobId → Bool) where
     above_maker job.Header s i = omega arith
     above_maker job.Index s i = omega arith
     above_maker (job.Raw glyph) s i =
-        let a = adds_some an.Raw (spec_with p same [] (job.Flat glyph) ∷ [])
-        ((S p same) (job.Raw glyph))
-        ((makes_raw p same) glyph ((items p same) (job.Raw glyph))) s i in
-        elim a.1 [ inl e ↦ subst (IsAbove (job.Raw glyph)) e (omega arith) | inr n ↦ absurd n ]
+        let a = adds_some an.Raw (after_raw p same (varies p same) glyph)
+        ((S p same) (job.Raw glyph)) (raw_made glyph) s i in
+        elim a.1 [
+          | inl e ↦ subst (IsAbove (job.Raw glyph)) e (omega arith)
+          | inr more ↦ by (varies p same) more
+        ]
+      where
+        by : (b : Bool)
+            → In s (cond b (spec_with p same (of_glyph p same) (job.Variations glyph) ∷ []) [])
+            → IsAbove (job.Raw glyph) s
+        by true j = elim j [
+          | inl e ↦ subst (IsAbove (job.Raw glyph)) e (omega arith)
+          | inr none ↦ absurd none
+        ]
+        by false j = absurd j
     above_maker (job.Flat glyph) s i =
-        let a = adds_some an.Flat (spec_with p same [] (job.Simple glyph) ∷ [])
+        let a = adds_some an.Flat (spec_with p same (of_glyph p same) (job.Simple glyph) ∷ [])
         ((S p same) (job.Flat glyph))
         ((makes_flat p same) glyph ((items p same) (job.Flat glyph))) s i in
         elim a.1 [ inl e ↦ subst (IsAbove (job.Flat glyph)) e (omega arith) | inr n ↦ absurd n ]
     above_maker (job.Simple glyph) s i = absurd
         (leaf_adds ((S p same) (job.Simple glyph))
         ((leaf_simple p same) glyph ((items p same) (job.Simple glyph))) s i)
+    above_maker (job.Variations glyph) s i = absurd
+        (leaf_adds ((S p same) (job.Variations glyph))
+        ((leaf_variations p same) glyph ((items p same) (job.Variations glyph))) s i)
     above_maker job.Order s i =
         let a = adds_some an.Order (after_order p same (numbers p same)) ((S p same) job.Order)
         order_made s i
@@ -565,9 +688,9 @@ module _ (p : Parts) (same : JobId → JobId → Bool) where
     abbrev IsBelow : ℕ → JobId → Type 0
     IsBelow n id = stratum_of id ≤ n
 
-    flats_below : (n : ℕ) → 1 ≤ n → (id : JobId) → In id (map job.Flat (numbers p same))
+    flats_below : (n : ℕ) → 1 ≤ n → (id : JobId) → In id (map job.Flat (exported p same))
         → IsBelow n id
-    flats_below n low id i = let m = In-map job.Flat (numbers p same) id i in
+    flats_below n low id i = let m = In-map job.Flat (exported p same) id i in
         subst (IsBelow n) m.2 low
 
     above_reads : (id read : JobId) → In read (reads_with p same (numbers p same) id)
@@ -609,20 +732,35 @@ module _ (p : Parts) (same : JobId → JobId → Bool) where
         | inr i ↦ flats_below 3 (omega arith) read i
       ]
     ]
+    above_reads (job.Variations glyph) read i = elim i [
+      | inl e ↦ subst (IsBelow 1) e (omega arith)
+      | inr i ↦ elim i [
+        | inl e ↦ subst (IsBelow 1) e (omega arith)
+        | inr i ↦ elim i [ inl e ↦ subst (IsBelow 1) e (omega arith) | inr n ↦ absurd n ]
+      ]
+    ]
     above_reads (job.Table tag) read i = elim i [
       | inl e ↦ subst (IsBelow 4) e (omega arith)
       | inr i ↦ elim i [
         | inl e ↦ subst (IsBelow 4) e (omega arith)
-        | inr i ↦ by_kind (p.is_of_outlines tag) i
+        | inr i ↦ by_needs (p.needs tag) i
       ]
     ]
       where
-        by_kind : (b : Bool)
-            → In read (cond b (map job.Simple (numbers p same)) (job.Advances ∷ []))
-            → IsBelow 4 read
-        by_kind true i = let m = In-map job.Simple (numbers p same) read i in
+        by_needs : (needs : Needs) → In read (needed (numbers p same) needs) → IsBelow 4 read
+        by_needs Nothing i = absurd i
+        by_needs TheIndex i = elim i
+            [ inl e ↦ subst (IsBelow 4) e (omega arith) | inr n ↦ absurd n ]
+        by_needs TheMeasures i = elim i
+            [ inl e ↦ subst (IsBelow 4) e (omega arith) | inr n ↦ absurd n ]
+        by_needs TheMeasuresAndIndex i = elim i [
+          | inl e ↦ subst (IsBelow 4) e (omega arith)
+          | inr i ↦ elim i [ inl e ↦ subst (IsBelow 4) e (omega arith) | inr n ↦ absurd n ]
+        ]
+        by_needs TheOutlines i = let m = In-map job.Simple (exported p same) read i in
             subst (IsBelow 4) m.2 (omega arith)
-        by_kind false i = elim i [ inl e ↦ subst (IsBelow 4) e (omega arith) | inr n ↦ absurd n ]
+        by_needs TheVariations i = let m = In-map job.Variations (varied p same) read i in
+            subst (IsBelow 4) m.2 (omega arith)
     above_reads job.Font read i = let m = In-map job.Table p.tags read i in
         subst (IsBelow 5) m.2 (omega arith)
     above_reads _ read i = absurd i

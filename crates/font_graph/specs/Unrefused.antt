@@ -1,17 +1,20 @@
 -- Where no job of a source fails its font is made: each part is asked, and answers. Lemmas.
-use Rattle.std.proofs.Common.{◌≡◌, ℕ, true, Result, Ok, Err, refl, sym, ◌∙◌}
+use Rattle.std.proofs.Common.{◌≡◌, ℕ, true, Result, Ok, Err, refl, sym, ◌∙◌, subst}
 use Rattle.refusal_codes.specs.declared.refusal.Refusal.{Refusal}
 use Rattle.access_context.specs.Plain.{Done, is_done}
 use Rattle.font_ir.specs.declared.tag.Tag.{Tag}
 use Rattle.job_graph.specs.Members.{In}
 use Rattle.font_graph.specs.Parts.{Parts}
 use Rattle.font_graph.specs.Fonts.{IsFontOf}
-use Rattle.font_graph.specs.Graph.{Item, settle, none, numbers, value_of, There, tree_value}
+use Rattle.font_graph.specs.Graph.{Item, settle, none, exported, varied, varied_of, value_of, There}
+use Rattle.font_graph.specs.Graph.{tree_value, variations_value}
 use Rattle.font_graph.specs.Graph.{header_value, index_value, raw_value, flat_value, simple_value}
 use Rattle.font_graph.specs.Graph.{order_value, advances_value, table_value, font_value}
 use Rattle.font_graph.specs.Made.{plain_of, settle_value, answered, of_answer, is_done_by, tree_by}
 use Rattle.font_graph.specs.Made.{header_by, index_by, raw_by, flat_by, simple_by, order_by}
-use Rattle.font_graph.specs.Made.{advances_by, font_by, in_numbers, drawings, writings, tables_of}
+use Rattle.font_graph.specs.Made.{advances_by, font_by, in_numbers, drawings, writings, varyings}
+use Rattle.font_graph.specs.Made.{variations_by, varied_are, tables_of}
+use Rattle.font_graph.specs.Solved.{varied_in}
 use Rattle.font_graph.specs.Same.{same_id, identity}
 use Rattle.font_graph.specs.Fails.{Fails}
 use Rattle.font_graph.specs.Values.{Source, tree_is, header_is, index_is, Drawn, flats_are, Ordered}
@@ -40,13 +43,13 @@ module _ (p : Parts) (sound : (id : JobId) (r : Refusal) → Fails p id r → �
   module _ (s : Source p) where
     -- ---- the glyphs
 
-    raw_done : (glyph : ℕ) → In glyph (numbers p same_id)
+    raw_done : (glyph : ℕ) → In glyph (exported p same_id)
         → is_done (raw_value p same_id glyph) ≡ true
     raw_done glyph i = answers an.Raw (p.raw s.tree s.header s.index glyph) (job.Raw glyph) i
         (raw_by p same_id identity s.tree (tree_is p s) s.header s.index (header_is p s)
         (index_is p s) glyph)
 
-    raw_at : (glyph : ℕ) → In glyph (numbers p same_id)
+    raw_at : (glyph : ℕ) → In glyph (exported p same_id)
         → (raw : p.Raw) × (raw_value p same_id glyph ≡ Done (an.Raw raw))
     raw_at glyph i =
         let raw = answered p same_id identity an.Raw (p.raw s.tree s.header s.index glyph)
@@ -59,14 +62,14 @@ module _ (p : Parts) (sound : (id : JobId) (r : Refusal) → Fails p id r → �
     flat_by_raw = flat_by p same_id identity s.tree (tree_is p s) s.header s.index (header_is p s)
         (index_is p s)
 
-    flat_done : (glyph : ℕ) → In glyph (numbers p same_id)
+    flat_done : (glyph : ℕ) → In glyph (exported p same_id)
         → is_done (flat_value p same_id glyph) ≡ true
     flat_done glyph i =
         let raw = raw_at glyph i in
         answers an.Flat (p.flat raw.0 s.index) (job.Flat glyph) (i, raw_done glyph i)
         (flat_by_raw glyph raw.0 raw.1)
 
-    flat_at : (glyph : ℕ) → In glyph (numbers p same_id)
+    flat_at : (glyph : ℕ) → In glyph (exported p same_id)
         → (flat : p.Flat) × (flat_value p same_id glyph ≡ Done (an.Flat flat))
     flat_at glyph i =
         let raw = raw_at glyph i in
@@ -74,7 +77,7 @@ module _ (p : Parts) (sound : (id : JobId) (r : Refusal) → Fails p id r → �
         (flat_value p same_id glyph) (flat_by_raw glyph raw.0 raw.1) (flat_done glyph i) in
         (flat.0, flat.2)
 
-    simple_done : (glyph : ℕ) → In glyph (numbers p same_id)
+    simple_done : (glyph : ℕ) → In glyph (exported p same_id)
         → is_done (simple_value p same_id glyph) ≡ true
     simple_done glyph i =
         let flat = flat_at glyph i in
@@ -82,7 +85,23 @@ module _ (p : Parts) (sound : (id : JobId) (r : Refusal) → Fails p id r → �
         (simple_by p same_id identity s.tree (tree_is p s) s.header s.index (header_is p s)
         (index_is p s) glyph flat.0 flat.1)
 
-    known : (glyph : ℕ) → In glyph (p.numbers s.index) → In glyph (numbers p same_id)
+    variations_done : (glyph : ℕ) → In glyph (varied p same_id)
+        → is_done (variations_value p same_id glyph) ≡ true
+    variations_done glyph i =
+        let exported_so = (varied_in p same_id glyph i).0 in
+        let flat = flat_at glyph exported_so in
+        answers an.Variations (p.variations s.header s.index flat.0) (job.Variations glyph)
+        (i, raw_done glyph exported_so)
+        (variations_by p same_id identity s.tree (tree_is p s) s.header s.index (header_is p s)
+        (index_is p s) glyph flat.0 flat.1)
+
+    known_varied : (glyph : ℕ)
+        → In glyph (varied_of (p.is_variable s.header) (p.numbers s.index))
+        → In glyph (varied p same_id)
+    known_varied glyph i = subst (λ ns. In glyph ns) (varied_are p same_id identity s.tree
+        (tree_is p s) s.header s.index (header_is p s) (index_is p s)) i
+
+    known : (glyph : ℕ) → In glyph (p.numbers s.index) → In glyph (exported p same_id)
     known = in_numbers p same_id identity s.tree (tree_is p s) s.header s.index (header_is p s)
         (index_is p s)
 
@@ -124,6 +143,7 @@ module _ (p : Parts) (sound : (id : JobId) (r : Refusal) → Fails p id r → �
                   index = s.index;
                   flats = d.flats;
                   parts = w.parts;
+                  variations = w.variations;
                   order = o.order;
                   measures = w.measures;
                   tables = t.tables;
@@ -132,6 +152,7 @@ module _ (p : Parts) (sound : (id : JobId) (r : Refusal) → Fails p id r → �
                   index_read = s.index_read;
                   glyphs_drawn = d.glyphs_drawn;
                   glyphs_written = w.glyphs_written;
+                  glyphs_varied = w.glyphs_varied;
                   glyphs_ordered = o.glyphs_ordered;
                   glyphs_measured = w.glyphs_measured;
                   tables_made = t.tables_made;
@@ -155,11 +176,16 @@ module _ (p : Parts) (sound : (id : JobId) (r : Refusal) → Fails p id r → �
             let written = writings p same_id identity s.tree (tree_is p s) s.header s.index
             (header_is p s) (index_is p s) (p.numbers s.index) d.flats (flats_are p s d)
             (λ glyph i. simple_done glyph (known glyph i)) in
+            let varying_so = varyings p same_id identity s.tree (tree_is p s) s.header s.index
+            (header_is p s) (index_is p s) (p.numbers s.index) d.flats (flats_are p s d)
+            (λ glyph i. variations_done glyph (known_varied glyph i)) in
             with_parts (record {
               measures = measures.0;
               parts = written.parts;
+              variations = varying_so.variations;
               glyphs_measured = measures.1;
               glyphs_written = written.written_are;
+              glyphs_varied = varying_so.varied_are;
             })
 
       with_glyphs : Made

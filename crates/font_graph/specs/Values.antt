@@ -5,11 +5,12 @@ use Rattle.refusal_codes.specs.declared.refusal.Refusal.{Refusal}
 use Rattle.access_context.specs.Plain.{Done}
 use Rattle.font_ir.specs.declared.tag.Tag.{Tag}
 use Rattle.font_graph.specs.Parts.{Parts}
-use Rattle.font_graph.specs.Fonts.{AllMade, drawn, table}
+use Rattle.font_graph.specs.Fonts.{AllMade, drawn, varying, table}
 use Rattle.font_graph.specs.Graph.{Item, tree_value, header_value, index_value, order_value}
-use Rattle.font_graph.specs.Graph.{advances_value, table_value}
+use Rattle.font_graph.specs.Graph.{advances_value, table_value, varied_of}
 use Rattle.font_graph.specs.Made.{plain_of, of_answer, tree_by, header_by, index_by, Valued}
-use Rattle.font_graph.specs.Made.{order_by, advances_by, table_by, all_drawn, all_written, all_made}
+use Rattle.font_graph.specs.Made.{order_by, advances_by, table_by, all_drawn, all_written, all_varied}
+use Rattle.font_graph.specs.Made.{all_made}
 use Rattle.font_graph.specs.Same.{same_id, identity}
 use Rattle.font_graph.specs.declared.ids.JobId.{JobId}
 use Rattle.font_graph.specs.declared.ids.JobId.TheVariants as job
@@ -68,8 +69,11 @@ module _ (p : Parts) where
         pub record Written : Type 0 where
           pub measures : p.Measures
           pub parts : List p.Data
+          pub variations : List p.Data
           pub glyphs_measured : p.measures s.header o.order d.flats ≡ Ok measures
           pub glyphs_written : AllMade (p.simple s.header) d.flats parts
+          pub glyphs_varied : AllMade (p.variations s.header s.index) (varying p s.header d.flats)
+              variations
 
         module _ (w : Written) where
           pub measures_are : advances_value p same_id ≡ Done (an.Advances w.measures)
@@ -82,13 +86,19 @@ module _ (p : Parts) where
           parts_are = all_written p same_id identity s.tree tree_is s.header s.index header_is
               index_is (p.numbers s.index) d.flats w.parts flats_are w.glyphs_written
 
+          pub variations_are : AreValued job.Variations an.Variations
+              (varied_of (p.is_variable s.header) (p.numbers s.index)) w.variations
+          variations_are = all_varied p same_id identity s.tree tree_is s.header s.index header_is
+              index_is (p.numbers s.index) d.flats w.variations flats_are w.glyphs_varied
+
           abbrev pub make_table : Tag → Result p.Table Refusal
-          make_table tag = table p s.header o.order w.measures w.parts tag
+          make_table tag = table p s.header s.index o.order w.measures w.parts w.variations tag
 
           pub tables_by : (tag : Tag)
               → table_value p same_id tag ≡ plain_of p same_id identity an.Table (make_table tag)
           tables_by = table_by p same_id identity s.tree tree_is s.header s.index header_is index_is
-              d.flats flats_are o.order order_is w.measures measures_are w.parts parts_are
+              d.flats flats_are o.order order_is w.measures measures_are w.parts w.variations parts_are
+              variations_are
 
           -- and the tables are made
           pub record Tabled : Type 0 where

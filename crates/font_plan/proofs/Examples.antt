@@ -19,6 +19,7 @@ use Rattle.font_plan.specs.Direct.{direct_font}
 use Rattle.font_plan.specs.Font.{font_of}
 use Rattle.font_plan.proofs.FontLaws.{all_made}
 use Rattle.font_plan.proofs.OnLiterals.{font_on_literals}
+use Rattle.font_plan.proofs.TablesOnLiterals.{tables_on_literals}
 
 abbrev lines : List (List ℕ) → List ℕ
 lines texts = flat_map (λ text. text ++ 10 ∷ []) texts
@@ -87,20 +88,31 @@ hex [] = []
 hex (c ∷ []) = []
 hex (high ∷ low ∷ others) = (16 * digit high + digit low) ∷ hex others
 
--- its font, of 280 bytes: the directory, and the tables in its order
+-- its font, of 728 bytes: the directory, and the tables in its order
 abbrev pub triangle_font : List ℕ
 triangle_font =
-    hex (codes "000100000006004000020020")
-    ++ hex (codes "676c79665cbacbf70000006c0000001c")
-    ++ hex (codes "68656164610a43a00000008800000036")
-    ++ hex (codes "686865610516012f000000c000000024")
-    ++ hex (codes "686d747803e80000000000e400000008")
-    ++ hex (codes "6c6f63610000001c000000ec0000000c")
-    ++ hex (codes "6d61787000040005000000f800000020")
+    hex (codes "00010000000a008000030020")
+    ++ hex (codes "4f532f325ca758e7000000ac00000060")
+    ++ hex (codes "636d6170000c00740000010c0000002c")
+    ++ hex (codes "676c79665cbacbf7000001380000001c")
+    ++ hex (codes "68656164610a43a00000015400000036")
+    ++ hex (codes "686865610516012f0000018c00000024")
+    ++ hex (codes "686d747803e80000000001b000000008")
+    ++ hex (codes "6c6f63610000001c000001b80000000c")
+    ++ hex (codes "6d61787000040005000001c400000020")
+    ++ hex (codes "6e616d650c54237e000001e4000000ca")
+    ++ hex (codes "706f737400a20173000002b000000028")
+    -- OS/2
+    ++ hex (codes "000401f4019000050000028a028a0000008c028a028a000001e0003201040000")
+    ++ hex (codes "00000000000000000000000000000000000000000000000000004e4f4e4500c0")
+    ++ hex (codes "004100410320ff380000032000c8000000000000000000000000000000200000")
+    -- cmap
+    ++ hex (codes "00000001000300010000000c00040020000000040004000100000041ffff0000")
+    ++ hex (codes "0041ffffffc0000100000000")
     -- glyf
     ++ hex (codes "00010000000001f402bc00020000130321fafa01f402bcfd44000000")
     -- head
-    ++ hex (codes "0001000000010000a9a0f7f25f0f3cf5000303e8000000000000000000000000")
+    ++ hex (codes "000100000001000044b77d0d5f0f3cf5000303e8000000000000000000000000")
     ++ hex (codes "000000000000000001f402bc000000060002000100000000")
     -- hhea
     ++ hex (codes "000100000320ff38000001f40000000001f40001000000000000000000000000")
@@ -111,6 +123,17 @@ triangle_font =
     ++ hex (codes "00000000000000000000001c")
     -- maxp
     ++ hex (codes "0001000000020003000100000000000200000000000000000000000000000000")
+    -- name
+    ++ hex (codes "00000006004e0003000104090001000600000003000104090002000e00060003")
+    ++ hex (codes "000104090003002200140003000104090004001600360003000104090005001a")
+    ++ hex (codes "004c0003000104090006001600660054007200690052006500670075006c0061")
+    ++ hex (codes "00720031002e003000300030003b005400720069002d0052006500670075006c")
+    ++ hex (codes "0061007200540072006900200052006500670075006c00610072005600650072")
+    ++ hex (codes "00730069006f006e00200031002e003000300030005400720069002d00520065")
+    ++ hex (codes "00670075006c006100720000")
+    -- post
+    ++ hex (codes "0002000000000000ff9c00320000000000000000000000000000000000000000")
+    ++ hex (codes "0002000001020141")
 
 -- the source, the same without its last line feed, and with a coordinate that has a fraction of
 -- zero. With keys that mean nothing here, a fourth value in a node and a layer of no master. With a
@@ -133,7 +156,7 @@ worked =
     ∷ []
 
 defined : map direct_font worked ≡ replicate 7 (Ok triangle_font)
-unfolding font_on_literals
+unfolding font_on_literals tables_on_literals
 defined = refl
 
 -- all of them have this font, which their jobs make as it is defined
@@ -161,7 +184,7 @@ pub fronts_refused : are_fonts (
     ∷ (take 257 triangle_source, of_text UnexpectedEnd 257)
     ∷ ((triangle_source ++ codes "end"), of_text TrailingText 259)
     ∷ [])
-unfolding font_on_literals
+unfolding font_on_literals tables_on_literals
 fronts_refused = refl
 
 -- text behind a dictionary, a key that stands twice, an escape that is none, a list without an end,
@@ -177,7 +200,7 @@ pub texts_refused : are_fonts (
     ∷ (replicate 65 40, of_text TooDeep 64)
     ∷ (codes "{}", refused HEADER [] MissingKey 0)
     ∷ [])
-unfolding font_on_literals
+unfolding font_on_literals tables_on_literals
 texts_refused = refl
 
 -- an em of 15 units, a name that stands twice and a code that does
@@ -194,7 +217,7 @@ pub parts_refused : are_fonts (
           DuplicateUnicode 237,
     )
     ∷ [])
-unfolding font_on_literals
+unfolding font_on_literals tables_on_literals
 parts_refused = refl
 
 -- the letter's source with another version or other masters
@@ -213,7 +236,7 @@ pub masters_refused : are_fonts (
     )
     ∷ (letter_under (codes "3") (master (codes "m2") []), of_letter MissingLayer 82)
     ∷ [])
-unfolding font_on_literals
+unfolding font_on_literals tables_on_literals
 masters_refused = refl
 
 -- a cubic node, an open contour, no width, a fraction and a coordinate that is too large
@@ -243,14 +266,14 @@ pub glyphs_refused : are_fonts ((
       of_letter CoordinateTooLarge 171,
     )
     ∷ [])
-unfolding font_on_literals
+unfolding font_on_literals tables_on_literals
 glyphs_refused = refl
 
 -- the greatest coordinate
 pub greatest_accepted : is_ok (font_of (thousand
     (letter_with (codes "1") (codes "(16383,0,l)") (codes "(250,700,l)")
     (codes "width = 500;" ∷ [])))) ≡ true
-unfolding font_on_literals
+unfolding font_on_literals tables_on_literals
 greatest_accepted = refl
 
 -- ---- of two failures the least is told
@@ -277,10 +300,10 @@ pub least_told : are_fonts ((
     )
     ∷ (both_glyphs, of_letter OpenContour 292)
     ∷ [])
-unfolding font_on_literals
+unfolding font_on_literals tables_on_literals
 least_told = refl
 
 -- while the direct definition stops at the first that it meets
 pub first_met : direct_font both_glyphs ≡ refused RAW (codes "B") CubicNode 181
-unfolding font_on_literals
+unfolding font_on_literals tables_on_literals
 first_met = refl

@@ -5,18 +5,18 @@ use Rattle.font_graph.specs.Judged.{verdict_accepts}
 use Rattle.font_plan.specs.Direct.{direct_font}
 use Rattle.font_plan.specs.Font.{font_of}
 use Rattle.font_plan.specs.Jobs.{parts}
-use Rattle.font_plan.proofs.Faces.{graph_direct, direct_graph}
+use Rattle.font_graph.specs.Direct.{direct_made, made_direct}
 
 pub font_direct : (source font : List ℕ) → font_of source ≡ Ok font → direct_font source ≡ Ok font
-unfolding font_of
+unfolding font_of direct_font
 font_direct source font e =
-    graph_direct source font ((verdict_accepts (parts source) font).0 e)
+    made_direct (parts source) font ((verdict_accepts (parts source) font).0 e)
 
 pub direct_is_font : (source font : List ℕ) → direct_font source ≡ Ok font
     → font_of source ≡ Ok font
-unfolding font_of
+unfolding font_of direct_font
 direct_is_font source font e =
-    (verdict_accepts (parts source) font).1 (direct_graph source font e)
+    (verdict_accepts (parts source) font).1 (direct_made (parts source) font e)
 
 -- sources that all have one font
 pub all_made : (font : List ℕ) (sources : List (List ℕ))

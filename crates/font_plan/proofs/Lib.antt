@@ -1,15 +1,9 @@
 pub mod AcceptedLaws
-pub mod DirectMade
-pub mod DrawnLaws
+pub mod Characters
+pub mod Data
 pub mod Examples
-pub mod Faces
-pub mod FacesGlyphs
-pub mod FacesTables
-pub mod Failures
 pub mod FontLaws
 pub mod Found
-pub mod InOrder
-pub mod JobFailures
 pub mod Judgement
 pub mod Loops
 pub mod Made
@@ -17,8 +11,8 @@ pub mod Names
 pub mod NoFailure
 pub mod OnLiterals
 pub mod Orders
-pub mod PartRefusals
 pub mod Runs
 pub mod Steps
 pub mod Tabled
+pub mod TablesOnLiterals
 pub mod TooLarge

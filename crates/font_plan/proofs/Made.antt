@@ -1,5 +1,6 @@
 -- What is known of a glyph that was read or drawn: its number, and where it stands.
-use Rattle.std.proofs.Common.{◌≡◌, ℕ, ◌<◌, ◌+◌, List, [], ◌∷◌, map, length, Option, Some, None}
+use Rattle.std.proofs.Common.{◌≡◌, ℕ, ◌<◌, ◌+◌, List, [], ◌∷◌, map, length, Option, Some}
+use Rattle.std.proofs.Common.{None}
 use Rattle.std.proofs.Common.{Result, Ok, Err, refl, sym, ap, ◌∙◌, inl, inr, subst, arith, Bool}
 use Rattle.std.proofs.Common.{true, false}
 use Rattle.std.specs.Prelude.{slice_get, if◌then◌else◌}
@@ -13,14 +14,18 @@ use Rattle.plist_reader.specs.declared.tree.Tree.{Tree}
 use Rattle.font_ir.specs.declared.header.Header.{Header}
 use Rattle.font_ir.specs.declared.glyph.GlyphIr.{GlyphIr}
 use Rattle.font_ir.specs.declared.glyph.FlatGlyph.{FlatGlyph}
-use Rattle.glyphs_layers.specs.GlyphReading.{built_glyph_of, judged_glyph, glyph_record, glyph_in}
 use Rattle.glyphs_layers.specs.GlyphPlaces.{places_of}
+use Rattle.glyphs_layers.specs.GlyphReading.{built_glyph_of, judged_glyph, glyph_record, glyph_in}
 use Rattle.glyphs_layers.specs.MastersAlone.{masters_places}
+use Rattle.glyphs_source.specs.BuiltHeaders.{built_header_of}
+use Rattle.glyphs_source.specs.HeaderReading.{IsReadHeader}
 use Rattle.component_flatten.specs.Flattening.{flat_of, flat_record, limit_failures}
 use Rattle.metrics_tables.specs.Measuring.{HasMastersPlaces}
 use Rattle.job_graph.specs.Members.{In, In-append_cases}
-use Rattle.font_plan.specs.Direct.{Entry, is_notdef, is_other, others_from, notdef_from}
-use Rattle.font_plan.specs.Jobs.{raw_at, raw_in, flat_at, flat_in, number_of, numbers_in}
+use Rattle.character_codes.specs.CharacterCodes.{Entry}
+use Rattle.font_plan.specs.Order.{is_notdef, is_other, others_from, notdef_from}
+use Rattle.font_plan.specs.Jobs.{raw_at, raw_in, flat_at, flat_in}
+use Rattle.font_plan.specs.Order.{number_of, numbers_in}
 
 -- ---- a glyph that was read
 
@@ -85,31 +90,68 @@ flat_record_places : (index : List Entry) (raw : GlyphIr)
 unfolding flat_record
 flat_record_places index raw = refl
 
-flat_places : (raw : GlyphIr) (index : List Entry) (flat : FlatGlyph)
-    → flat_in raw index ≡ Ok flat → flat.places ≡ raw.places
-flat_places raw index flat e = at (slice_get index raw.number) e
+flat_record_number : (index : List Entry) (raw : GlyphIr)
+    → (flat_record index raw []).number ≡ raw.number
+unfolding flat_record
+flat_record_number index raw = refl
+
+-- what is drawn of a glyph keeps its places and its number
+record IsFlatOf (index : List Entry) (raw : GlyphIr) (flat : FlatGlyph) : Type 0 where
+  places : flat.places ≡ raw.places
+  number : flat.number ≡ raw.number
+
+flat_known : (raw : GlyphIr) (index : List Entry) (flat : FlatGlyph)
+    → flat_in raw index ≡ Ok flat → IsFlatOf index raw flat
+flat_known raw index flat e = at (slice_get index raw.number) e
   where
-    at : (entry : Option Entry) → flat_at raw index entry ≡ Ok flat → flat.places ≡ raw.places
+    at : (entry : Option Entry) → flat_at raw index entry ≡ Ok flat → IsFlatOf index raw flat
     at None f = absurd cc
-    at (Some entry) f =
-        sym (ap (λ (g : FlatGlyph). g.places) (flat_record_is index entry.0 raw flat f))
-        ∙ flat_record_places index raw
+    at (Some entry) f = record {
+      places = sym (ap (λ (g : FlatGlyph). g.places) (flat_record_is index entry.0 raw flat f))
+          ∙ flat_record_places index raw;
+      number = sym (ap (λ (g : FlatGlyph). g.number) (flat_record_is index entry.0 raw flat f))
+          ∙ flat_record_number index raw;
+    }
 
-pub has_places : (tree : Tree) (header : Header) (index : List Entry) (number : ℕ) (raw : GlyphIr)
-    (flat : FlatGlyph) → header.axes ≡ [] → raw_in tree header index number ≡ Ok raw
-    → flat_in raw index ≡ Ok flat → HasMastersPlaces header flat
-has_places tree header index number raw flat none e f =
-    flat_places raw index flat f ∙ raw_places tree header index number raw none e
+-- a glyph that was read and drawn so
+pub record IsDrawnSo (tree : Tree) (header : Header) (index : List Entry) (number : ℕ)
+    (raw : GlyphIr) (flat : FlatGlyph) : Type 0 where
+  pub header_read : built_header_of tree ≡ Ok header
+  pub raw_made : raw_in tree header index number ≡ Ok raw
+  pub flat_made : flat_in raw index ≡ Ok flat
 
-pub drawn_places : (tree : Tree) (header : Header) (index : List Entry) (number : ℕ)
-    (flat : FlatGlyph) → header.axes ≡ []
+-- what is known of each header that is read
+abbrev pub HeadersHaveOneMaster : Type 0
+HeadersHaveOneMaster = (tree : Tree) (header : Header) → built_header_of tree ≡ Ok header
+    → IsReadHeader header
+
+-- it stands at the masters
+pub has_places : HeadersHaveOneMaster → (tree : Tree) (header : Header) (index : List Entry)
+    (number : ℕ) (raw : GlyphIr) (flat : FlatGlyph)
+    → IsDrawnSo tree header index number raw flat → HasMastersPlaces header flat
+has_places static tree header index number raw flat d =
+    (flat_known raw index flat d.flat_made).places
+    ∙ raw_places tree header index number raw (static tree header d.header_read).no_axes d.raw_made
+
+-- it is the glyph of its number
+pub drawn_number : (tree : Tree) (header : Header) (index : List Entry) (number : ℕ)
+    (raw : GlyphIr) (flat : FlatGlyph) → IsDrawnSo tree header index number raw flat
+    → (flat.number ≡ number) × (number < length index)
+drawn_number tree header index number raw flat d =
+    let known = raw_known tree header index number raw d.raw_made in
+    ((flat_known raw index flat d.flat_made).number ∙ known.number_is, known.within)
+
+-- what is drawn was read first
+pub read_first : (tree : Tree) (header : Header) (index : List Entry) (number : ℕ)
+    (flat : FlatGlyph) → built_header_of tree ≡ Ok header
     → (raw_in tree header index number >>= λ raw. flat_in raw index) ≡ Ok flat
-    → HasMastersPlaces header flat
-drawn_places tree header index number flat none e = by (raw_in tree header index number) refl e
+    → (raw : GlyphIr) × IsDrawnSo tree header index number raw flat
+read_first tree header index number flat read e = by (raw_in tree header index number) refl e
   where
     by : (r : Result GlyphIr Refusal) → raw_in tree header index number ≡ r
-        → (r >>= λ raw. flat_in raw index) ≡ Ok flat → HasMastersPlaces header flat
-    by (Ok raw) is f = has_places tree header index number raw flat none is f
+        → (r >>= λ raw. flat_in raw index) ≡ Ok flat
+        → (raw : GlyphIr) × IsDrawnSo tree header index number raw flat
+    by (Ok raw) is f = (raw, record { header_read = read; raw_made = is; flat_made = f })
     by (Err refusal) is f = absurd cc
 
 -- ---- the numbers of a font's glyphs are those of glyphs of the index

@@ -12,7 +12,8 @@ use Rattle.refusal_codes.specs.declared.limits.TheConstants.{NAME_BYTES}
 use Rattle.font_ir.specs.Glyphs.{gid_of}
 use Rattle.font_ir.specs.Headers.{IsNameLong}
 use Rattle.glyphs_source.specs.IndexReading.{AreNamed}
-use Rattle.font_plan.specs.Direct.{Entry, is_notdef, is_other, others_from}
+use Rattle.character_codes.specs.CharacterCodes.{Entry}
+use Rattle.font_plan.specs.Order.{is_notdef, is_other, others_from}
 
 -- ---- a name has no place among names that it is none of
 

@@ -19,7 +19,8 @@ use Rattle.font_assembly.specs.File.{unadjusted_file, file}
 use Rattle.metrics_tables.specs.Tables.{head_table, hhea_table, maxp_table}
 use Rattle.font_graph.specs.Graph.{on, settle}
 use Rattle.font_graph.specs.Verdicts.{verdict}
-use Rattle.font_plan.specs.Direct.{drawn_of, glyphs_in, written, tree_font, direct_font}
+use Rattle.font_graph.specs.Direct.{direct}
+use Rattle.font_plan.specs.Direct.{direct_font}
 use Rattle.font_plan.specs.Font.{font_of}
 use Rattle.font_plan.specs.Jobs.{tree_of}
 
@@ -29,6 +30,6 @@ unfolding is_utf8 chars utf8_valid_len encode is_space is_word octal_value hex_v
     text_ended unexpected_rule text_begun bracket_opened value_begun list_closed dictionary_closed
     between in_word in_quoted in_bytes in_half step whole finish read_of header_on_literals
     index_on_literals glyphs_on_literals flat_record flat_of total entry_selector directory_head
-    directory_entry unadjusted_file file head_table hhea_table maxp_table drawn_of glyphs_in written
-    tree_font direct_font on settle verdict tree_of font_of
+    directory_entry unadjusted_file file head_table hhea_table maxp_table direct
+    direct_font on settle verdict tree_of font_of
 font_on_literals = tt

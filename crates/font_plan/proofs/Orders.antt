@@ -8,8 +8,15 @@ use Rattle.std.specs.List.{All, AllByRecursion}
 use Rattle.std.specs.Option.{option_map}
 use Rattle.std.proofs.lemmas.List.{length-map}
 use Rattle.font_graph.specs.Graph.{all_of}
-use Rattle.font_plan.specs.Direct.{Entry, others_from, notdef_from, order_in}
-use Rattle.font_plan.specs.Jobs.{number_of, numbers_in, behind_made}
+use Rattle.character_codes.specs.CharacterCodes.{Entry}
+use Rattle.font_plan.specs.Order.{others_from, notdef_from, order_in}
+use Rattle.font_plan.specs.Order.{number_of, numbers_in, behind_made, order_or_refused}
+use Rattle.font_plan.specs.Order.{too_many_glyphs}
+use Rattle.refusal_codes.specs.declared.limits.TheConstants.{GLYPHS}
+use Rattle.std.proofs.lemmas.Bool.Decides.{nat_tests}
+use Rattle.std.specs.Prelude.{if◌then◌else◌, nat_lt}
+use Rattle.std.proofs.Common.{◌≤◌, Bool, true, false, Ok, Err}
+use Rattle.font_ir.specs.Glyphs.{Glyphs}
 use Rattle.font_plan.specs.Reading.{number_read}
 
 -- ---- lists
@@ -168,3 +175,23 @@ made_count index e = by (notdef_from 0 index) e
         → length (numbers first (others_from 0 index)) + 1 ≡ length (order_in index).names
     by None f = omega (arith, count_others (others_from 0 index))
     by (Some glyph) f = absurd cc
+
+-- no more numbers than names, and no more names than a font may have
+pub numbers_few : (index : List Entry)
+    → length (numbers_in index) ≤ length (order_in index).names
+numbers_few index = by (notdef_from 0 index)
+  where
+    by : (first : Option (ℕ × Entry))
+        → length (numbers first (others_from 0 index)) ≤ length (order_in index).names
+    by None = omega (arith, count_others (others_from 0 index))
+    by (Some glyph) = omega (arith, count_others (others_from 0 index))
+
+pub order_few : (index : List Entry) (order : Glyphs) → order_or_refused index ≡ Ok order
+    → length (order_in index).names ≤ GLYPHS
+order_few index order e = by (nat_lt GLYPHS (length (order_in index).names)) refl e
+  where
+    by : (b : Bool) → nat_lt GLYPHS (length (order_in index).names) ≡ b
+        → (if b then Err (too_many_glyphs (length (order_in index).names))
+        else Ok (order_in index)) ≡ Ok order → length (order_in index).names ≤ GLYPHS
+    by true is f = absurd cc
+    by false is f = grind (arith, nat_tests)

@@ -1,6 +1,11 @@
 -- What comes of a job by what its part answers, in the words of the graph.
-use Rattle.std.proofs.Common.{◌≡◌, ℕ, List, [], ◌∷◌, Option, Some, Result, Ok, Err, true, false}
-use Rattle.std.proofs.Common.{refl, sym, ◌∙◌}
+use Rattle.std.proofs.Common.{◌≡◌, ℕ, List, [], ◌∷◌, Option, Some, Result, Ok, Err}
+use Rattle.std.proofs.Common.{refl, sym, ap, ◌∙◌, subst}
+use Rattle.std.specs.Prelude.{Vec}
+use Rattle.std.specs.Option.{option_map}
+use Rattle.std.specs.declared.alloc.Global.{Global}
+use Rattle.refusal_codes.specs.Gives.{Gives}
+use Rattle.refusal_codes.specs.declared.errors.ReadError.{ReadError}
 use Rattle.refusal_codes.specs.declared.refusal.Refusal.{Refusal}
 use Rattle.access_context.specs.declared.access.Spec.{Spec}
 use Rattle.access_context.specs.Plain.{PlainOutcome}
@@ -13,17 +18,23 @@ use Rattle.font_ir.specs.Glyphs.{Glyphs}
 use Rattle.glyphs_source.specs.BuiltHeaders.{built_header_of}
 use Rattle.glyphs_source.specs.IndexReading.{index_of}
 use Rattle.metrics_tables.specs.declared.measures.Measures.{Measures}
-use Rattle.metrics_tables.specs.Measuring.{measures_of}
-use Rattle.font_graph.specs.Graph.{settle, outcome, after_index, after_order, spec_with}
+use Rattle.character_codes.specs.CharacterCodes.{Entry}
+use Rattle.font_tables.specs.Tags.{group_of}
+use Rattle.font_tables.specs.declared.tags.TableGroup.{TableGroup}
+use Rattle.font_tables.specs.declared.tags.TheConstants.{TABLE_TAGS}
+use Rattle.font_graph.specs.Parts.{Extra}
+use Rattle.font_graph.specs.Graph.{settle, outcome, of_index, of_glyph, of_order, after_index}
+use Rattle.font_graph.specs.Graph.{after_raw, after_order, spec_with}
 use Rattle.font_graph.specs.Running as running
 use Rattle.font_graph.specs.Same.{same_id}
 use Rattle.font_graph.specs.declared.ids.JobId.{JobId}
 use Rattle.font_graph.specs.declared.ids.JobId.TheVariants as job
 use Rattle.font_graph.specs.declared.items.Item.TheVariants as an
-use Rattle.font_plan.specs.Direct.{Entry, filed}
-use Rattle.font_plan.specs.Jobs.{parts, tree_of, numbers_in, raw_in, flat_in, simple_in}
-use Rattle.font_plan.specs.Jobs.{order_or_refused, ordered, glyphs_with, parts_with, is_of_outlines}
-use Rattle.font_plan.specs.Jobs.{outline_table, metrics_table, present, table_tags}
+use Rattle.character_codes.specs.CharacterCodes.{Entry}
+use Rattle.font_plan.specs.FontFile.{filed, present}
+use Rattle.font_plan.specs.Jobs.{parts, tree_of, raw_in, flat_in, has_axes, simple_in}
+use Rattle.font_plan.specs.Jobs.{variations_in, measures_in, needs_in, table_with, table_in}
+use Rattle.font_plan.specs.Order.{numbers_in, order_or_refused, ordered}
 use Rattle.font_plan.specs.Reading.{PlanReads}
 use Rattle.font_plan.specs.Settling.{AnItem, made_by, none}
 
@@ -48,31 +59,31 @@ header_comes source reads tree e = sym (running.header_runs (parts source) reads
 
 pub index_comes : (source : List ℕ) (reads : PlanReads) (tree : Tree)
     → running.tree_read (parts []) reads ≡ Some tree
-    → made_by an.Index (λ index. after_index (parts []) same_id (numbers_in index)) (index_of tree)
+    → made_by an.Index (λ index. after_index (parts []) same_id (of_index (parts []) same_id index)) (index_of tree)
     ≡ comes source job.Index reads
 index_comes source reads tree e = sym (running.index_runs (parts source) reads tree e
-    ∙ settled_so source an.Index (λ index. after_index (parts []) same_id (numbers_in index))
+    ∙ settled_so source an.Index (λ index. after_index (parts []) same_id (of_index (parts []) same_id index))
     (index_of tree))
 
 pub raw_comes : (source : List ℕ) (reads : PlanReads) (glyph : ℕ) (tree : Tree) (header : Header)
     (index : List Entry) → running.tree_read (parts []) reads ≡ Some tree
     → running.header_read (parts []) reads ≡ Some header
     → running.index_read (parts []) reads ≡ Some index
-    → made_by an.Raw (λ raw. spec_with (parts []) same_id [] (job.Flat glyph) ∷ [])
+    → made_by an.Raw (λ raw. after_raw (parts []) same_id (has_axes header) glyph)
     (raw_in tree header index glyph) ≡ comes source (job.Raw glyph) reads
 raw_comes source reads glyph tree header index a b c =
     sym (running.raw_runs (parts source) glyph reads tree header index a b c
-    ∙ settled_so source an.Raw (λ raw. spec_with (parts []) same_id [] (job.Flat glyph) ∷ [])
+    ∙ settled_so source an.Raw (λ raw. after_raw (parts []) same_id (has_axes header) glyph)
     (raw_in tree header index glyph))
 
 pub flat_comes : (source : List ℕ) (reads : PlanReads) (glyph : ℕ) (raw : GlyphIr)
     (index : List Entry) → running.raw_read (parts []) glyph reads ≡ Some raw
     → running.index_read (parts []) reads ≡ Some index
-    → made_by an.Flat (λ flat. spec_with (parts []) same_id [] (job.Simple glyph) ∷ [])
+    → made_by an.Flat (λ flat. spec_with (parts []) same_id (of_glyph (parts []) same_id) (job.Simple glyph) ∷ [])
     (flat_in raw index) ≡ comes source (job.Flat glyph) reads
 flat_comes source reads glyph raw index a b =
     sym (running.flat_runs (parts source) glyph reads raw index a b
-    ∙ settled_so source an.Flat (λ flat. spec_with (parts []) same_id [] (job.Simple glyph) ∷ [])
+    ∙ settled_so source an.Flat (λ flat. spec_with (parts []) same_id (of_glyph (parts []) same_id) (job.Simple glyph) ∷ [])
     (flat_in raw index))
 
 pub simple_comes : (source : List ℕ) (reads : PlanReads) (glyph : ℕ) (header : Header)
@@ -87,48 +98,56 @@ pub order_comes : (source : List ℕ) (reads : PlanReads) (header : Header) (ind
     (flats : List FlatGlyph) → running.header_read (parts []) reads ≡ Some header
     → running.index_read (parts []) reads ≡ Some index
     → running.flats_read (parts []) (numbers_in index) reads ≡ Some flats
-    → made_by an.Order (λ order. after_order (parts []) same_id (numbers_in index))
+    → made_by an.Order (λ order. after_order (parts []) same_id
+    (of_order (parts []) same_id header (numbers_in index)))
     (order_or_refused index) ≡ comes source job.Order reads
 order_comes source reads header index flats a b c =
     sym (running.order_runs (parts source) reads header index flats a b c
-    ∙ settled_so source an.Order (λ order. after_order (parts []) same_id (numbers_in index))
+    ∙ settled_so source an.Order (λ order. after_order (parts []) same_id
+    (of_order (parts []) same_id header (numbers_in index)))
     (order_or_refused index))
+
+pub variations_come : (source : List ℕ) (reads : PlanReads) (glyph : ℕ) (header : Header)
+    (index : List Entry) (flat : FlatGlyph) → running.header_read (parts []) reads ≡ Some header
+    → running.index_read (parts []) reads ≡ Some index
+    → running.flat_read (parts []) glyph reads ≡ Some flat
+    → made_by an.Variations none (variations_in header index flat)
+    ≡ comes source (job.Variations glyph) reads
+variations_come source reads glyph header index flat a b c =
+    sym (running.variations_runs (parts source) glyph reads header index flat a b c
+    ∙ settled_so source an.Variations none (variations_in header index flat))
 
 pub advances_comes : (source : List ℕ) (reads : PlanReads) (header : Header) (order : Glyphs)
     (flats : List FlatGlyph) → running.header_read (parts []) reads ≡ Some header
     → running.order_read (parts []) reads ≡ Some order
     → running.flats_read (parts []) (ordered order) reads ≡ Some flats
-    → made_by an.Advances none (Ok (measures_of header (glyphs_with header order flats)))
-    ≡ comes source job.Advances reads
+    → made_by an.Advances none (measures_in header order flats) ≡ comes source job.Advances reads
 advances_comes source reads header order flats a b c =
     sym (running.advances_runs (parts source) reads header order flats a b c
-    ∙ settled_so source an.Advances none
-    (Ok (measures_of header (glyphs_with header order flats))))
+    ∙ settled_so source an.Advances none (measures_in header order flats))
 
-pub outlines_come : (source : List ℕ) (reads : PlanReads) (tag : Tag) (header : Header)
-    (order : Glyphs) (written : List (List ℕ)) → is_of_outlines tag ≡ true
+-- what a call gives of a table is what is defined
+abbrev pub TableGives : Result (Option (Vec ℕ Global)) ReadError
+    → Result (Option (List ℕ)) Refusal → Type 0
+TableGives r definition = Gives (option_map (λ bytes. bytes.items)) r definition
+
+-- a table of a group comes of what the group needs
+pub table_comes_so : (source : List ℕ) (reads : PlanReads) (tag : Tag)
+    (group : Option TableGroup) (header : Header) (order : Glyphs)
+    (more : Extra (List Entry) Measures (List ℕ)) → group_of tag ≡ group
     → running.header_read (parts []) reads ≡ Some header
     → running.order_read (parts []) reads ≡ Some order
-    → running.data_read (parts []) (ordered order) reads ≡ Some written
-    → made_by an.Table none (outline_table tag (parts_with header order written))
+    → running.more_read (parts []) (needs_in group) reads ≡ Some more
+    → made_by an.Table none (table_with group tag header order more)
     ≡ comes source (job.Table tag) reads
-outlines_come source reads tag header order written is a b c =
-    sym (running.outline_runs (parts source) tag reads header order written is a b c
-    ∙ settled_so source an.Table none (outline_table tag (parts_with header order written)))
-
-pub metrics_come : (source : List ℕ) (reads : PlanReads) (tag : Tag) (header : Header)
-    (order : Glyphs) (measures : Measures) → is_of_outlines tag ≡ false
-    → running.header_read (parts []) reads ≡ Some header
-    → running.order_read (parts []) reads ≡ Some order
-    → running.measures_read (parts []) reads ≡ Some measures
-    → made_by an.Table none (Ok (Some (metrics_table tag header measures)))
-    ≡ comes source (job.Table tag) reads
-metrics_come source reads tag header order measures is a b c =
-    sym (running.metrics_runs (parts source) tag reads header order measures is a b c
-    ∙ settled_so source an.Table none (Ok (Some (metrics_table tag header measures))))
+table_comes_so source reads tag group header order more is a b c =
+    ap (λ g. made_by an.Table none (table_with g tag header order more)) (sym is)
+    ∙ sym (running.table_runs (parts source) tag reads header order more a b
+    (subst (λ g. running.more_read (parts []) (needs_in g) reads ≡ Some more) (sym is) c)
+    ∙ settled_so source an.Table none (table_in tag header order more))
 
 pub font_comes : (source : List ℕ) (reads : PlanReads) (tables : List (Option (List ℕ)))
     → running.tables_read (parts []) reads ≡ Some tables
-    → made_by an.Font none (filed (present table_tags tables)) ≡ comes source job.Font reads
+    → made_by an.Font none (filed (present TABLE_TAGS tables)) ≡ comes source job.Font reads
 font_comes source reads tables a = sym (running.font_runs (parts source) reads tables a
-    ∙ settled_so source an.Font none (filed (present table_tags tables)))
+    ∙ settled_so source an.Font none (filed (present TABLE_TAGS tables)))

@@ -5,7 +5,8 @@ use Rattle.std.proofs.Common.{Some, ap, ◌∙◌, append_assoc, map, length, �
 use Rattle.std.specs.Prelude.{slice_get, if◌then◌else◌}
 use Rattle.std.proofs.lemmas.List.{drop_more, length-append}
 use Rattle.std.proofs.lemmas.Option.{slice_get_within, get_or_from_slice_get}
-use Rattle.font_plan.specs.Direct.{Entry, is_notdef, is_other, others_from, notdef_from}
+use Rattle.character_codes.specs.CharacterCodes.{Entry}
+use Rattle.font_plan.specs.Order.{is_notdef, is_other, others_from, notdef_from}
 
 rest_at : {X : Type 0} (xs : List X) (n : ℕ) (x : X) → slice_get xs n ≡ Some x
     → drop n xs ≡ x ∷ drop (n + 1) xs

@@ -11,10 +11,10 @@ use Rattle.plist_reader.specs.Reading.{read_of}
 use Rattle.font_graph.specs.Graph.{on, settle}
 use Rattle.font_graph.specs.Parts.{Parts}
 use Rattle.font_graph.specs.Verdicts.{verdict}
-use Rattle.font_plan.specs.Direct.{source_too_large}
+use Rattle.font_plan.specs.FontFile.{source_too_large}
 use Rattle.font_plan.specs.Font.{font_of}
 use Rattle.font_plan.specs.Jobs.{parts, tree_of}
-use Rattle.font_plan.proofs.DirectMade.{below}
+use Rattle.font_plan.proofs.AcceptedLaws.{below}
 
 -- the parts of a text that gives this
 abbrev parts_from : Result Tree Refusal → Parts
@@ -38,14 +38,15 @@ parts_from text =
       raw = p.raw;
       flat = p.flat;
       simple = p.simple;
+      is_variable = p.is_variable;
+      variations = p.variations;
       order = p.order;
       ordered = p.ordered;
       ordered_is = p.ordered_is;
       measures = p.measures;
       tags = p.tags;
-      is_of_outlines = p.is_of_outlines;
-      outline_table = p.outline_table;
-      metrics_table = p.metrics_table;
+      needs = p.needs;
+      table = p.table;
       font = p.font;
     }
 

@@ -1,4 +1,4 @@
--- What each glyph of the font fulfils once it is drawn: it is simple, and stands at the masters.
+-- What each glyph of the font fulfils once it is drawn: it is simple, and it stands at the masters.
 use Rattle.std.specs.Prelude.{◌≡◌, []}
 use Rattle.font_ir.specs.FlatGlyphs.{IsFlatGlyph}
 use Rattle.font_ir.specs.declared.header.Header.{Header}

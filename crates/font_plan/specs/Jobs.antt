@@ -1,16 +1,15 @@
 -- What each job of a source makes: the parts of its graph, which are defined in the crates that
 -- read and write them. fontc's own; the tables are those of OpenType 1.9.
-use Rattle.std.proofs.Common.{refl, ap, ◌∙◌}
-use Rattle.std.specs.Prelude.{◌≡◌, ℕ, Bool, true, false, ◌||◌, List, [], ◌∷◌, ◌++◌, length, map}
-use Rattle.std.specs.Prelude.{codes, nat_lt, nat_eq, Option, Some, None, Result, Ok, Err, slice_get}
-use Rattle.std.specs.Prelude.{if◌then◌else◌}
-use Rattle.std.specs.Option.{option_map}
-use Rattle.std.specs.Cmp.Lexicographic.{pointwise}
+use Rattle.std.specs.Prelude.{ℕ, Bool, not, List, [], length, nat_lt, slice_get}
+use Rattle.std.specs.Prelude.{Option, Some, None, Result, Ok, Err, if◌then◌else◌}
+use Rattle.std.specs.Option.{option_map_or}
+use Rattle.std.specs.Str.{is_utf8}
 use Rattle.refusal_codes.specs.declared.refusal.Refusal.{Refusal}
-use Rattle.refusal_codes.specs.declared.rule.Rule.TheVariants.{MissingLayer}
+use Rattle.refusal_codes.specs.declared.rule.Rule.TheVariants.{MissingLayer, DeltaTooLarge}
+use Rattle.refusal_codes.specs.declared.rule.Rule.TheVariants.{TooManyRegions}
 use Rattle.refusal_codes.specs.First.{refusal_of}
-use Rattle.refusal_codes.specs.declared.job.TheConstants.{RAW}
-use Rattle.refusal_codes.specs.declared.limits.TheConstants.{GLYPHS, SOURCE_BYTES}
+use Rattle.refusal_codes.specs.declared.job.TheConstants.{RAW, ADVANCES}
+use Rattle.refusal_codes.specs.declared.limits.TheConstants.{SOURCE_BYTES}
 use Rattle.plist_reader.specs.declared.tree.Tree.{Tree}
 use Rattle.plist_reader.specs.Reading.{read_of}
 use Rattle.font_ir.specs.declared.header.Header.{Header}
@@ -25,29 +24,29 @@ use Rattle.glyphs_source.specs.IndexReading.{index_of}
 use Rattle.glyphs_layers.specs.GlyphReading.{built_glyph_of}
 use Rattle.component_flatten.specs.Flattening.{flat_of}
 use Rattle.glyf_writer.specs.GlyphData.{simple_data}
-use Rattle.glyf_writer.specs.Tables as outlines
-use Rattle.table_bytes.specs.Tables.{over_limit}
 use Rattle.metrics_tables.specs.declared.measures.Measures.{Measures}
-use Rattle.metrics_tables.specs.Measuring.{measures_of}
-use Rattle.metrics_tables.specs.Tables as metrics
-use Rattle.font_assembly.specs.File.{Table}
-use Rattle.font_graph.specs.Parts.{Parts}
-use Rattle.font_plan.specs.Direct.{Entry, source_too_large, too_many_glyphs, table_too_large}
-use Rattle.font_plan.specs.Direct.{others_from, notdef_from, order_in, filed}
+use Rattle.metrics_tables.specs.declared.measures.MeasureError.{MeasureError}
+use Rattle.metrics_tables.specs.declared.measures.MeasureError.TheVariants as measure_errors
+use Rattle.metrics_tables.specs.Measuring.{measured_of}
+use Rattle.metrics_tables.specs.Os2.{os2_table}
+use Rattle.character_codes.specs.CharacterCodes.{Entry, codes_of}
+use Rattle.font_tables.specs.Tags.{group_of}
+use Rattle.font_tables.specs.Tables as tables
+use Rattle.font_tables.specs.Variations.{variations_of}
+use Rattle.font_tables.specs.declared.tags.TableGroup.{TableGroup}
+use Rattle.font_tables.specs.declared.tags.TableGroup.TheVariants as groups
+use Rattle.font_tables.specs.declared.tags.TheConstants.{TABLE_TAGS}
+use Rattle.font_graph.specs.Parts.{Parts, Needs, Nothing, TheIndex, TheMeasures}
+use Rattle.font_graph.specs.Parts.{TheMeasuresAndIndex, TheOutlines, TheVariations, Extra}
+use Rattle.font_graph.specs.Parts.{nothing, with_index, with_measures, with_both, with_data}
+use Rattle.font_plan.specs.FontFile.{source_too_large, filed, present}
+use Rattle.font_plan.specs.Order.{numbers_in, order_or_refused, ordered, ordered_is, behind_made}
 
 -- ---- the source
 
 unfoldable pub tree_of : List ℕ → Result Tree Refusal
 tree_of source = if nat_lt SOURCE_BYTES (length source) then Err source_too_large
     else read_of source
-
--- the numbers of the exported glyphs, in the order of the font; a made `.notdef` has none
-abbrev pub number_of : Option (ℕ × Entry) → List ℕ
-number_of None = []
-number_of (Some glyph) = glyph.0 ∷ []
-
-abbrev pub numbers_in : List Entry → List ℕ
-numbers_in index = number_of (notdef_from 0 index) ++ map (λ glyph. glyph.0) (others_from 0 index)
 
 -- ---- a glyph
 
@@ -70,106 +69,101 @@ flat_at glyph index (Some entry) = flat_of index entry.0 glyph []
 abbrev pub flat_in : GlyphIr → List Entry → Result FlatGlyph Refusal
 flat_in glyph index = flat_at glyph index (slice_get index glyph.number)
 
+abbrev pub has_axes : Header → Bool
+has_axes header = not (tables.has_no_axes header)
+
 abbrev pub simple_in : Header → FlatGlyph → List ℕ
-simple_in header glyph = simple_data false (outline_at header.origin glyph)
+simple_in header glyph = simple_data (has_axes header) (outline_at header.origin glyph)
 
--- ---- the font's glyphs
+abbrev pub variations_at : Header → FlatGlyph → Option Entry → Result (List ℕ) Refusal
+variations_at header glyph None = nowhere
+variations_at header glyph (Some entry) = variations_of header entry.0 glyph
 
--- a font has at most 65,535 glyphs
-abbrev pub order_or_refused : List Entry → Result Glyphs Refusal
-order_or_refused index =
-    if nat_lt GLYPHS (length (order_in index).names)
-    then Err (too_many_glyphs (length (order_in index).names)) else Ok (order_in index)
+abbrev pub variations_in : Header → List Entry → FlatGlyph → Result (List ℕ) Refusal
+variations_in header index glyph = variations_at header glyph (slice_get index glyph.number)
 
--- the numbers that are given
-abbrev pub given : List (Option ℕ) → List ℕ
-given [] = []
-given (None ∷ numbers) = given numbers
-given (Some number ∷ numbers) = number ∷ given numbers
-
--- the numbers of the glyphs that an order holds; a made `.notdef` has none
-abbrev pub ordered : Glyphs → List ℕ
-ordered order = given order.numbers
-
--- an order that is not refused is the order of the index
-pub is_order_of : (index : List Entry) (order : Glyphs) → order_or_refused index ≡ Ok order
-    → order ≡ order_in index
-is_order_of index order e = by (nat_lt GLYPHS (length (order_in index).names)) e
-  where
-    by : (b : Bool) → (if b then Err (too_many_glyphs (length (order_in index).names))
-        else Ok (order_in index)) ≡ Ok order → order ≡ order_in index
-    by true f = absurd cc
-    by false f = cc
-
-given_all : (glyphs : List (ℕ × Entry))
-    → given (map (λ glyph. Some glyph.0) glyphs) ≡ map (λ glyph. glyph.0) glyphs
-given_all [] = refl
-given_all (glyph ∷ glyphs) = ap (λ rest. glyph.0 ∷ rest) (given_all glyphs)
-
-given_behind : (first : Option (ℕ × Entry)) (glyphs : List (ℕ × Entry))
-    → given (option_map (λ glyph. glyph.0) first ∷ map (λ glyph. Some glyph.0) glyphs)
-    ≡ number_of first ++ map (λ glyph. glyph.0) glyphs
-given_behind None glyphs = given_all glyphs
-given_behind (Some glyph) glyphs = ap (λ rest. glyph.0 ∷ rest) (given_all glyphs)
-
--- so it holds the numbers of the exported glyphs
-pub ordered_is : (index : List Entry) (order : Glyphs) → order_or_refused index ≡ Ok order
-    → ordered order ≡ numbers_in index
-ordered_is index order e = ap ordered (is_order_of index order e)
-    ∙ given_behind (notdef_from 0 index) (others_from 0 index)
-
--- what stands for each glyph, where that of a made `.notdef` goes first
-abbrev pub behind_made : {A : Type 0} → List (Option ℕ) → A → List A → List A
-behind_made [] made others = others
-behind_made (None ∷ numbers) made others = made ∷ others
-behind_made (Some number ∷ numbers) made others = others
+-- ---- what is measured
 
 abbrev pub glyphs_with : Header → Glyphs → List FlatGlyph → List FlatGlyph
 glyphs_with header order glyphs = behind_made order.numbers (made_notdef_of header) glyphs
 
+-- what is told of a glyph's name: a source's names are all text
+abbrev pub told_name : Option (List ℕ) → List ℕ
+told_name None = []
+told_name (Some name) = if is_utf8 name then name else []
+
+-- a glyph's advance width changes by too much
+abbrev pub advance_refused : Option (List ℕ) → Option FlatGlyph → Refusal
+advance_refused name glyph = refusal_of ADVANCES (told_name name)
+    (record { rule = DeltaTooLarge; place = option_map_or (λ (g : FlatGlyph). g.place) glyph 0 })
+
+abbrev pub too_many_regions : ℕ → Refusal
+too_many_regions count = refusal_of ADVANCES [] (record { rule = TooManyRegions; place = count })
+
+-- a definition never wants memory
+abbrev pub measures_refused : List (List ℕ) → List FlatGlyph → MeasureError → Refusal
+measures_refused names glyphs (measure_errors.TooLarge gid value) =
+    advance_refused (slice_get names gid) (slice_get glyphs gid)
+measures_refused names glyphs (measure_errors.Regions count) = too_many_regions count
+measures_refused names glyphs measure_errors.NoMemory = too_many_regions 0
+
+abbrev pub unless_refused : List (List ℕ) → List FlatGlyph → Result Measures MeasureError
+    → Result Measures Refusal
+unless_refused names glyphs (Ok measures) = Ok measures
+unless_refused names glyphs (Err error) = Err (measures_refused names glyphs error)
+
+abbrev pub measures_over : Header → List (List ℕ) → List FlatGlyph → Result Measures Refusal
+measures_over header names glyphs =
+    unless_refused names glyphs (measured_of header names glyphs)
+
+abbrev pub measures_in : Header → Glyphs → List FlatGlyph → Result Measures Refusal
+measures_in header order glyphs =
+    measures_over header order.names (glyphs_with header order glyphs)
+
+-- ---- the tables
+
+-- what a table of a group needs beside the header and the order
+abbrev pub needs_in : Option TableGroup → Needs
+needs_in None = Nothing
+needs_in (Some groups.Plain) = Nothing
+needs_in (Some groups.Style) = Nothing
+needs_in (Some groups.Codes) = TheIndex
+needs_in (Some groups.CodeMetrics) = TheMeasuresAndIndex
+needs_in (Some groups.Metrics) = TheMeasures
+needs_in (Some groups.Outlines) = TheOutlines
+needs_in (Some groups.Variations) = TheVariations
+
+abbrev pub needs_of : Tag → Needs
+needs_of tag = needs_in (group_of tag)
+
+-- the data of all glyphs: a made `.notdef` has no outline and doesn't vary
 abbrev pub parts_with : Header → Glyphs → List (List ℕ) → List (List ℕ)
 parts_with header order parts =
     behind_made order.numbers (simple_in header (made_notdef_of header)) parts
 
--- ---- the tables
+abbrev pub variations_with : Glyphs → List (List ℕ) → List (List ℕ)
+variations_with order variations = behind_made order.numbers [] variations
 
-abbrev pub has_name : List ℕ → Tag → Bool
-has_name name tag = pointwise nat_eq tag.0 name
+abbrev pub table_with : Option TableGroup → Tag → Header → Glyphs
+    → Extra (List Entry) Measures (List ℕ) → Result (Option (List ℕ)) Refusal
+table_with (Some groups.Plain) tag header order nothing =
+    Ok (tables.plain_table tag header order)
+table_with (Some groups.Style) tag header order nothing = tables.style_table tag header
+table_with (Some groups.Codes) tag header order (with_index index) =
+    tables.code_table (codes_of index order.numbers)
+table_with (Some groups.CodeMetrics) tag header order (with_both measures index) =
+    Ok (Some (os2_table header measures (codes_of index order.numbers)))
+table_with (Some groups.Metrics) tag header order (with_measures measures) =
+    Ok (tables.metrics_table tag header measures)
+table_with (Some groups.Outlines) tag header order (with_data parts) =
+    tables.outline_table tag (parts_with header order parts)
+table_with (Some groups.Variations) tag header order (with_data variations) =
+    tables.variations_table header (variations_with order variations)
+table_with _ tag header order more = Ok None
 
-abbrev pub is_of_outlines : Tag → Bool
-is_of_outlines tag = has_name (codes "glyf") tag || has_name (codes "loca") tag
-
--- a table, unless a length is too large
-abbrev pub table_of : List ℕ → Option ℕ → List ℕ → Result (Option (List ℕ)) Refusal
-table_of name (Some length) bytes = Err (table_too_large name length)
-table_of name None bytes = Ok (Some bytes)
-
-abbrev pub outline_table : Tag → List (List ℕ) → Result (Option (List ℕ)) Refusal
-outline_table tag parts =
-    if has_name (codes "glyf") tag
-    then table_of (codes "glyf") (over_limit (length (outlines.glyf_bytes parts)))
-    (outlines.glyf_bytes parts)
-    else table_of (codes "loca") (outlines.too_large parts) (outlines.loca_bytes parts)
-
-abbrev pub metrics_table : Tag → Header → Measures → List ℕ
-metrics_table tag header measures =
-    if has_name (codes "head") tag then metrics.head_table header measures
-    else if has_name (codes "hhea") tag then metrics.hhea_table header measures
-    else if has_name (codes "hmtx") tag then metrics.hmtx_table measures
-    else metrics.maxp_table measures
-
--- in the order of their tags
-abbrev pub table_tags : List Tag
-table_tags = map (λ name. record { 0 = name }) (codes "glyf" ∷ codes "head" ∷ codes "hhea"
-    ∷ codes "hmtx" ∷ codes "loca" ∷ codes "maxp" ∷ [])
-
--- the tables that aren't absent
-abbrev pub present : List Tag → List (Option (List ℕ)) → List Table
-present [] tables = []
-present (tag ∷ tags) [] = []
-present (tag ∷ tags) (None ∷ tables) = present tags tables
-present (tag ∷ tags) (Some bytes ∷ tables) = record { tag = tag.0; bytes = bytes }
-    ∷ present tags tables
+abbrev pub table_in : Tag → Header → Glyphs → Extra (List Entry) Measures (List ℕ)
+    → Result (Option (List ℕ)) Refusal
+table_in tag header order more = table_with (group_of tag) tag header order more
 
 -- ---- the parts together
 
@@ -192,13 +186,14 @@ parts source = record {
   raw = raw_in;
   flat = flat_in;
   simple = λ header glyph. Ok (simple_in header glyph);
+  is_variable = has_axes;
+  variations = variations_in;
   order = λ header index glyphs. order_or_refused index;
   ordered = ordered;
   ordered_is = λ header index glyphs order e. ordered_is index order e;
-  measures = λ header order glyphs. Ok (measures_of header (glyphs_with header order glyphs));
-  tags = table_tags;
-  is_of_outlines = is_of_outlines;
-  outline_table = λ tag header order glyphs. outline_table tag (parts_with header order glyphs);
-  metrics_table = λ tag header order measures. Ok (Some (metrics_table tag header measures));
-  font = λ tables. filed (present table_tags tables);
+  measures = measures_in;
+  tags = TABLE_TAGS;
+  needs = needs_of;
+  table = table_in;
+  font = λ tables. filed (present TABLE_TAGS tables);
 }

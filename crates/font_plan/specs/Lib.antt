@@ -4,8 +4,10 @@ pub mod Direct
 pub mod Drawn
 pub mod Failing
 pub mod Font
+pub mod FontFile
 pub mod Jobs
 pub mod Known
+pub mod Order
 pub mod Reading
 pub mod Settling
 pub mod Telling

@@ -1,6 +1,8 @@
 -- What a job of the whole font reads of each of its glyphs and tables. fontc's own.
-use Rattle.std.specs.Prelude.{ℕ, List, [], ◌∷◌, Option, Some, None}
-use Rattle.access_context.specs.Plain.{Plain}
+use Rattle.std.specs.Prelude.{ℕ, Bool, false, not, List, [], ◌∷◌, Option, Some, None, is_some}
+use Rattle.std.specs.Prelude.{option_and_then}
+use Rattle.std.specs.Option.{option_to_list}
+use Rattle.access_context.specs.Plain.{Plain, done_value}
 use Rattle.font_ir.specs.declared.header.Header.{Header}
 use Rattle.font_ir.specs.declared.glyph.FlatGlyph.{FlatGlyph}
 use Rattle.font_ir.specs.declared.tag.Tag.{Tag}
@@ -11,15 +13,11 @@ use Rattle.font_graph.specs.Running.{flat_read}
 use Rattle.font_graph.specs.Same.{same_id}
 use Rattle.font_graph.specs.declared.ids.JobId.{JobId}
 use Rattle.font_graph.specs.declared.ids.JobId.TheVariants as job
-use Rattle.font_plan.specs.Jobs.{parts, simple_in}
+use Rattle.font_plan.specs.Jobs.{parts}
 use Rattle.font_plan.specs.Settling.{AnItem}
 
 abbrev pub PlanReads : Type 0
 PlanReads = List (JobId × Plain AnItem)
-
-abbrev pub simple_read : ℕ → PlanReads → Option (List ℕ)
-simple_read glyph reads =
-    read_as (parts []) same_id (as_data (parts [])) reads (job.Simple glyph)
 
 abbrev pub table_read : Tag → PlanReads → Option (Option (List ℕ))
 table_read tag reads = read_as (parts []) same_id (as_table (parts [])) reads (job.Table tag)
@@ -29,16 +27,22 @@ abbrev pub number_read : {A : Type 0} → A → (ℕ → Option A) → Option �
 number_read made read None = Some made
 number_read made read (Some glyph) = read glyph
 
--- the drawn glyph and the data of a number of the order
+-- the drawn glyph of a number of the order
 abbrev pub glyph_read : Header → PlanReads → Option ℕ → Option FlatGlyph
 glyph_read header reads number =
     number_read (made_notdef_of header) (λ glyph. flat_read (parts []) glyph reads) number
-
-abbrev pub part_read : Header → PlanReads → Option ℕ → Option (List ℕ)
-part_read header reads number = number_read (simple_in header (made_notdef_of header))
-    (λ glyph. simple_read glyph reads) number
 
 -- a table that isn't absent
 abbrev pub present_table : Tag → Option (Option (List ℕ)) → List Table
 present_table tag (Some (Some bytes)) = record { tag = tag.0; bytes = bytes } ∷ []
 present_table tag _ = []
+
+-- whether the first glyph of an order is a made `.notdef`
+abbrev pub begins_with_made : List (Option ℕ) → Bool
+begins_with_made [] = false
+begins_with_made (number ∷ numbers) = not (is_some number)
+
+-- the data of a glyph, where an item is that
+abbrev pub data_at : JobId × Plain AnItem → List (List ℕ)
+data_at item =
+    option_to_list (option_and_then (as_data (parts [])) (done_value item.1))

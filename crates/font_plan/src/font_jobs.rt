@@ -1,28 +1,32 @@
 //! The jobs of the whole font: the order of its glyphs, what is measured of them, its tables and
 //! its file.
 
-ghost use Rattle.std.specs.Prelude.{◌≡◌, ◌≤◌, Ok, Some, [], length, map, codes, IfOk};
+ghost use Rattle.std.specs.Prelude.{◌≡◌, ◌≤◌, List, ℕ, Option, Some, Result, Ok, Err, [], length};
+ghost use Rattle.std.specs.Prelude.{slice_get};
+ghost use Rattle.std.specs.Prelude.{IfOk};
 ghost use Rattle.std.specs.List.{All};
+ghost use Rattle.std.specs.Option.{option_map};
+ghost use Rattle.refusal_codes.specs.Gives.{Gives, RefusesRead};
 ghost use Rattle.refusal_codes.specs.declared.limits.TheConstants.{TABLES};
+ghost use Rattle.refusal_codes.specs.declared.refusal.Refusal.{Refusal};
 ghost use Rattle.font_ir.specs.Headers.{IsHeader};
 ghost use Rattle.font_ir.specs.FlatGlyphs.{glyphs_of};
 ghost use Rattle.glyphs_source.specs.HeaderReading.{IsReadHeader};
-ghost use Rattle.table_bytes.specs.Tables.{over_limit};
-ghost use Rattle.glyf_writer.specs.Tables as outlines;
-ghost use Rattle.metrics_tables.specs.Measuring.{measures_of};
 ghost use Rattle.metrics_tables.specs.Tables.{AreMeasures};
 ghost use Rattle.font_assembly.specs.File.{TagsRise, HasHead};
 ghost use Rattle.font_assembly.specs.Assembled as assembled;
-ghost use Rattle.font_graph.specs.Graph.{after_order};
+ghost use Rattle.font_graph.specs.Graph.{after_order, of_order};
 ghost use Rattle.font_graph.specs.Same.{same_id};
 ghost use Rattle.font_graph.specs.declared.items.Item.TheVariants as an;
-ghost use Rattle.font_plan.specs.Direct.{too_many_glyphs, table_too_large, font_too_large, filed};
 ghost use Rattle.font_plan.specs.Drawn.{IsDrawn};
-ghost use Rattle.font_plan.specs.Jobs.{parts, numbers_in, order_or_refused, outline_table};
-ghost use Rattle.font_plan.specs.Jobs.{metrics_table, table_of};
+ghost use Rattle.font_plan.specs.FontFile.{font_too_large, filed};
+ghost use Rattle.font_plan.specs.Jobs.{parts, measures_over, told_name, advance_refused};
+ghost use Rattle.font_plan.specs.Jobs.{too_many_regions};
 ghost use Rattle.font_plan.specs.Known.{IsIndex};
+ghost use Rattle.font_plan.specs.Order.{numbers_in, order_or_refused, too_many_glyphs};
 ghost use Rattle.font_plan.specs.Settling.{Comes, made_by, none};
 
+use crate::glyph_jobs::has_axes;
 use crate::items::Item;
 use crate::known::Known;
 use crate::order::{glyph_count, numbers_in, order_in};
@@ -30,12 +34,11 @@ use crate::outcomes::{PlanOutcome, made, made_last, refused};
 use crate::specs_of;
 use font_assembly::assemble;
 use font_ir::{FlatGlyph, GlyphOrder, Header, Tag};
-use glyf_writer::{glyf_table, loca_table};
 use glyphs_source::GlyphIndex;
-use metrics_tables::{MeasureError, Measures, head, hhea, hmtx, maxp, measure};
+use metrics_tables::{MeasureError, Measures, measure};
 use plain_lists::Text;
 use refusal_codes::limits::GLYPHS;
-use refusal_codes::{Failure, NoMemory, Refusal, Rule, job};
+use refusal_codes::{Failure, NoMemory, ReadError, Refusal, Rule, job};
 use shared_values::SharedBytes;
 use std::alloc::Global;
 use std::sync::Arc;
@@ -44,10 +47,14 @@ use table_bytes::TableError;
 // ---- the order
 
 /// Orders the font's glyphs, and adds the jobs of what is measured, of the font and of its tables.
-pub fn run_order(alloc: Global, index: &GlyphIndex) -> Result<PlanOutcome, NoMemory>
+pub fn run_order(
+    alloc: Global,
+    header: &Header,
+    index: &GlyphIndex,
+) -> Result<PlanOutcome, NoMemory>
     requires { IsIndex index.now }
-    ensures { Comes result (made_by an.Order
-        (λ order. after_order (parts []) same_id (numbers_in index.now))
+    ensures { Comes result (made_by an.Order (λ order. after_order (parts []) same_id
+        (of_order (parts []) same_id header.now (numbers_in index.now)))
         (order_or_refused index.now)) }
 {
     let glyphs = numbers_in(alloc, index)?;
@@ -56,7 +63,7 @@ pub fn run_order(alloc: Global, index: &GlyphIndex) -> Result<PlanOutcome, NoMem
         return Ok(refused(alloc, too_many_glyphs(alloc, count)));
     }
     let order = order_in(alloc, index)?;
-    let added = specs_of::after_order(alloc, glyphs.as_slice())?;
+    let added = specs_of::after_order(alloc, glyphs.as_slice(), has_axes(header))?;
     made(alloc, Item::Order(order), added)
 }
 
@@ -80,14 +87,18 @@ pub fn run_advances(
     order: &GlyphOrder,
     glyphs: &[Arc<FlatGlyph>],
 ) -> Result<PlanOutcome, NoMemory>
-    requires header { IsReadHeader header.now }
+    requires header { IsHeader header.now }
+    requires read { IsReadHeader header.now }
     requires drawn { All (IsDrawn header.now) (glyphs_of glyphs.now) }
     requires order { length glyphs.now ≡ length order.now.names }
     ensures { Comes result (made_by an.Advances none
-        (Ok (measures_of header.now (glyphs_of glyphs.now)))) }
+        (measures_over header.now order.now.names (glyphs_of glyphs.now))) }
 {
-    let measures = measured(alloc, header, order, glyphs)?;
-    made_last(alloc, Item::Advances(Known::of(measures)))
+    match measured(alloc, header, order, glyphs) {
+        Ok(measures) => made_last(alloc, Item::Advances(Known::of(measures))),
+        Err(ReadError::Refused(refusal)) => Ok(refused(alloc, refusal)),
+        Err(ReadError::NoMemory) => Err(NoMemory),
+    }
 }
 
 /// What the tables of metrics need of the glyphs.
@@ -96,126 +107,100 @@ fn measured(
     header: &Header,
     order: &GlyphOrder,
     glyphs: &[Arc<FlatGlyph>],
-) -> Result<Measures, NoMemory>
-    requires header { IsReadHeader header.now }
+) -> Result<Measures, ReadError>
+    requires header { IsHeader header.now }
+    requires read { IsReadHeader header.now }
     requires drawn { All (IsDrawn header.now) (glyphs_of glyphs.now) }
     requires order { length glyphs.now ≡ length order.now.names }
-    ensures record { IfOk result (λ measures. measures
-        ≡ measures_of header.now (glyphs_of glyphs.now)) }
-    ensures measures { IfOk result AreMeasures }
+    ensures measures { Gives (λ measures. measures) result
+        (measures_over header.now order.now.names (glyphs_of glyphs.now)) }
+    ensures known { IfOk result AreMeasures }
 {
     match measure(alloc, header, order, glyphs) {
         Ok(measures) => Ok(measures),
-        Err(MeasureError::NoMemory) => Err(NoMemory),
-        // A font of one master has no deltas and no regions.
-        Err(MeasureError::TooLarge { .. }) => unreachable!(),
-        Err(MeasureError::Regions(_)) => unreachable!(),
+        Err(MeasureError::TooLarge { gid, .. }) => Err(advance_refused(alloc, order, glyphs, gid)),
+        Err(MeasureError::Regions(count)) => Err(ReadError::Refused(too_many_regions(
+            alloc, count,
+        ))),
+        Err(MeasureError::NoMemory) => Err(ReadError::NoMemory),
     }
+}
+
+/// The refusal of a glyph whose advance width changes by too much: its job has the glyph's name.
+fn advance_refused(
+    alloc: Global,
+    order: &GlyphOrder,
+    glyphs: &[Arc<FlatGlyph>],
+    gid: u16,
+) -> ReadError
+    ensures { RefusesRead {Y = ℕ} result (Err (advance_refused (slice_get order.now.names gid)
+        (slice_get (glyphs_of glyphs.now) gid))) }
+{
+    let place = match glyphs.get(gid as usize) {
+        Some(glyph) => glyph.place,
+        None => 0,
+    };
+    let failure = Failure {
+        rule: Rule::DeltaTooLarge,
+        place,
+    };
+    match String::from_str(alloc, told_name(order, gid)) {
+        Ok(name) => failure.refused(job::ADVANCES, Text::from_string(name)),
+        Err(_) => ReadError::NoMemory,
+    }
+}
+
+/// The name of the glyph with this ID.
+fn told_name(order: &GlyphOrder, gid: u16) -> &str
+    ensures { result.now ≡ told_name (slice_get order.now.names gid) }
+{
+    match order.names().get(gid as usize) {
+        Some(name) => text_of(name.as_slice()),
+        None => "",
+    }
+}
+
+/// The text that these bytes are; none where they are no text.
+fn text_of(name: &[u8]) -> &str
+    ensures { result.now ≡ told_name (Some name.now) }
+{
+    match std::str::from_utf8(name) {
+        Ok(text) => text,
+        Err(_) => "",
+    }
+}
+
+/// The refusal of a font whose advance widths change in too many regions.
+fn too_many_regions(alloc: Global, count: u64) -> Refusal
+    ensures { result ≡ too_many_regions count }
+{
+    let failure = Failure {
+        rule: Rule::TooManyRegions,
+        place: count,
+    };
+    failure.refusal(job::ADVANCES, Text::new(alloc))
 }
 
 // ---- the tables
 
-/// Writes a table that is made of the glyphs' data.
-pub fn run_outlines(
+/// What comes of a table that was written, that the font doesn't have, or that is refused.
+pub fn table_comes(
     alloc: Global,
-    tag: Tag,
-    parts: &[Arc<Vec<u8>>],
+    table: Result<Option<Vec<u8>>, ReadError>,
 ) -> Result<PlanOutcome, NoMemory>
-    ensures { Comes result (made_by an.Table none
-        (outline_table tag (map (λ part. part.value.items) parts.now))) }
+    ensures { (definition : Result (Option (List ℕ)) Refusal)
+        → Gives (option_map (λ bytes. bytes.items)) table definition
+        → Comes result (made_by an.Table none definition) }
 {
-    if tag.0 == *b"glyf" {
-        run_glyf(alloc, parts)
-    } else {
-        run_loca(alloc, parts)
-    }
-}
-
-/// Writes the table "glyf".
-fn run_glyf(alloc: Global, parts: &[Arc<Vec<u8>>]) -> Result<PlanOutcome, NoMemory>
-    ensures { Comes result (made_by an.Table none (table_of (codes "glyf")
-        (over_limit (length (outlines.glyf_bytes (map (λ part. part.value.items) parts.now))))
-        (outlines.glyf_bytes (map (λ part. part.value.items) parts.now)))) }
-{
-    match glyf_table(alloc, parts) {
-        Ok(table) => table_made(alloc, table),
-        Err(TableError::TooLarge(length)) => {
-            Ok(refused(alloc, table_too_large(alloc, "glyf", length)?))
+    match table {
+        Ok(Some(bytes)) => {
+            let bytes = SharedBytes::of(Arc::new(alloc, bytes)?);
+            made_last(alloc, Item::Table(Some(bytes)))
         }
-        Err(TableError::NoMemory) => Err(NoMemory),
+        Ok(None) => made_last(alloc, Item::Table(None)),
+        Err(ReadError::Refused(refusal)) => Ok(refused(alloc, refusal)),
+        Err(ReadError::NoMemory) => Err(NoMemory),
     }
-}
-
-/// Writes the table "loca".
-fn run_loca(alloc: Global, parts: &[Arc<Vec<u8>>]) -> Result<PlanOutcome, NoMemory>
-    ensures { Comes result (made_by an.Table none (table_of (codes "loca")
-        (outlines.too_large (map (λ part. part.value.items) parts.now))
-        (outlines.loca_bytes (map (λ part. part.value.items) parts.now)))) }
-{
-    match loca_table(alloc, parts) {
-        Ok(table) => table_made(alloc, table),
-        Err(TableError::TooLarge(length)) => {
-            Ok(refused(alloc, table_too_large(alloc, "loca", length)?))
-        }
-        Err(TableError::NoMemory) => Err(NoMemory),
-    }
-}
-
-/// Writes a table of metrics.
-pub fn run_metrics(
-    alloc: Global,
-    tag: Tag,
-    header: &Header,
-    measures: &Measures,
-) -> Result<PlanOutcome, NoMemory>
-    requires header { IsHeader header.now }
-    requires measures { AreMeasures measures.now }
-    ensures { Comes result (made_by an.Table none
-        (Ok (Some (metrics_table tag header.now measures.now)))) }
-{
-    table_made(alloc, metrics_table(alloc, tag, header, measures)?)
-}
-
-/// The table of metrics with this tag.
-fn metrics_table(
-    alloc: Global,
-    tag: Tag,
-    header: &Header,
-    measures: &Measures,
-) -> Result<Vec<u8>, NoMemory>
-    requires header { IsHeader header.now }
-    requires measures { AreMeasures measures.now }
-    ensures { IfOk result (λ table. table.items ≡ metrics_table tag header.now measures.now) }
-{
-    if tag.0 == *b"head" {
-        head(alloc, header, measures)
-    } else if tag.0 == *b"hhea" {
-        hhea(alloc, header, measures)
-    } else if tag.0 == *b"hmtx" {
-        hmtx(alloc, header, measures)
-    } else {
-        maxp(alloc, header, measures)
-    }
-}
-
-/// What comes of a table that was written.
-fn table_made(alloc: Global, table: Vec<u8>) -> Result<PlanOutcome, NoMemory>
-    ensures { Comes result (made_by an.Table none (Ok (Some table.items))) }
-{
-    let table = SharedBytes::of(Arc::new(alloc, table)?);
-    made_last(alloc, Item::Table(Some(table)))
-}
-
-/// The refusal of a table that is too long; its job has the tag as its name.
-fn table_too_large(alloc: Global, tag: &str, length: u64) -> Result<Refusal, NoMemory>
-    ensures { IfOk result (λ refusal. refusal ≡ table_too_large tag.now length) }
-{
-    let failure = Failure {
-        rule: Rule::TableTooLarge,
-        place: length,
-    };
-    let name = Text::from_string(String::from_str(alloc, tag)?);
-    Ok(failure.refusal(job::TABLE, name))
 }
 
 // ---- the file

@@ -2,7 +2,7 @@
 
 ghost use Rattle.std.specs.Prelude.{◌≡◌};
 ghost use Rattle.plist_reader.specs.Tree.{IsTree};
-ghost use Rattle.glyphs_source.specs.HeaderReading.{IsReadHeader};
+ghost use Rattle.font_ir.specs.Headers.{IsHeader};
 ghost use Rattle.metrics_tables.specs.Tables.{AreMeasures};
 ghost use Rattle.font_plan.specs.Known.{IsIndex, IsRaw, IsSimple};
 
@@ -23,7 +23,7 @@ impl Fact for Tree {
 }
 
 impl Fact for Header {
-    ghost holds = { IsReadHeader };
+    ghost holds = { IsHeader };
 }
 
 impl Fact for GlyphIndex {

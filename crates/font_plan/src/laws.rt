@@ -7,9 +7,10 @@ ghost use Rattle.plist_reader.specs.Refusals.{IsRefusal};
 ghost use Rattle.font_graph.specs.Fails.{Fails};
 ghost use Rattle.font_graph.specs.declared.ids.JobId.{JobId};
 ghost use Rattle.font_plan.specs.Accepted.{IsFontOf, IsRefusedBy};
-ghost use Rattle.font_plan.specs.Direct.{direct_font, source_too_large};
+ghost use Rattle.font_plan.specs.Direct.{direct_font};
 ghost use Rattle.font_plan.specs.Failing.{FailsBy};
 ghost use Rattle.font_plan.specs.Font.{font_of};
+ghost use Rattle.font_plan.specs.FontFile.{source_too_large};
 ghost use Rattle.font_plan.specs.Jobs.{parts};
 
 use plist_reader::sources_have_one_answer;

@@ -8,8 +8,8 @@ ghost use Rattle.std.specs.Cmp.Lexicographic.{pointwise};
 ghost use Rattle.refusal_codes.specs.declared.limits.TheConstants.{GLYPHS, NAME_BYTES};
 ghost use Rattle.font_ir.specs.Glyphs.{gid_of};
 ghost use Rattle.glyphs_source.specs.IndexReading.{AreNamed};
-ghost use Rattle.font_plan.specs.Direct.{Entry, is_other, others_from, notdef_from, order_in};
-ghost use Rattle.font_plan.specs.Jobs.{numbers_in};
+ghost use Rattle.character_codes.specs.CharacterCodes.{Entry};
+ghost use Rattle.font_plan.specs.Order.{is_other, others_from, notdef_from, order_in, numbers_in};
 
 use font_ir::{GlyphOrder, Name};
 use glyphs_source::{GlyphIndex, IndexEntry};

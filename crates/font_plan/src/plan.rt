@@ -1,27 +1,34 @@
 //! The plan of a source's jobs.
 
-ghost use Rattle.std.specs.Prelude.{◌≡◌, IsTrue, false};
+ghost use Rattle.std.specs.Prelude.{◌≡◌, IsTrue, Some};
 ghost use Rattle.std.specs.Arc.{arc_value};
 ghost use Rattle.access_context.specs.Read.{all_done};
 ghost use Rattle.job_graph.specs.Rounds.{IsDue};
+ghost use Rattle.font_tables.specs.Tags.{group_of};
+ghost use Rattle.font_tables.specs.declared.tags.TableGroup.TheVariants as groups;
 ghost use Rattle.font_graph.specs.Graph.{plan, spec_of, There, value_of};
 ghost use Rattle.font_graph.specs.Same.{same_id};
 ghost use Rattle.font_graph.specs.Due.{lawful, solved_by};
 ghost use Rattle.font_graph.specs.declared.ids.JobId.TheVariants as job;
-ghost use Rattle.font_plan.specs.Jobs.{parts, is_of_outlines};
+ghost use Rattle.font_plan.specs.Jobs.{parts};
 ghost use Rattle.font_plan.specs.Settling.{Comes};
 
-use crate::font_reads::{glyphs_in, parts_in, tables_in};
+use crate::font_jobs::table_comes;
+use crate::font_reads::{characters_in, glyphs_in, parts_in, tables_in, variations_in};
 use crate::items::Item;
 use crate::outcomes::{PlanOutcome, blocked};
 use crate::reads::{
     PlanReads, flat_in, header_in, index_in, measures_in, order_in, raw_in, tree_in,
 };
-use crate::specs_of::{self, is_of_outlines};
-use crate::{font_jobs, glyph_jobs, source_jobs};
+use crate::{font_jobs, glyph_jobs, source_jobs, specs_of};
 use access_context::Spec;
 use font_graph::JobId;
 use font_ir::Tag;
+use font_tables::{
+    TableGroup, code_table, group_of, metrics_table, os2_table, outline_table, plain_table,
+    style_table, variations_table,
+};
+use glyphs_source::built_headers_have_one_master;
 use job_graph::{Plan, Solved};
 use refusal_codes::NoMemory;
 use std::alloc::Global;
@@ -128,9 +135,29 @@ impl FontPlan {
         ensures { Comes result
             ((plan (parts self.now) same_id).outcome (job.Simple glyph) reads.now) }
     {
+        built_headers_have_one_master();
         let header = header_in(reads).get();
         let flat = flat_in(reads, glyph).get().get();
         glyph_jobs::run_simple(alloc, header, flat)
+    }
+
+    /// Writes how a glyph's points change over the design space.
+    fn run_variations(
+        &self,
+        alloc: Global,
+        glyph: u32,
+        reads: &PlanReads,
+    ) -> Result<PlanOutcome, NoMemory>
+        requires due { IsDue same_id (plan (parts self.now) same_id) (job.Variations glyph)
+            reads.now }
+        requires done { IsTrue (all_done reads.now) }
+        ensures { Comes result
+            ((plan (parts self.now) same_id).outcome (job.Variations glyph) reads.now) }
+    {
+        let header = header_in(reads).get();
+        let index = index_in(reads).get();
+        let flat = flat_in(reads, glyph).get().get();
+        glyph_jobs::run_variations(alloc, header, index, flat)
     }
 
     /// Orders the font's glyphs.
@@ -140,7 +167,7 @@ impl FontPlan {
         ensures { Comes result
             ((plan (parts self.now) same_id).outcome job.Order reads.now) }
     {
-        font_jobs::run_order(alloc, index_in(reads).get())
+        font_jobs::run_order(alloc, header_in(reads).get(), index_in(reads).get())
     }
 
     /// Measures the font's glyphs.
@@ -150,6 +177,7 @@ impl FontPlan {
         ensures { Comes result
             ((plan (parts self.now) same_id).outcome job.Advances reads.now) }
     {
+        built_headers_have_one_master();
         let header = header_in(reads).get();
         let order = order_in(reads);
         let glyphs = glyphs_in(alloc, header, order, reads)?;
@@ -163,21 +191,21 @@ impl FontPlan {
         ensures { Comes result
             ((plan (parts self.now) same_id).outcome (job.Table tag) reads.now) }
     {
-        if is_of_outlines(tag) {
-            self.run_outlines(alloc, tag, reads)
-        } else {
-            self.run_metrics(alloc, tag, reads)
+        match group_of(tag) {
+            Some(TableGroup::Plain) => self.run_plain(alloc, tag, reads),
+            Some(TableGroup::Style) => self.run_style(alloc, tag, reads),
+            Some(TableGroup::Codes) => self.run_codes(alloc, tag, reads),
+            Some(TableGroup::CodeMetrics) => self.run_code_metrics(alloc, tag, reads),
+            Some(TableGroup::Metrics) => self.run_metrics(alloc, tag, reads),
+            Some(TableGroup::Outlines) => self.run_outlines(alloc, tag, reads),
+            Some(TableGroup::Variations) => self.run_all_variations(alloc, tag, reads),
+            None => table_comes(alloc, Ok(None)),
         }
     }
 
-    /// Writes a table that is made of the glyphs' data.
-    fn run_outlines(
-        &self,
-        alloc: Global,
-        tag: Tag,
-        reads: &PlanReads,
-    ) -> Result<PlanOutcome, NoMemory>
-        requires outlines { IsTrue (is_of_outlines tag) }
+    /// Writes a table that is made of the header and the order.
+    fn run_plain(&self, alloc: Global, tag: Tag, reads: &PlanReads) -> Result<PlanOutcome, NoMemory>
+        requires group { group_of tag ≡ Some groups.Plain }
         requires due { IsDue same_id (plan (parts self.now) same_id) (job.Table tag) reads.now }
         requires done { IsTrue (all_done reads.now) }
         ensures { Comes result
@@ -185,8 +213,53 @@ impl FontPlan {
     {
         let header = header_in(reads).get();
         let order = order_in(reads);
-        let parts = parts_in(alloc, header, order, reads)?;
-        font_jobs::run_outlines(alloc, tag, parts.as_slice())
+        table_comes(alloc, plain_table(alloc, tag, header, order))
+    }
+
+    /// Writes a table of the font's styles.
+    fn run_style(&self, alloc: Global, tag: Tag, reads: &PlanReads) -> Result<PlanOutcome, NoMemory>
+        requires group { group_of tag ≡ Some groups.Style }
+        requires due { IsDue same_id (plan (parts self.now) same_id) (job.Table tag) reads.now }
+        requires done { IsTrue (all_done reads.now) }
+        ensures { Comes result
+            ((plan (parts self.now) same_id).outcome (job.Table tag) reads.now) }
+    {
+        table_comes(alloc, style_table(alloc, tag, header_in(reads).get()))
+    }
+
+    /// Writes the table of the font's characters.
+    fn run_codes(&self, alloc: Global, tag: Tag, reads: &PlanReads) -> Result<PlanOutcome, NoMemory>
+        requires group { group_of tag ≡ Some groups.Codes }
+        requires due { IsDue same_id (plan (parts self.now) same_id) (job.Table tag) reads.now }
+        requires done { IsTrue (all_done reads.now) }
+        ensures { Comes result
+            ((plan (parts self.now) same_id).outcome (job.Table tag) reads.now) }
+    {
+        let order = order_in(reads);
+        let characters = characters_in(alloc, index_in(reads).get(), order)?;
+        table_comes(alloc, code_table(alloc, order, characters.as_slice()))
+    }
+
+    /// Writes the table of the font's metrics and characters.
+    fn run_code_metrics(
+        &self,
+        alloc: Global,
+        tag: Tag,
+        reads: &PlanReads,
+    ) -> Result<PlanOutcome, NoMemory>
+        requires group { group_of tag ≡ Some groups.CodeMetrics }
+        requires due { IsDue same_id (plan (parts self.now) same_id) (job.Table tag) reads.now }
+        requires done { IsTrue (all_done reads.now) }
+        ensures { Comes result
+            ((plan (parts self.now) same_id).outcome (job.Table tag) reads.now) }
+    {
+        let header = header_in(reads).get();
+        let measures = measures_in(reads).get();
+        let characters = characters_in(alloc, index_in(reads).get(), order_in(reads))?;
+        table_comes(
+            alloc,
+            os2_table(alloc, header, measures, characters.as_slice()),
+        )
     }
 
     /// Writes a table of metrics.
@@ -196,15 +269,52 @@ impl FontPlan {
         tag: Tag,
         reads: &PlanReads,
     ) -> Result<PlanOutcome, NoMemory>
-        requires metrics { is_of_outlines tag ≡ false }
+        requires group { group_of tag ≡ Some groups.Metrics }
+        requires due { IsDue same_id (plan (parts self.now) same_id) (job.Table tag) reads.now }
+        requires done { IsTrue (all_done reads.now) }
+        ensures { Comes result
+            ((plan (parts self.now) same_id).outcome (job.Table tag) reads.now) }
+    {
+        built_headers_have_one_master();
+        let header = header_in(reads).get();
+        let measures = measures_in(reads).get();
+        table_comes(alloc, metrics_table(alloc, tag, header, measures))
+    }
+
+    /// Writes a table that is made of the glyphs' data.
+    fn run_outlines(
+        &self,
+        alloc: Global,
+        tag: Tag,
+        reads: &PlanReads,
+    ) -> Result<PlanOutcome, NoMemory>
+        requires group { group_of tag ≡ Some groups.Outlines }
         requires due { IsDue same_id (plan (parts self.now) same_id) (job.Table tag) reads.now }
         requires done { IsTrue (all_done reads.now) }
         ensures { Comes result
             ((plan (parts self.now) same_id).outcome (job.Table tag) reads.now) }
     {
         let header = header_in(reads).get();
-        let measures = measures_in(reads).get();
-        font_jobs::run_metrics(alloc, tag, header, measures)
+        let parts = parts_in(alloc, header, order_in(reads), reads)?;
+        table_comes(alloc, outline_table(alloc, tag, parts.as_slice()))
+    }
+
+    /// Writes the table of the glyphs' variations.
+    fn run_all_variations(
+        &self,
+        alloc: Global,
+        tag: Tag,
+        reads: &PlanReads,
+    ) -> Result<PlanOutcome, NoMemory>
+        requires group { group_of tag ≡ Some groups.Variations }
+        requires due { IsDue same_id (plan (parts self.now) same_id) (job.Table tag) reads.now }
+        requires done { IsTrue (all_done reads.now) }
+        ensures { Comes result
+            ((plan (parts self.now) same_id).outcome (job.Table tag) reads.now) }
+    {
+        let header = header_in(reads).get();
+        let parts = variations_in(alloc, order_in(reads), reads)?;
+        table_comes(alloc, variations_table(alloc, header, parts.as_slice()))
     }
 
     /// Puts the tables together.
@@ -242,13 +352,13 @@ impl Plan for FontPlan {
             JobId::Raw(glyph) => self.run_raw(alloc, glyph, reads),
             JobId::Flat(glyph) => self.run_flat(alloc, glyph, reads),
             JobId::Simple(glyph) => self.run_simple(alloc, glyph, reads),
+            JobId::Variations(glyph) => self.run_variations(alloc, glyph, reads),
             JobId::Order => self.run_order(alloc, reads),
             JobId::Advances => self.run_advances(alloc, reads),
             JobId::Table(tag) => self.run_table(alloc, tag, reads),
             JobId::Font => self.run_font(alloc, reads),
             // No job adds these yet.
             JobId::Composite(_)
-            | JobId::Variations(_)
             | JobId::FeatureParse
             | JobId::Kern
             | JobId::Marks

@@ -4,7 +4,7 @@ ghost use Rattle.std.specs.Prelude.{◌≡◌, IsSome, Some, []};
 ghost use Rattle.font_graph.specs.Running.{tree_read, header_read, index_read, raw_read, flat_read};
 ghost use Rattle.font_graph.specs.Running.{order_read, measures_read};
 ghost use Rattle.font_plan.specs.Jobs.{parts};
-ghost use Rattle.font_plan.specs.Reading.{simple_read, table_read};
+ghost use Rattle.font_plan.specs.Reading.{table_read};
 
 use crate::items::{DrawnGlyph, Item};
 use crate::known::Known;
@@ -92,17 +92,6 @@ pub fn measures_in(reads: &PlanReads) -> &Known<Measures>
 {
     match reads.done(&JobId::Advances) {
         Item::Advances(measures) => measures,
-        _ => unreachable!(),
-    }
-}
-
-/// The data of the glyph with this number.
-pub fn simple_in(reads: &PlanReads, glyph: u32) -> &SharedBytes
-    requires { IsSome (simple_read glyph reads.now) }
-    ensures { simple_read glyph reads.now ≡ Some result.now }
-{
-    match reads.done(&JobId::Simple(glyph)) {
-        Item::Simple(data) => data,
         _ => unreachable!(),
     }
 }

@@ -4,14 +4,15 @@ ghost use Rattle.std.specs.Prelude.{◌≡◌, ◌<◌, ℕ, List, [], length, O
 ghost use Rattle.refusal_codes.specs.Gives.{Gives};
 ghost use Rattle.refusal_codes.specs.declared.limits.TheConstants.{SOURCE_BYTES};
 ghost use Rattle.plist_reader.specs.Tree.{IsTree};
+ghost use Rattle.font_ir.specs.Headers.{IsHeader};
 ghost use Rattle.glyphs_source.specs.BuiltHeaders.{built_header_of};
 ghost use Rattle.glyphs_source.specs.IndexReading.{index_of};
-ghost use Rattle.font_graph.specs.Graph.{after_index};
+ghost use Rattle.font_graph.specs.Graph.{after_index, of_index};
 ghost use Rattle.font_graph.specs.Same.{same_id};
 ghost use Rattle.font_graph.specs.declared.items.Item.TheVariants as an;
-ghost use Rattle.font_plan.specs.Direct.{source_too_large};
+ghost use Rattle.font_plan.specs.FontFile.{source_too_large};
 ghost use Rattle.font_plan.specs.Font.{font_of};
-ghost use Rattle.font_plan.specs.Jobs.{parts, tree_of, numbers_in};
+ghost use Rattle.font_plan.specs.Jobs.{parts, tree_of};
 ghost use Rattle.font_plan.specs.Known.{IsIndex};
 ghost use Rattle.font_plan.specs.Settling.{Comes, made_by, none};
 
@@ -20,7 +21,10 @@ use crate::known::Known;
 use crate::order::numbers_in;
 use crate::outcomes::{PlanOutcome, made, made_last, refused};
 use crate::specs_of;
-use glyphs_source::{GlyphIndex, built_header, glyph_index};
+use font_ir::Header;
+use glyphs_source::{
+    GlyphIndex, built_header, exported_codes_are_distinct, glyph_index, notdef_is_exported,
+};
 use plain_lists::Text;
 use plist_reader::{Tree, read};
 use refusal_codes::limits::SOURCE_BYTES;
@@ -64,25 +68,45 @@ pub fn run_tree(alloc: Global, source: &[u8]) -> Result<PlanOutcome, NoMemory>
     }
 }
 
+/// The source's header.
+fn read_header(alloc: Global, tree: &Tree) -> Result<Header, ReadError>
+    requires { IsTree tree.now }
+    ensures header { Gives (λ header. header) result (built_header_of tree.now) }
+    ensures known { IfOk result IsHeader }
+{
+    built_header(alloc, tree)
+}
+
 /// Reads the source's header.
 pub fn run_header(alloc: Global, tree: &Tree) -> Result<PlanOutcome, NoMemory>
     requires { IsTree tree.now }
     ensures { Comes result (made_by an.Header none (built_header_of tree.now)) }
 {
-    match built_header(alloc, tree) {
+    match read_header(alloc, tree) {
         Ok(header) => made_last(alloc, Item::Header(Known::of(header))),
         Err(ReadError::Refused(refusal)) => Ok(refused(alloc, refusal)),
         Err(ReadError::NoMemory) => Err(NoMemory),
     }
 }
 
+/// The source's index of glyphs.
+fn read_index(alloc: Global, tree: &Tree) -> Result<GlyphIndex, ReadError>
+    requires { IsTree tree.now }
+    ensures index { Gives (λ index. index) result (index_of tree.now) }
+    ensures known { IfOk result IsIndex }
+{
+    exported_codes_are_distinct();
+    notdef_is_exported();
+    glyph_index(alloc, tree)
+}
+
 /// Reads the source's index of glyphs, and adds the jobs of those that are exported.
 pub fn run_index(alloc: Global, tree: &Tree) -> Result<PlanOutcome, NoMemory>
     requires { IsTree tree.now }
-    ensures { Comes result (made_by an.Index
-        (λ index. after_index (parts []) same_id (numbers_in index)) (index_of tree.now)) }
+    ensures { Comes result (made_by an.Index (λ index. after_index (parts []) same_id
+        (of_index (parts []) same_id index)) (index_of tree.now)) }
 {
-    match glyph_index(alloc, tree) {
+    match read_index(alloc, tree) {
         Ok(index) => index_made(alloc, index),
         Err(ReadError::Refused(refusal)) => Ok(refused(alloc, refusal)),
         Err(ReadError::NoMemory) => Err(NoMemory),
@@ -92,8 +116,8 @@ pub fn run_index(alloc: Global, tree: &Tree) -> Result<PlanOutcome, NoMemory>
 /// What comes of an index that was read.
 fn index_made(alloc: Global, index: GlyphIndex) -> Result<PlanOutcome, NoMemory>
     requires { IsIndex index }
-    ensures { Comes result (made_by an.Index
-        (λ index. after_index (parts []) same_id (numbers_in index)) (Ok index)) }
+    ensures { Comes result (made_by an.Index (λ index. after_index (parts []) same_id
+        (of_index (parts []) same_id index)) (Ok index)) }
 {
     let glyphs = numbers_in(alloc, &index)?;
     let added = specs_of::after_index(alloc, glyphs.as_slice())?;

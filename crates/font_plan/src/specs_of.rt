@@ -1,35 +1,22 @@
 //! The jobs of a source: what each reads, and which each adds.
 
 ghost use Rattle.std.specs.Prelude.{◌≡◌, ◌++◌, [], map, OnOk, IfOk};
+ghost use Rattle.font_tables.specs.Tags.{group_of};
+ghost use Rattle.font_tables.specs.declared.tags.TheConstants.{TABLE_TAGS};
 ghost use Rattle.font_graph.specs.Kinds.{awaited_by};
-ghost use Rattle.font_graph.specs.Graph.{spec_with, after_index, after_order, plan};
+ghost use Rattle.font_graph.specs.Graph.{needed, varied_of, of_glyph, spec_with, after_index};
+ghost use Rattle.font_graph.specs.Graph.{after_raw, after_order, plan};
 ghost use Rattle.font_graph.specs.Same.{same_id};
 ghost use Rattle.font_graph.specs.declared.ids.JobId.TheVariants as job;
-ghost use Rattle.font_plan.specs.Jobs.{parts, is_of_outlines, table_tags};
+ghost use Rattle.font_plan.specs.Jobs.{parts, needs_in};
 
 use access_context::{Access, Spec};
 use font_graph::JobId;
 use font_ir::Tag;
+use font_tables::{TABLE_TAGS, TableGroup, group_of};
 use plain_lists::Sequence;
 use refusal_codes::NoMemory;
 use std::alloc::Global;
-
-/// The tags of the tables, in the order in which they stand in a font (OpenType 1.9).
-pub const TABLE_TAGS: [Tag; 6] = [
-    Tag(*b"glyf"),
-    Tag(*b"head"),
-    Tag(*b"hhea"),
-    Tag(*b"hmtx"),
-    Tag(*b"loca"),
-    Tag(*b"maxp"),
-];
-
-/// Whether a table is made of the glyphs' data.
-pub fn is_of_outlines(tag: Tag) -> bool
-    ensures { result ≡ is_of_outlines tag }
-{
-    tag.0 == *b"glyf" || tag.0 == *b"loca"
-}
 
 /// The job with this id, where it reads these items.
 fn spec(id: JobId, reads: Vec<JobId>) -> Spec<JobId>
@@ -73,9 +60,44 @@ fn push_data(reads: &mut Vec<JobId>, glyphs: &[u32]) -> Result<(), NoMemory>
     Ok(())
 }
 
+/// Adds the variations of the glyphs with these numbers.
+fn push_variations(reads: &mut Vec<JobId>, glyphs: &[u32]) -> Result<(), NoMemory>
+    ensures { OnOk result (reads.new.items ≡ reads.old.items ++ map job.Variations glyphs.now) }
+{
+    for glyph in glyphs {
+        reads.push(JobId::Variations(*glyph))?;
+    }
+    Ok(())
+}
+
+/// Adds what a table of this group needs.
+fn push_needed(
+    reads: &mut Vec<JobId>,
+    group: Option<TableGroup>,
+    glyphs: &[u32],
+    varied: &[u32],
+) -> Result<(), NoMemory>
+    ensures { OnOk result (reads.new.items ≡ reads.old.items
+        ++ needed (record { exported = glyphs.now; varied = varied.now }) (needs_in group)) }
+{
+    match group {
+        Some(TableGroup::Codes) => reads.push(JobId::Index)?,
+        Some(TableGroup::Metrics) => reads.push(JobId::Advances)?,
+        Some(TableGroup::CodeMetrics) => {
+            reads.push(JobId::Advances)?;
+            reads.push(JobId::Index)?;
+        }
+        Some(TableGroup::Outlines) => push_data(reads, glyphs)?,
+        Some(TableGroup::Variations) => push_variations(reads, varied)?,
+        Some(TableGroup::Plain) | Some(TableGroup::Style) | None => {}
+    }
+    Ok(())
+}
+
 /// The job of the font's order.
 fn order(alloc: Global, glyphs: &[u32]) -> Result<Spec<JobId>, NoMemory>
-    ensures { IfOk result (λ s. s ≡ spec_with (parts []) same_id glyphs.now job.Order) }
+    ensures { IfOk result (λ s. s ≡ spec_with (parts []) same_id
+        (record { exported = glyphs.now; varied = [] }) job.Order) }
 {
     let mut reads = Vec::from_slice(alloc, &[JobId::Header, JobId::Index])?;
     push_flats(&mut reads, glyphs)?;
@@ -84,7 +106,8 @@ fn order(alloc: Global, glyphs: &[u32]) -> Result<Spec<JobId>, NoMemory>
 
 /// The job that measures the glyphs.
 fn advances(alloc: Global, glyphs: &[u32]) -> Result<Spec<JobId>, NoMemory>
-    ensures { IfOk result (λ s. s ≡ spec_with (parts []) same_id glyphs.now job.Advances) }
+    ensures { IfOk result (λ s. s ≡ spec_with (parts []) same_id
+        (record { exported = glyphs.now; varied = [] }) job.Advances) }
 {
     let mut reads = Vec::from_slice(alloc, &[JobId::Header, JobId::Order])?;
     push_flats(&mut reads, glyphs)?;
@@ -92,21 +115,19 @@ fn advances(alloc: Global, glyphs: &[u32]) -> Result<Spec<JobId>, NoMemory>
 }
 
 /// The job of a table.
-fn table(alloc: Global, glyphs: &[u32], tag: Tag) -> Result<Spec<JobId>, NoMemory>
-    ensures { IfOk result (λ s. s ≡ spec_with (parts []) same_id glyphs.now (job.Table tag)) }
+fn table(alloc: Global, glyphs: &[u32], varied: &[u32], tag: Tag) -> Result<Spec<JobId>, NoMemory>
+    ensures { IfOk result (λ s. s ≡ spec_with (parts []) same_id
+        (record { exported = glyphs.now; varied = varied.now }) (job.Table tag)) }
 {
     let mut reads = Vec::from_slice(alloc, &[JobId::Header, JobId::Order])?;
-    if is_of_outlines(tag) {
-        push_data(&mut reads, glyphs)?;
-    } else {
-        reads.push(JobId::Advances)?;
-    }
+    push_needed(&mut reads, group_of(tag), glyphs, varied)?;
     Ok(spec(JobId::Table(tag), reads))
 }
 
 /// The job of the font.
 fn font(alloc: Global) -> Result<Spec<JobId>, NoMemory>
-    ensures { IfOk result (λ s. s ≡ spec_with (parts []) same_id [] job.Font) }
+    ensures { IfOk result (λ s. s ≡ spec_with (parts []) same_id
+        (of_glyph (parts []) same_id) job.Font) }
 {
     let mut reads = Vec::with_capacity(alloc, TABLE_TAGS.len())?;
     for tag in TABLE_TAGS {
@@ -117,7 +138,8 @@ fn font(alloc: Global) -> Result<Spec<JobId>, NoMemory>
 
 /// The job that reads a glyph.
 pub fn raw(alloc: Global, glyph: u32) -> Result<Spec<JobId>, NoMemory>
-    ensures { IfOk result (λ s. s ≡ spec_with (parts []) same_id [] (job.Raw glyph)) }
+    ensures { IfOk result (λ s. s ≡ spec_with (parts []) same_id
+        (of_glyph (parts []) same_id) (job.Raw glyph)) }
 {
     small(
         alloc,
@@ -128,7 +150,8 @@ pub fn raw(alloc: Global, glyph: u32) -> Result<Spec<JobId>, NoMemory>
 
 /// The job that draws a glyph.
 pub fn flat(alloc: Global, glyph: u32) -> Result<Spec<JobId>, NoMemory>
-    ensures { IfOk result (λ s. s ≡ spec_with (parts []) same_id [] (job.Flat glyph)) }
+    ensures { IfOk result (λ s. s ≡ spec_with (parts []) same_id
+        (of_glyph (parts []) same_id) (job.Flat glyph)) }
 {
     small(
         alloc,
@@ -139,12 +162,25 @@ pub fn flat(alloc: Global, glyph: u32) -> Result<Spec<JobId>, NoMemory>
 
 /// The job that writes a simple glyph's data.
 pub fn simple(alloc: Global, glyph: u32) -> Result<Spec<JobId>, NoMemory>
-    ensures { IfOk result (λ s. s ≡ spec_with (parts []) same_id [] (job.Simple glyph)) }
+    ensures { IfOk result (λ s. s ≡ spec_with (parts []) same_id
+        (of_glyph (parts []) same_id) (job.Simple glyph)) }
 {
     small(
         alloc,
         JobId::Simple(glyph),
         &[JobId::Header, JobId::Flat(glyph)],
+    )
+}
+
+/// The job that writes how a glyph's points change over the design space.
+pub fn variations(alloc: Global, glyph: u32) -> Result<Spec<JobId>, NoMemory>
+    ensures { IfOk result (λ s. s ≡ spec_with (parts []) same_id
+        (of_glyph (parts []) same_id) (job.Variations glyph)) }
+{
+    small(
+        alloc,
+        JobId::Variations(glyph),
+        &[JobId::Header, JobId::Index, JobId::Flat(glyph)],
     )
 }
 
@@ -161,7 +197,8 @@ pub fn opening(alloc: Global) -> Result<Vec<Spec<JobId>>, NoMemory>
 
 /// The jobs that the index adds: those that read the exported glyphs, and the order's.
 pub fn after_index(alloc: Global, glyphs: &[u32]) -> Result<Vec<Spec<JobId>>, NoMemory>
-    ensures { IfOk result (λ jobs. jobs.items ≡ after_index (parts []) same_id glyphs.now) }
+    ensures { IfOk result (λ jobs. jobs.items ≡ after_index (parts []) same_id
+        (record { exported = glyphs.now; varied = [] })) }
 {
     let mut jobs = Vec::new(alloc);
     push_raws(alloc, &mut jobs, glyphs)?;
@@ -172,7 +209,8 @@ pub fn after_index(alloc: Global, glyphs: &[u32]) -> Result<Vec<Spec<JobId>>, No
 /// Adds the jobs that read these glyphs.
 fn push_raws(alloc: Global, jobs: &mut Vec<Spec<JobId>>, glyphs: &[u32]) -> Result<(), NoMemory>
     ensures { OnOk result (jobs.new.items ≡ jobs.old.items
-        ++ map (λ glyph. spec_with (parts []) same_id [] (job.Raw glyph)) glyphs.now) }
+        ++ map (λ glyph. spec_with (parts []) same_id
+        (of_glyph (parts []) same_id) (job.Raw glyph)) glyphs.now) }
 {
     for glyph in glyphs {
         jobs.push(raw(alloc, *glyph)?)?;
@@ -180,24 +218,49 @@ fn push_raws(alloc: Global, jobs: &mut Vec<Spec<JobId>>, glyphs: &[u32]) -> Resu
     Ok(())
 }
 
-/// The jobs that the order adds: what measures the glyphs, the font, and its tables.
-pub fn after_order(alloc: Global, glyphs: &[u32]) -> Result<Vec<Spec<JobId>>, NoMemory>
-    ensures { IfOk result (λ jobs. jobs.items ≡ after_order (parts []) same_id glyphs.now) }
+/// The jobs that a glyph that is read adds: the one that draws it, and in a font with axes the one
+/// of its variations.
+pub fn after_raw(alloc: Global, varies: bool, glyph: u32) -> Result<Vec<Spec<JobId>>, NoMemory>
+    ensures { IfOk result (λ jobs. jobs.items ≡ after_raw (parts []) same_id varies glyph) }
 {
+    let mut jobs = Vec::with_capacity(alloc, 2)?;
+    jobs.push(flat(alloc, glyph)?)?;
+    if varies {
+        jobs.push(variations(alloc, glyph)?)?;
+    }
+    Ok(jobs)
+}
+
+/// The jobs that the order adds: what measures the glyphs, the font, and its tables.
+pub fn after_order(
+    alloc: Global,
+    glyphs: &[u32],
+    varies: bool,
+) -> Result<Vec<Spec<JobId>>, NoMemory>
+    ensures { IfOk result (λ jobs. jobs.items ≡ after_order (parts []) same_id
+        (record { exported = glyphs.now; varied = varied_of varies glyphs.now })) }
+{
+    let varied = if varies { glyphs } else { &[] };
     let mut jobs = Vec::new(alloc);
     jobs.push(advances(alloc, glyphs)?)?;
     jobs.push(font(alloc)?)?;
-    push_tables(alloc, &mut jobs, glyphs)?;
+    push_tables(alloc, &mut jobs, glyphs, varied)?;
     Ok(jobs)
 }
 
 /// Adds the jobs of the tables.
-fn push_tables(alloc: Global, jobs: &mut Vec<Spec<JobId>>, glyphs: &[u32]) -> Result<(), NoMemory>
+fn push_tables(
+    alloc: Global,
+    jobs: &mut Vec<Spec<JobId>>,
+    glyphs: &[u32],
+    varied: &[u32],
+) -> Result<(), NoMemory>
     ensures { OnOk result (jobs.new.items ≡ jobs.old.items
-        ++ map (λ tag. spec_with (parts []) same_id glyphs.now (job.Table tag)) table_tags) }
+        ++ map (λ tag. spec_with (parts []) same_id
+        (record { exported = glyphs.now; varied = varied.now }) (job.Table tag)) TABLE_TAGS) }
 {
     for tag in TABLE_TAGS {
-        jobs.push(table(alloc, glyphs, tag)?)?;
+        jobs.push(table(alloc, glyphs, varied, tag)?)?;
     }
     Ok(())
 }

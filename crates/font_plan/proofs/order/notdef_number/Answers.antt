@@ -1,6 +1,7 @@
 use Rattle.std.proofs.Common.{ℕ, sym, ap, ◌∙◌, ◌≡◌, Some}
 use Rattle.std.specs.Option.{option_map}
-use Rattle.font_plan.specs.Direct.{Entry, notdef_from}
+use Rattle.character_codes.specs.CharacterCodes.{Entry}
+use Rattle.font_plan.specs.Order.{notdef_from}
 use Rattle.font_plan.proofs.Steps.{notdef_here, notdef_later}
 use Rattle.font_plan.proofs.order.notdef_number.Goals as goal
 

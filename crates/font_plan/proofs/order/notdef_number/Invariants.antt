@@ -1,6 +1,6 @@
 -- the glyph is to be found in what is left
 use Rattle.std.proofs.Common.{◌≡◌, drop}
-use Rattle.font_plan.specs.Direct.{notdef_from}
+use Rattle.font_plan.specs.Order.{notdef_from}
 use Rattle.font_plan.proofs.order.notdef_number.Given as goal
 
 abbrev pub invariant-loop-number : goal.invariant-loop-number

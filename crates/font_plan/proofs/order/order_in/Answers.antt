@@ -3,7 +3,7 @@ use Rattle.std.proofs.Common.{ℕ, List, [], ◌∷◌, ◌++◌, map, nat_eq, a
 use Rattle.std.specs.Prelude.{codes}
 use Rattle.std.specs.List.{IsDistinct}
 use Rattle.std.specs.Cmp.Lexicographic.{pointwise}
-use Rattle.font_plan.specs.Direct.{others_from}
+use Rattle.font_plan.specs.Order.{others_from}
 use Rattle.font_plan.proofs.Names.{names_differ}
 use Rattle.font_plan.proofs.order.order_in.Goals as goal
 

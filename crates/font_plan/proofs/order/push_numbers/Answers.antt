@@ -1,6 +1,7 @@
 -- a number more, or a glyph passed
 use Rattle.std.proofs.Common.{◌+◌, ◌++◌, ℕ, map, drop, sym, ap, ◌∙◌, List}
-use Rattle.font_plan.specs.Direct.{Entry, others_from}
+use Rattle.character_codes.specs.CharacterCodes.{Entry}
+use Rattle.font_plan.specs.Order.{others_from}
 use Rattle.font_plan.proofs.Steps.{others_next, others_passed, moved}
 use Rattle.font_plan.proofs.order.push_numbers.Goals as goal
 use Rattle.font_plan.proofs.order.push_numbers.Goals.{then-is_other+in_ok-push, else-is_other}

@@ -1,6 +1,6 @@
 -- the numbers so far, and what is left behind them, are the whole
 use Rattle.std.proofs.Common.{◌≡◌, ◌++◌, map, drop}
-use Rattle.font_plan.specs.Direct.{others_from}
+use Rattle.font_plan.specs.Order.{others_from}
 use Rattle.font_plan.proofs.order.push_numbers.Given as goal
 
 abbrev pub invariant-loop-number : goal.invariant-loop-number

@@ -6,7 +6,8 @@ use Rattle.refusal_codes.specs.declared.limits.TheConstants.{NAME_BYTES}
 use Rattle.font_ir.specs.Glyphs.{Glyphs, gid_of}
 use Rattle.std.specs.Cmp.Lexicographic.{pointwise}
 use Rattle.std.proofs.lemmas.List.{length-append, length-map}
-use Rattle.font_plan.specs.Direct.{Entry, others_from}
+use Rattle.character_codes.specs.CharacterCodes.{Entry}
+use Rattle.font_plan.specs.Order.{others_from}
 use Rattle.font_plan.proofs.Names.{new_name, short_there}
 use Rattle.font_plan.proofs.Steps.{others_next, others_passed, moved, room_left}
 use Rattle.font_plan.proofs.order.push_others.Goals as goal

@@ -1,6 +1,6 @@
 -- the order so far, and what is left behind it, are the whole
 use Rattle.std.proofs.Common.{◌≡◌, ◌++◌, Some, map, drop}
-use Rattle.font_plan.specs.Direct.{others_from}
+use Rattle.font_plan.specs.Order.{others_from}
 use Rattle.font_plan.proofs.order.push_others.Given as goal
 
 abbrev pub invariant-loop-number : goal.invariant-loop-number

@@ -25,4 +25,4 @@ returns c =
     let complete = law board.workers board.events c.events.ensures.history.legal c.requires in
     c.least_told.ensures
     ∙ ap (λ events. least (flat_map (told (parts board.plan)) events)) c.events.ensures.events
-    ∙ ended_least (parts board.plan) board.events complete (record { 0 = codes "glyf" }) (inl refl)
+    ∙ ended_least (parts board.plan) board.events complete (record { 0 = codes "HVAR" }) (inl refl)

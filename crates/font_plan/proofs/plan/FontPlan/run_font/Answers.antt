@@ -2,8 +2,7 @@
 use Rattle.std.proofs.Common.{ap, sym, ◌∙◌, subst, Some}
 use Rattle.font_plan.specs.Jobs.{parts}
 use Rattle.font_plan.specs.Settling.{Comes}
-use Rattle.std.proofs.Common.{◌≡◌, ℕ, true, List, [], Option, inl, inr, refl, arith}
-use Rattle.std.specs.Prelude.{codes}
+use Rattle.std.proofs.Common.{◌≡◌, ℕ, true, List, [], Option, arith}
 use Rattle.std.specs.List.{flat_map}
 use Rattle.std.proofs.lemmas.List.{length-map}
 use Rattle.access_context.specs.Read.{all_done}
@@ -15,8 +14,8 @@ use Rattle.font_graph.specs.Running.{font_finds, FontFound, tables_read}
 use Rattle.font_graph.specs.Same.{same_id}
 use Rattle.font_graph.specs.declared.ids.JobId.TheVariants as job
 use Rattle.font_graph.specs.declared.items.Item.TheVariants as an
-use Rattle.font_plan.specs.Direct.{filed}
-use Rattle.font_plan.specs.Jobs.{table_tags}
+use Rattle.font_plan.specs.FontFile.{filed}
+use Rattle.font_tables.specs.declared.tags.TheConstants.{TABLE_TAGS}
 use Rattle.font_plan.specs.Reading.{PlanReads, table_read, present_table}
 use Rattle.font_plan.specs.Settling.{made_by, none}
 use Rattle.font_plan.proofs.Orders.{some_there}
@@ -28,8 +27,7 @@ use Rattle.font_plan.proofs.plan.FontPlan.run_font.Goals as goal
 found : (source : List ℕ) (reads : PlanReads)
     → IsDue same_id (plan (parts source) same_id) job.Font reads → all_done reads ≡ true
     → FontFound (parts source) reads
-found source reads due done = font_finds (parts source) (record { 0 = codes "glyf" })
-    (record { 0 = codes "head" }) (inl refl) (inr (inl refl)) refl refl reads due done
+found source reads due done = font_finds (parts source) reads due done
 
 tables : (source : List ℕ) (reads : PlanReads)
     → IsDue same_id (plan (parts source) same_id) job.Font reads → all_done reads ≡ true
@@ -40,7 +38,7 @@ tables source reads due done = some_there (tables_read (parts []) reads)
 make_file : (source : List ℕ) (reads : PlanReads)
     → IsDue same_id (plan (parts source) same_id) job.Font reads → all_done reads ≡ true
     → (ts : List Table)
-    → ts ≡ flat_map (λ tag. present_table tag (table_read tag reads)) table_tags → MakeFile ts
+    → ts ≡ flat_map (λ tag. present_table tag (table_read tag reads)) TABLE_TAGS → MakeFile ts
 make_file source reads due done ts is =
     let read = tables source reads due done in
     subst MakeFile (sym (is ∙ tables_are reads read.0 read.1))
@@ -55,7 +53,7 @@ run_font-requires-clause-count c =
     let count = (make_file c.args.self.now c.args.reads.now c.requires.due c.requires.done
     (tables_of c.as_slice.result.now)
     (ap tables_of c.as_slice.ensures.value ∙ c.in_ok-tables.ensures)).count in
-    omega (arith, sym (length-map c.as_slice.result.now table_of) ∙ count)
+    omega (arith, length-map c.as_slice.result.now table_of, count)
 
 pub run_font-requires-clause-tags : goal.run_font-requires-clause-tags
 run_font-requires-clause-tags c = (make_file c.args.self.now c.args.reads.now c.requires.due

@@ -1,10 +1,9 @@
 -- what the job finds is what its part reads
-use Rattle.std.proofs.Common.{◌≡◌, [], ap, sym, ◌∙◌, subst, Some}
-use Rattle.font_ir.specs.declared.header.Header.{Header}
-use Rattle.font_plan.specs.Jobs.{parts}
-use Rattle.font_plan.specs.Settling.{Comes}
+use Rattle.std.proofs.Common.{ap, sym, ◌∙◌, subst, Some}
 use Rattle.font_graph.specs.Running.{simple_finds}
+use Rattle.font_plan.specs.Jobs.{parts}
 use Rattle.font_plan.specs.Known.{IsSimple}
+use Rattle.font_plan.specs.Settling.{Comes}
 use Rattle.font_plan.proofs.Found.{flat_placed}
 use Rattle.font_plan.proofs.Runs.{simple_comes}
 use Rattle.font_plan.proofs.plan.FontPlan.run_simple.Goals as goal
@@ -24,11 +23,9 @@ run_simple-requires-clause-drawn c =
     record {
       flat = simple.flat;
       simple = simple.simple;
-      places = flat_placed c.args.self.now c.args.glyph c.args.reads.now
-          (simple_finds (parts c.args.self.now) c.args.glyph c.args.reads.now c.requires.due
-          c.requires.done) c.get-header.result.now c.get-flat.result.now
-          (subst (λ (h : Header). h.axes ≡ []) (sym c.get-header.ensures.value)
-          c.get-header.ensures.holds.no_axes)
+      places = flat_placed c.built_headers_have_one_master.ensures c.args.self.now c.args.glyph
+          c.args.reads.now (simple_finds (parts c.args.self.now) c.args.glyph c.args.reads.now
+          c.requires.due c.requires.done) c.get-header.result.now c.get-flat.result.now
           (c.header_in.ensures ∙ ap Some (sym c.get-header.ensures.value))
           (c.flat_in.ensures ∙ ap Some (sym (c.get-flat.ensures ∙ c.get.ensures.value)));
     }

@@ -1,0 +1,25 @@
+-- what the job finds is what its part reads
+use Rattle.std.proofs.Common.{[], ap, sym, ◌∙◌, subst, Some, refl}
+use Rattle.font_tables.specs.declared.tags.TableGroup.TheVariants as groups
+use Rattle.font_graph.specs.Running.{table_finds, order_read}
+use Rattle.font_plan.specs.Jobs.{parts}
+use Rattle.font_plan.specs.Settling.{Comes}
+use Rattle.font_plan.proofs.Orders.{some_there}
+use Rattle.font_plan.proofs.Runs.{table_comes_so}
+use Rattle.font_graph.specs.Parts.{nothing}
+use Rattle.font_plan.proofs.plan.FontPlan.run_style.Goals as goal
+
+pub header_in-requires : goal.header_in-requires
+header_in-requires c = (table_finds (parts c.args.self.now) c.args.tag c.args.reads.now c.requires.due
+    c.requires.done).header
+
+pub returns : goal.returns
+returns c =
+    let order = some_there (order_read (parts []) c.args.reads.now)
+    (table_finds (parts c.args.self.now) c.args.tag c.args.reads.now c.requires.due
+    c.requires.done).order in
+    subst (Comes c.table_comes.result)
+    (table_comes_so c.args.self.now c.args.reads.now c.args.tag (Some groups.Style)
+    c.get.result.now order.0 nothing c.requires.group
+    (c.header_in.ensures ∙ ap Some (sym c.get.ensures.value)) order.1 refl)
+    (c.table_comes.ensures _ c.style_table.ensures)

@@ -1,0 +1,5 @@
+pub mod ZeroFirst
+pub mod Constants
+pub mod StillRows
+pub mod MadeNotdef
+pub mod NoAxes

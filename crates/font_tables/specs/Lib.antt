@@ -1,0 +1,4 @@
+pub mod Tags
+pub mod Ordered
+pub mod Variations
+pub mod Tables
