@@ -1,14 +1,12 @@
 -- What each job of a source finds where it is run, as its calls need it.
-use Rattle.std.proofs.Common.{◌≡◌, ℕ, suc, ◌<◌, ◌≤◌, ◌+◌, List, [], ◌∷◌, map, length, Option}
+use Rattle.std.proofs.Common.{◌≡◌, ℕ, suc, ◌<◌, ◌≤◌, ◌+◌, List, [], ◌∷◌, map, length, take, Option}
 use Rattle.std.proofs.Common.{Some, None, Result, Ok, Err, refl, sym, ap, ◌∙◌, true, false, subst}
-use Rattle.std.proofs.Common.{Bool, arith, ℤ}
-use Rattle.std.specs.Prelude.{IsSome, option_and_then, if◌then◌else◌, nat_lt, unsigned_abs}
-use Rattle.std.proofs.lemmas.List.{length-map}
-use Rattle.std.proofs.lemmas.List.Elements.{All-nil, All-map}
+use Rattle.std.proofs.Common.{Bool, arith}
+use Rattle.std.specs.Prelude.{IsSome, option_and_then, if◌then◌else◌}
 use Rattle.std.specs.List.{All, AllByRecursion}
 use Rattle.std.specs.Option.{option_map}
 use Rattle.std.proofs.lemmas.Simd.{map-map}
-use Rattle.refusal_codes.specs.declared.limits.TheConstants.{GLYPHS, REGIONS}
+use Rattle.refusal_codes.specs.declared.limits.TheConstants.{GLYPHS}
 use Rattle.refusal_codes.specs.declared.refusal.Refusal.{Refusal}
 use Rattle.plist_reader.specs.declared.tree.Tree.{Tree}
 use Rattle.font_ir.specs.declared.header.Header.{Header}
@@ -16,19 +14,17 @@ use Rattle.font_ir.specs.declared.header.Master.{Master}
 use Rattle.font_ir.specs.declared.glyph.GlyphIr.{GlyphIr}
 use Rattle.font_ir.specs.declared.glyph.FlatGlyph.{FlatGlyph}
 use Rattle.font_ir.specs.declared.tag.Tag.{Tag}
+use Rattle.font_ir.specs.FlatGlyphs.{IsFlatGlyph}
 use Rattle.font_ir.specs.Glyphs.{Glyphs}
 use Rattle.font_ir.specs.Headers.{IsHeader}
 use Rattle.font_ir.specs.Notdef.{made_notdef_of}
-use Rattle.glyphs_source.specs.BuiltHeaders.{built_header_of}
+use Rattle.glyphs_source.specs.HeaderReading.{header_of}
+use Rattle.glyphs_layers.specs.SourceGlyphs.{ReadGlyphsAreWhole}
 use Rattle.metrics_tables.specs.declared.measures.Measures.{Measures}
 use Rattle.metrics_tables.specs.declared.measures.MeasureError.{MeasureError}
-use Rattle.metrics_tables.specs.declared.measures.MeasureError.TheVariants as measure_errors
-use Rattle.metrics_tables.specs.Changes.{regions_of, row_over, changes_of, large_from}
-use Rattle.metrics_tables.specs.StaticLaws.{no_regions}
-use Rattle.font_ir.specs.declared.variation.Region.{Region}
+use Rattle.metrics_tables.specs.Changes.{BeginsWithMasters}
 use Rattle.metrics_tables.specs.Hvar.{AreMeasuresFor}
-use Rattle.metrics_tables.specs.Measuring.{measured_of, measured_unless, font_measures, width_at}
-use Rattle.metrics_tables.specs.Measuring.{HasMastersPlaces}
+use Rattle.metrics_tables.specs.Measuring.{measured_of}
 use Rattle.character_codes.specs.CharacterCodes.{Entry}
 use Rattle.font_tables.specs.Tags.{group_of}
 use Rattle.font_tables.specs.declared.tags.TableGroup.{TableGroup}
@@ -48,7 +44,7 @@ use Rattle.font_plan.specs.Known.{IsSimple}
 use Rattle.font_plan.specs.Order.{order_in, numbers_in, notdef_from, others_from, ordered}
 use Rattle.font_plan.specs.Order.{is_order_of, ordered_is, behind_made}
 use Rattle.font_plan.specs.Reading.{PlanReads, number_read, glyph_read}
-use Rattle.font_plan.proofs.Made.{raw_known, HeadersHaveOneMaster, has_places, drawn_number}
+use Rattle.font_plan.proofs.Made.{raw_known, begins, drawn_number, DrawnGlyphsAreFlat, is_flat}
 use Rattle.font_plan.proofs.Made.{read_first}
 use Rattle.font_plan.proofs.Orders.{all_by, some_there, read_behind, read_there, read_count}
 use Rattle.font_plan.proofs.Orders.{made_count, numbers_few, order_few}
@@ -64,13 +60,13 @@ raw_within source glyph reads found raw index a b =
     let known = raw_known read.tree read.header index glyph raw read.raw_made in
     subst (λ n. n < length index) (sym known.number_is) known.within
 
-pub flat_placed : HeadersHaveOneMaster → (source : List ℕ) (glyph : ℕ) (reads : PlanReads)
+pub flat_placed : ReadGlyphsAreWhole → (source : List ℕ) (glyph : ℕ) (reads : PlanReads)
     → running.SimpleFound (parts source) glyph reads → (header : Header) (flat : FlatGlyph)
     → header_read (parts []) reads ≡ Some header
-    → flat_read (parts []) glyph reads ≡ Some flat → HasMastersPlaces header flat
-flat_placed static source glyph reads found header flat a b =
+    → flat_read (parts []) glyph reads ≡ Some flat → BeginsWithMasters header flat
+flat_placed whole source glyph reads found header flat a b =
     let made = found.flat_is header flat a b in
-    has_places static made.tree header made.index made.glyph made.raw flat (record {
+    begins whole made.tree header made.index made.glyph made.raw flat (record {
       header_read = made.header_made;
       raw_made = made.raw_made;
       flat_made = made.flat_made;
@@ -92,22 +88,41 @@ flat_within source glyph reads found header index flat a b e =
 
 -- ---- all glyphs
 
-places_all : HeadersHaveOneMaster → (tree : Tree) (header : Header) (index : List Entry)
-    (glyphs : List ℕ) (flats : List FlatGlyph) → built_header_of tree ≡ Ok header
+places_all : ReadGlyphsAreWhole → (tree : Tree) (header : Header) (index : List Entry)
+    (glyphs : List ℕ) (flats : List FlatGlyph) → header_of tree ≡ Ok header
     → AllMade (drawn (parts []) tree header index) glyphs flats
-    → AllByRecursion (HasMastersPlaces header) flats
-places_all static tree header index [] [] read m = tt
-places_all static tree header index [] (flat ∷ flats) read m = absurd m
-places_all static tree header index (glyph ∷ glyphs) [] read m = absurd m
-places_all static tree header index (glyph ∷ glyphs) (flat ∷ flats) read m =
+    → AllByRecursion (BeginsWithMasters header) flats
+places_all whole tree header index [] [] read m = tt
+places_all whole tree header index [] (flat ∷ flats) read m = absurd m
+places_all whole tree header index (glyph ∷ glyphs) [] read m = absurd m
+places_all whole tree header index (glyph ∷ glyphs) (flat ∷ flats) read m =
     let first = read_first tree header index glyph flat read m.0 in (
-      has_places static tree header index glyph first.0 flat first.1,
-      places_all static tree header index glyphs flats read m.1,
+      begins whole tree header index glyph first.0 flat first.1,
+      places_all whole tree header index glyphs flats read m.1,
+    )
+
+flat_all : ReadGlyphsAreWhole → DrawnGlyphsAreFlat → (tree : Tree) (header : Header)
+    (index : List Entry) (glyphs : List ℕ) (flats : List FlatGlyph) → header_of tree ≡ Ok header
+    → AllMade (drawn (parts []) tree header index) glyphs flats
+    → AllByRecursion IsFlatGlyph flats
+flat_all whole law tree header index [] [] read m = tt
+flat_all whole law tree header index [] (flat ∷ flats) read m = absurd m
+flat_all whole law tree header index (glyph ∷ glyphs) [] read m = absurd m
+flat_all whole law tree header index (glyph ∷ glyphs) (flat ∷ flats) read m =
+    let first = read_first tree header index glyph flat read m.0 in (
+      is_flat whole law tree header index glyph first.0 flat first.1,
+      flat_all whole law tree header index glyphs flats read m.1,
     )
 
 -- the made `.notdef` stands at the masters alone
-pub made_placed : (header : Header) → HasMastersPlaces header (made_notdef_of header)
-made_placed header = refl
+take_all : (masters : List Master)
+    → take (length masters) (map (λ master. master.location) masters)
+    ≡ map (λ master. master.location) masters
+take_all [] = refl
+take_all (master ∷ masters) = ap (λ rest. master.location ∷ rest) (take_all masters)
+
+pub made_begins : (header : Header) → BeginsWithMasters header (made_notdef_of header)
+made_begins header = take_all header.masters
 
 behind : (P : FlatGlyph → Type 0) (made : FlatGlyph) (numbers : List (Option ℕ))
     (flats : List FlatGlyph) → P made → AllByRecursion P flats
@@ -117,7 +132,7 @@ behind P made (None ∷ numbers) flats first all = (first, all)
 behind P made (Some number ∷ numbers) flats first all = all
 
 all_drawn : (header : Header) (glyphs : List FlatGlyph) → AllByRecursion IsSimple glyphs
-    → AllByRecursion (HasMastersPlaces header) glyphs → AllByRecursion (IsDrawn header) glyphs
+    → AllByRecursion (BeginsWithMasters header) glyphs → AllByRecursion (IsDrawn header) glyphs
 all_drawn header [] simple placed = tt
 all_drawn header (glyph ∷ glyphs) simple placed = (
   record { flat = simple.0.flat; simple = simple.0.simple; places = placed.0 },
@@ -157,12 +172,12 @@ pub record GlyphsFound (header : Header) (order : Glyphs) (reads : PlanReads)
   pub count : length glyphs ≡ length order.names
 
 -- and what was collected is the font's glyphs
-pub glyphs_found : HeadersHaveOneMaster → (source : List ℕ) (reads : PlanReads) (header : Header)
+pub glyphs_found : ReadGlyphsAreWhole → (source : List ℕ) (reads : PlanReads) (header : Header)
     (order : Glyphs) (glyphs : List FlatGlyph) → running.AdvancesFound (parts source) reads
     → header_read (parts []) reads ≡ Some header → order_read (parts []) reads ≡ Some order
     → map Some glyphs ≡ map (glyph_read header reads) order.numbers
     → AllByRecursion IsSimple glyphs → GlyphsFound header order reads glyphs
-glyphs_found static source reads header order glyphs found a b e simple =
+glyphs_found whole source reads header order glyphs found a b e simple =
     let flats = some_there (flats_read (parts []) (ordered order) reads) (found.flats order b) in
     let of = found.flats_are header order flats.0 a b flats.1 in
     let is = is_order_of of.0 order of.1.glyphs_ordered in
@@ -176,15 +191,15 @@ glyphs_found static source reads header order glyphs found a b e simple =
     (sym (ap (λ ns. flats_read (parts []) ns reads) numbers
     ∙ flats_by (numbers_in of.0) reads) ∙ flats.1)
     ∙ ap (λ (o : Glyphs). glyphs_with header o flats.0) (sym is) in
-    let placed = behind (HasMastersPlaces header) (made_notdef_of header) order.numbers flats.0
-    (made_placed header) (places_all static of.1.tree header
+    let placed = behind (BeginsWithMasters header) (made_notdef_of header) order.numbers flats.0
+    (made_begins header) (places_all whole of.1.tree header
     of.0 (numbers_in of.0) flats.0 of.1.header_read of.1.glyphs_drawn) in
     record {
       flats = flats.0;
       flats_are = flats.1;
       glyphs_are = all;
       drawn_are = all_by (IsDrawn header) glyphs (all_drawn header glyphs simple
-          (subst (AllByRecursion (HasMastersPlaces header)) (sym all) placed));
+          (subst (AllByRecursion (BeginsWithMasters header)) (sym all) placed));
       count = read_count (made_notdef_of header) read of.0 glyphs there
           ∙ ap (λ (o : Glyphs). length o.names) (sym is);
     }
@@ -292,48 +307,28 @@ measured_so : (names : List (List ℕ)) (glyphs : List FlatGlyph)
 measured_so names glyphs (Ok made) measures e = let same : made ≡ measures = cc in ap Ok same
 measured_so names glyphs (Err error) measures e = absurd cc
 
-same_measures : (large : Option (ℕ × ℤ)) (regions : ℕ) (wanted measures : Measures)
-    → measured_unless large regions wanted ≡ Ok measures → measures ≡ wanted
-same_measures (Some large) regions wanted measures e = absurd cc
-same_measures None regions wanted measures e = by (nat_lt REGIONS regions) e
-  where
-    by : (b : Bool) → (if b then Err (measure_errors.Regions regions) else Ok wanted)
-        ≡ Ok measures → measures ≡ wanted
-    by true f = absurd cc
-    by false f = cc
+abbrev pub MeasuresAreForTheirHeader : Type 0
+MeasuresAreForTheirHeader = (header : Header) (names : List (List ℕ)) (glyphs : List FlatGlyph)
+    (measures : Measures) → IsHeader header → All IsFlatGlyph glyphs
+    → All (BeginsWithMasters header) glyphs → measured_of header names glyphs ≡ Ok measures
+    → AreMeasuresFor header measures
 
--- those of a font of one master have no regions
-none_fit : (header : Header) (names : List (List ℕ)) (glyphs : List FlatGlyph)
-    → regions_of header glyphs ≡ [] → AreMeasuresFor header (font_measures header names glyphs)
-none_fit header names glyphs none = record {
-  few_regions = subst (λ (rs : List Region). length rs ≤ REGIONS) (sym none) (omega arith);
-  sides = subst (All (λ (region : Region). length region.sides ≡ length header.axes)) (sym none)
-      (All-nil (λ (region : Region). length region.sides ≡ length header.axes));
-  one_row = length-map glyphs (λ g. row_over (regions_of header glyphs) (changes_of g))
-      ∙ sym (length-map glyphs (λ g. unsigned_abs (width_at header.origin g)));
-  deltas = All-map (λ (row : List ℤ). length row ≡ length (regions_of header glyphs))
-      (λ g. row_over (regions_of header glyphs) (changes_of g)) glyphs
-      (λ k d within. length-map (regions_of header glyphs) _);
-}
-
-pub measures_fit : HeadersHaveOneMaster → (source : List ℕ) (header : Header) (order : Glyphs)
-    (measures : Measures) → IsHeader header
+pub measures_fit : ReadGlyphsAreWhole → DrawnGlyphsAreFlat → MeasuresAreForTheirHeader
+    → (source : List ℕ) (header : Header) (order : Glyphs) (measures : Measures)
+    → IsHeader header → IsFlatGlyph (made_notdef_of header)
     → IsOfGlyphs (parts source) header order TheMeasures (with_measures measures)
     → AreMeasuresFor header measures
-measures_fit static source header order measures is_header of =
+measures_fit whole flat_law fit_law source header order measures is_header made of =
     let glyphs = glyphs_with header order of.flats in
-    let read = static of.in_order.tree header of.in_order.header_read in
-    let placed = all_by (HasMastersPlaces header) glyphs (behind (HasMastersPlaces header)
-    (made_notdef_of header) order.numbers of.flats (made_placed header)
-    (places_all static of.in_order.tree header of.index (numbers_in of.index) of.flats
-    of.in_order.header_read of.in_order.glyphs_drawn)) in
-    let one = sym (length-map header.masters (λ (master : Master). master.location))
-    ∙ ap length read.one_master in
-    let none = no_regions header glyphs is_header one read.no_axes placed in
-    subst (AreMeasuresFor header) (sym (same_measures (large_from 0 glyphs)
-    (length (regions_of header glyphs)) (font_measures header order.names glyphs) measures
-    (measured_so order.names glyphs (measured_of header order.names glyphs) measures of.is_extra)))
-    (none_fit header order.names glyphs none)
+    fit_law header order.names glyphs measures is_header
+    (all_by IsFlatGlyph glyphs (behind IsFlatGlyph (made_notdef_of header) order.numbers of.flats
+    made (flat_all whole flat_law of.in_order.tree header of.index (numbers_in of.index) of.flats
+    of.in_order.header_read of.in_order.glyphs_drawn)))
+    (all_by (BeginsWithMasters header) glyphs (behind (BeginsWithMasters header)
+    (made_notdef_of header) order.numbers of.flats (made_begins header)
+    (places_all whole of.in_order.tree header of.index (numbers_in of.index) of.flats
+    of.in_order.header_read of.in_order.glyphs_drawn)))
+    (measured_so order.names glyphs (measured_of header order.names glyphs) measures of.is_extra)
 
 -- ---- variations
 

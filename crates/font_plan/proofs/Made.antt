@@ -1,5 +1,5 @@
 -- What is known of a glyph that was read or drawn: its number, and where it stands.
-use Rattle.std.proofs.Common.{◌≡◌, ℕ, ◌<◌, ◌+◌, List, [], ◌∷◌, map, length, Option, Some}
+use Rattle.std.proofs.Common.{◌≡◌, ℕ, ◌<◌, ◌+◌, List, [], ◌∷◌, ◌++◌, map, length, take, Option, Some}
 use Rattle.std.proofs.Common.{None}
 use Rattle.std.proofs.Common.{Result, Ok, Err, refl, sym, ap, ◌∙◌, inl, inr, subst, arith, Bool}
 use Rattle.std.proofs.Common.{true, false}
@@ -14,13 +14,18 @@ use Rattle.plist_reader.specs.declared.tree.Tree.{Tree}
 use Rattle.font_ir.specs.declared.header.Header.{Header}
 use Rattle.font_ir.specs.declared.glyph.GlyphIr.{GlyphIr}
 use Rattle.font_ir.specs.declared.glyph.FlatGlyph.{FlatGlyph}
-use Rattle.glyphs_layers.specs.GlyphPlaces.{places_of}
+use Rattle.glyphs_layers.specs.BuiltLaws.{built_are_read}
 use Rattle.glyphs_layers.specs.GlyphReading.{built_glyph_of, judged_glyph, glyph_record, glyph_in}
-use Rattle.glyphs_layers.specs.MastersAlone.{masters_places}
-use Rattle.glyphs_source.specs.BuiltHeaders.{built_header_of}
-use Rattle.glyphs_source.specs.HeaderReading.{IsReadHeader}
-use Rattle.component_flatten.specs.Flattening.{flat_of, flat_record, limit_failures}
-use Rattle.metrics_tables.specs.Measuring.{HasMastersPlaces}
+use Rattle.glyphs_layers.specs.SourceGlyphs.{ReadGlyphsAreWhole, IsWholeGlyph}
+use Rattle.glyphs_source.specs.HeaderReading.{header_of}
+use Rattle.component_flatten.specs.Flattening.{flat_of, flat_record, limit_failures, IsBase}
+use Rattle.font_ir.specs.FlatGlyphs.{IsFlatGlyph}
+use Rattle.font_ir.specs.ReadGlyphs.{IsReadGlyph}
+use Rattle.font_ir.specs.declared.header.Master.{Master}
+use Rattle.fixed_math.specs.declared.F2Dot14.{F2Dot14}
+use Rattle.metrics_tables.specs.Changes.{BeginsWithMasters}
+use Rattle.std.proofs.lemmas.List.Elements.{All-nil}
+use Rattle.std.specs.List.{All}
 use Rattle.job_graph.specs.Members.{In, In-append_cases}
 use Rattle.character_codes.specs.CharacterCodes.{Entry}
 use Rattle.font_plan.specs.Order.{is_notdef, is_other, others_from, notdef_from}
@@ -44,11 +49,6 @@ record_number : (tree : Tree) (header : Header) (number glyph : ℕ)
 unfolding glyph_record
 record_number tree header number glyph = refl
 
-record_places : (tree : Tree) (header : Header) (number glyph : ℕ)
-    → (glyph_record tree header number glyph).places ≡ places_of tree header glyph
-unfolding glyph_record
-record_places tree header number glyph = refl
-
 pub raw_known : (tree : Tree) (header : Header) (index : List Entry) (number : ℕ) (raw : GlyphIr)
     → raw_in tree header index number ≡ Ok raw → IsRawOf index number raw
 raw_known tree header index number raw e = at (slice_get index number) refl e
@@ -63,19 +63,17 @@ raw_known tree header index number raw e = at (slice_get index number) refl e
       within = slice_get_within index number entry is;
     }
 
--- a font without axes has no other places than its master's
-raw_places : (tree : Tree) (header : Header) (index : List Entry) (number : ℕ) (raw : GlyphIr)
-    → header.axes ≡ [] → raw_in tree header index number ≡ Ok raw
-    → raw.places ≡ map (λ master. master.location) header.masters
-raw_places tree header index number raw none e = at (slice_get index number) e
+-- its layers begin with those of the masters
+pub raw_whole : ReadGlyphsAreWhole → (tree : Tree) (header : Header) (index : List Entry)
+    (number : ℕ) (raw : GlyphIr) → header_of tree ≡ Ok header
+    → raw_in tree header index number ≡ Ok raw → IsWholeGlyph tree header index number raw
+raw_whole whole tree header index number raw read e = at (slice_get index number) e
   where
     at : (entry : Option Entry) → raw_at tree header index number entry ≡ Ok raw
-        → raw.places ≡ map (λ master. master.location) header.masters
+        → IsWholeGlyph tree header index number raw
     at None f = absurd cc
-    at (Some entry) f =
-        sym (ap (λ (r : GlyphIr). r.places) (record_is tree header index number raw f))
-        ∙ record_places tree header number (glyph_in index number)
-        ∙ masters_places tree header (glyph_in index number) none
+    at (Some entry) f = whole tree header index number raw read
+        (built_are_read tree header index number raw f)
 
 -- ---- a glyph that was drawn
 
@@ -99,6 +97,8 @@ flat_record_number index raw = refl
 record IsFlatOf (index : List Entry) (raw : GlyphIr) (flat : FlatGlyph) : Type 0 where
   places : flat.places ≡ raw.places
   number : flat.number ≡ raw.number
+  name : List ℕ
+  drawn_so : flat_of index name raw [] ≡ Ok flat
 
 flat_known : (raw : GlyphIr) (index : List Entry) (flat : FlatGlyph)
     → flat_in raw index ≡ Ok flat → IsFlatOf index raw flat
@@ -111,27 +111,33 @@ flat_known raw index flat e = at (slice_get index raw.number) e
           ∙ flat_record_places index raw;
       number = sym (ap (λ (g : FlatGlyph). g.number) (flat_record_is index entry.0 raw flat f))
           ∙ flat_record_number index raw;
+      name = entry.0;
+      drawn_so = f;
     }
+
+take_masters : (masters : List Master) (others : List (List F2Dot14))
+    → take (length masters) (map (λ master. master.location) masters ++ others)
+    ≡ map (λ master. master.location) masters
+take_masters [] others = refl
+take_masters (master ∷ masters) others =
+    ap (λ rest. master.location ∷ rest) (take_masters masters others)
 
 -- a glyph that was read and drawn so
 pub record IsDrawnSo (tree : Tree) (header : Header) (index : List Entry) (number : ℕ)
     (raw : GlyphIr) (flat : FlatGlyph) : Type 0 where
-  pub header_read : built_header_of tree ≡ Ok header
+  pub header_read : header_of tree ≡ Ok header
   pub raw_made : raw_in tree header index number ≡ Ok raw
   pub flat_made : flat_in raw index ≡ Ok flat
 
--- what is known of each header that is read
-abbrev pub HeadersHaveOneMaster : Type 0
-HeadersHaveOneMaster = (tree : Tree) (header : Header) → built_header_of tree ≡ Ok header
-    → IsReadHeader header
-
--- it stands at the masters
-pub has_places : HeadersHaveOneMaster → (tree : Tree) (header : Header) (index : List Entry)
-    (number : ℕ) (raw : GlyphIr) (flat : FlatGlyph)
-    → IsDrawnSo tree header index number raw flat → HasMastersPlaces header flat
-has_places static tree header index number raw flat d =
-    (flat_known raw index flat d.flat_made).places
-    ∙ raw_places tree header index number raw (static tree header d.header_read).no_axes d.raw_made
+-- it stands at the masters first
+pub begins : ReadGlyphsAreWhole → (tree : Tree) (header : Header) (index : List Entry) (number : ℕ)
+    (raw : GlyphIr) (flat : FlatGlyph) → IsDrawnSo tree header index number raw flat
+    → BeginsWithMasters header flat
+begins whole tree header index number raw flat d =
+    let first = (raw_whole whole tree header index number raw d.header_read d.raw_made).masters in
+    ap (take (length header.masters))
+    ((flat_known raw index flat d.flat_made).places ∙ first.places)
+    ∙ take_masters header.masters first.others
 
 -- it is the glyph of its number
 pub drawn_number : (tree : Tree) (header : Header) (index : List Entry) (number : ℕ)
@@ -141,9 +147,25 @@ drawn_number tree header index number raw flat d =
     let known = raw_known tree header index number raw d.raw_made in
     ((flat_known raw index flat d.flat_made).number ∙ known.number_is, known.within)
 
+-- and a flat glyph
+abbrev pub DrawnGlyphsAreFlat : Type 0
+DrawnGlyphsAreFlat = (index : List Entry) (name : List ℕ) (glyph : GlyphIr)
+    (bases : List FlatGlyph) (flat : FlatGlyph) → IsReadGlyph glyph
+    → All (IsBase glyph.places) bases → flat_of index name glyph bases ≡ Ok flat
+    → IsFlatGlyph flat
+
+pub is_flat : ReadGlyphsAreWhole → DrawnGlyphsAreFlat → (tree : Tree) (header : Header)
+    (index : List Entry) (number : ℕ) (raw : GlyphIr) (flat : FlatGlyph)
+    → IsDrawnSo tree header index number raw flat → IsFlatGlyph flat
+is_flat whole flat_law tree header index number raw flat d =
+    let drawn = flat_known raw index flat d.flat_made in
+    flat_law index drawn.name raw [] flat
+    (raw_whole whole tree header index number raw d.header_read d.raw_made).read
+    (All-nil (IsBase raw.places)) drawn.drawn_so
+
 -- what is drawn was read first
 pub read_first : (tree : Tree) (header : Header) (index : List Entry) (number : ℕ)
-    (flat : FlatGlyph) → built_header_of tree ≡ Ok header
+    (flat : FlatGlyph) → header_of tree ≡ Ok header
     → (raw_in tree header index number >>= λ raw. flat_in raw index) ≡ Ok flat
     → (raw : GlyphIr) × IsDrawnSo tree header index number raw flat
 read_first tree header index number flat read e = by (raw_in tree header index number) refl e

@@ -15,7 +15,7 @@ use Rattle.font_ir.specs.declared.glyph.GlyphIr.{GlyphIr}
 use Rattle.font_ir.specs.declared.glyph.FlatGlyph.{FlatGlyph}
 use Rattle.font_ir.specs.declared.tag.Tag.{Tag}
 use Rattle.font_ir.specs.Glyphs.{Glyphs}
-use Rattle.glyphs_source.specs.BuiltHeaders.{built_header_of}
+use Rattle.glyphs_source.specs.HeaderReading.{header_of}
 use Rattle.glyphs_source.specs.IndexReading.{index_of}
 use Rattle.metrics_tables.specs.declared.measures.Measures.{Measures}
 use Rattle.character_codes.specs.CharacterCodes.{Entry}
@@ -53,9 +53,9 @@ tree_comes source reads = sym (settled_so source an.Tree none (tree_of source))
 
 pub header_comes : (source : List ℕ) (reads : PlanReads) (tree : Tree)
     → running.tree_read (parts []) reads ≡ Some tree
-    → made_by an.Header none (built_header_of tree) ≡ comes source job.Header reads
+    → made_by an.Header none (header_of tree) ≡ comes source job.Header reads
 header_comes source reads tree e = sym (running.header_runs (parts source) reads tree e
-    ∙ settled_so source an.Header none (built_header_of tree))
+    ∙ settled_so source an.Header none (header_of tree))
 
 pub index_comes : (source : List ℕ) (reads : PlanReads) (tree : Tree)
     → running.tree_read (parts []) reads ≡ Some tree

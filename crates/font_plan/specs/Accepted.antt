@@ -11,7 +11,7 @@ use Rattle.plist_reader.specs.Grammar.{HasTree}
 use Rattle.font_ir.specs.declared.header.Header.{Header}
 use Rattle.font_ir.specs.declared.glyph.FlatGlyph.{FlatGlyph}
 use Rattle.font_ir.specs.Glyphs.{Glyphs}
-use Rattle.glyphs_source.specs.BuiltHeaders.{built_header_of}
+use Rattle.glyphs_source.specs.HeaderReading.{header_of}
 use Rattle.glyphs_source.specs.IndexReading.{index_of}
 use Rattle.metrics_tables.specs.declared.measures.Measures.{Measures}
 use Rattle.character_codes.specs.CharacterCodes.{Entry}
@@ -37,7 +37,7 @@ pub record IsFontOf (source font : List ℕ) : Type 0 where
   pub tables : List (Option (List ℕ))
   pub few_bytes : length source ≤ SOURCE_BYTES
   pub read : HasTree source tree
-  pub header_read : built_header_of tree ≡ Ok header
+  pub header_read : header_of tree ≡ Ok header
   pub index_read : index_of tree ≡ Ok index
   pub glyphs_drawn : AllMade (drawn (parts source) tree header index) (numbers_in index) glyphs
   pub outlines_written : AllMade (λ glyph. Ok (simple_in header glyph)) glyphs outlines

@@ -19,7 +19,7 @@ use Rattle.font_ir.specs.declared.tag.Tag.{Tag}
 use Rattle.font_ir.specs.Glyphs.{Glyphs}
 use Rattle.font_ir.specs.Notdef.{made_notdef_of}
 use Rattle.font_ir.specs.Outlines.{outline_at}
-use Rattle.glyphs_source.specs.BuiltHeaders.{built_header_of}
+use Rattle.glyphs_source.specs.HeaderReading.{header_of}
 use Rattle.glyphs_source.specs.IndexReading.{index_of}
 use Rattle.glyphs_layers.specs.GlyphReading.{built_glyph_of}
 use Rattle.component_flatten.specs.Flattening.{flat_of}
@@ -180,7 +180,7 @@ parts source = record {
   Table = Option (List ℕ);
   File = List ℕ;
   tree = tree_of source;
-  header = built_header_of;
+  header = header_of;
   index = index_of;
   numbers = numbers_in;
   raw = raw_in;

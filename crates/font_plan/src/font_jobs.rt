@@ -11,7 +11,6 @@ ghost use Rattle.refusal_codes.specs.declared.limits.TheConstants.{TABLES};
 ghost use Rattle.refusal_codes.specs.declared.refusal.Refusal.{Refusal};
 ghost use Rattle.font_ir.specs.Headers.{IsHeader};
 ghost use Rattle.font_ir.specs.FlatGlyphs.{glyphs_of};
-ghost use Rattle.glyphs_source.specs.HeaderReading.{IsReadHeader};
 ghost use Rattle.metrics_tables.specs.Tables.{AreMeasures};
 ghost use Rattle.font_assembly.specs.File.{TagsRise, HasHead};
 ghost use Rattle.font_assembly.specs.Assembled as assembled;
@@ -88,7 +87,6 @@ pub fn run_advances(
     glyphs: &[Arc<FlatGlyph>],
 ) -> Result<PlanOutcome, NoMemory>
     requires header { IsHeader header.now }
-    requires read { IsReadHeader header.now }
     requires drawn { All (IsDrawn header.now) (glyphs_of glyphs.now) }
     requires order { length glyphs.now ≡ length order.now.names }
     ensures { Comes result (made_by an.Advances none
@@ -109,7 +107,6 @@ fn measured(
     glyphs: &[Arc<FlatGlyph>],
 ) -> Result<Measures, ReadError>
     requires header { IsHeader header.now }
-    requires read { IsReadHeader header.now }
     requires drawn { All (IsDrawn header.now) (glyphs_of glyphs.now) }
     requires order { length glyphs.now ≡ length order.now.names }
     ensures measures { Gives (λ measures. measures) result

@@ -4,7 +4,7 @@ ghost use Rattle.std.specs.Prelude.{◌≡◌, ◌<◌, ◌∷◌, [], length, I
 ghost use Rattle.refusal_codes.specs.Gives.{Gives};
 ghost use Rattle.font_ir.specs.FlatGlyphs.{IsFlatGlyph};
 ghost use Rattle.font_ir.specs.Headers.{IsHeader};
-ghost use Rattle.glyphs_source.specs.BuiltHeaders.{built_header_of};
+ghost use Rattle.glyphs_source.specs.HeaderReading.{header_of};
 ghost use Rattle.glyphs_source.specs.IndexReading.{index_of};
 ghost use Rattle.font_graph.specs.Graph.{spec_with, of_glyph, after_raw};
 ghost use Rattle.font_graph.specs.Same.{same_id};
@@ -47,7 +47,7 @@ fn read_raw(
     index: &GlyphIndex,
     glyph: u32,
 ) -> Result<GlyphIr, ReadError>
-    requires header { built_header_of tree.now ≡ Ok header.now }
+    requires header { header_of tree.now ≡ Ok header.now }
     requires index { index_of tree.now ≡ Ok index.now }
     requires glyph { glyph < length index.now }
     ensures raw { Gives (λ raw. raw) result (raw_in tree.now header.now index.now glyph) }
@@ -64,7 +64,7 @@ pub fn run_raw(
     index: &GlyphIndex,
     glyph: u32,
 ) -> Result<PlanOutcome, NoMemory>
-    requires header { built_header_of tree.now ≡ Ok header.now }
+    requires header { header_of tree.now ≡ Ok header.now }
     requires index { index_of tree.now ≡ Ok index.now }
     requires glyph { glyph < length index.now }
     ensures { Comes result (made_by an.Raw

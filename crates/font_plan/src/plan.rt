@@ -22,14 +22,16 @@ use crate::reads::{
 };
 use crate::{font_jobs, glyph_jobs, source_jobs, specs_of};
 use access_context::Spec;
+use component_flatten::drawn_glyphs_are_flat;
 use font_graph::JobId;
-use font_ir::Tag;
+use font_ir::{Tag, made_notdef_is_flat};
 use font_tables::{
     TableGroup, code_table, group_of, metrics_table, os2_table, outline_table, plain_table,
     style_table, variations_table,
 };
-use glyphs_source::built_headers_have_one_master;
+use glyphs_layers::read_glyphs_are_whole;
 use job_graph::{Plan, Solved};
+use metrics_tables::measures_are_for_their_header;
 use refusal_codes::NoMemory;
 use std::alloc::Global;
 use std::marker::Model;
@@ -135,7 +137,7 @@ impl FontPlan {
         ensures { Comes result
             ((plan (parts self.now) same_id).outcome (job.Simple glyph) reads.now) }
     {
-        built_headers_have_one_master();
+        read_glyphs_are_whole();
         let header = header_in(reads).get();
         let flat = flat_in(reads, glyph).get().get();
         glyph_jobs::run_simple(alloc, header, flat)
@@ -177,7 +179,7 @@ impl FontPlan {
         ensures { Comes result
             ((plan (parts self.now) same_id).outcome job.Advances reads.now) }
     {
-        built_headers_have_one_master();
+        read_glyphs_are_whole();
         let header = header_in(reads).get();
         let order = order_in(reads);
         let glyphs = glyphs_in(alloc, header, order, reads)?;
@@ -275,7 +277,10 @@ impl FontPlan {
         ensures { Comes result
             ((plan (parts self.now) same_id).outcome (job.Table tag) reads.now) }
     {
-        built_headers_have_one_master();
+        measures_are_for_their_header();
+        read_glyphs_are_whole();
+        drawn_glyphs_are_flat();
+        made_notdef_is_flat();
         let header = header_in(reads).get();
         let measures = measures_in(reads).get();
         table_comes(alloc, metrics_table(alloc, tag, header, measures))

@@ -5,7 +5,7 @@ ghost use Rattle.refusal_codes.specs.Gives.{Gives};
 ghost use Rattle.refusal_codes.specs.declared.limits.TheConstants.{SOURCE_BYTES};
 ghost use Rattle.plist_reader.specs.Tree.{IsTree};
 ghost use Rattle.font_ir.specs.Headers.{IsHeader};
-ghost use Rattle.glyphs_source.specs.BuiltHeaders.{built_header_of};
+ghost use Rattle.glyphs_source.specs.HeaderReading.{header_of};
 ghost use Rattle.glyphs_source.specs.IndexReading.{index_of};
 ghost use Rattle.font_graph.specs.Graph.{after_index, of_index};
 ghost use Rattle.font_graph.specs.Same.{same_id};
@@ -23,7 +23,7 @@ use crate::outcomes::{PlanOutcome, made, made_last, refused};
 use crate::specs_of;
 use font_ir::Header;
 use glyphs_source::{
-    GlyphIndex, built_header, exported_codes_are_distinct, glyph_index, notdef_is_exported,
+    GlyphIndex, exported_codes_are_distinct, glyph_index, header, notdef_is_exported,
 };
 use plain_lists::Text;
 use plist_reader::{Tree, read};
@@ -71,16 +71,16 @@ pub fn run_tree(alloc: Global, source: &[u8]) -> Result<PlanOutcome, NoMemory>
 /// The source's header.
 fn read_header(alloc: Global, tree: &Tree) -> Result<Header, ReadError>
     requires { IsTree tree.now }
-    ensures header { Gives (λ header. header) result (built_header_of tree.now) }
+    ensures header { Gives (λ header. header) result (header_of tree.now) }
     ensures known { IfOk result IsHeader }
 {
-    built_header(alloc, tree)
+    header(alloc, tree)
 }
 
 /// Reads the source's header.
 pub fn run_header(alloc: Global, tree: &Tree) -> Result<PlanOutcome, NoMemory>
     requires { IsTree tree.now }
-    ensures { Comes result (made_by an.Header none (built_header_of tree.now)) }
+    ensures { Comes result (made_by an.Header none (header_of tree.now)) }
 {
     match read_header(alloc, tree) {
         Ok(header) => made_last(alloc, Item::Header(Known::of(header))),

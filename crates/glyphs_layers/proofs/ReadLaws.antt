@@ -2,12 +2,11 @@
 use Rattle.std.proofs.Common.{◌≡◌, ◌≢◌, ℕ, ◌+◌, ◌<◌, ◌≤◌, Bool, true, false, ◌&&◌, cond, List, []}
 use Rattle.std.proofs.Common.{◌∷◌, ◌++◌, zero, suc, length, map, get_or, replicate, Option, Some}
 use Rattle.std.proofs.Common.{None, Result, Ok, Err, refl, sym, ap, ◌∙◌, subst, arith, true≢false}
-use Rattle.std.proofs.Common.{append-nil}
 use Rattle.std.specs.Prelude.{flat_map, is_some, nat_lt, nat_eq, slice_get, IfOk, pos, ◌≤ℤ◌}
 use Rattle.std.specs.Option.{option_map, option_map_or}
 use Rattle.std.specs.List.{All, AllByRecursion, AllPairs, Contains, count_by, list_all}
 use Rattle.std.proofs.lemmas.Bool.Decides.{nat_tests}
-use Rattle.std.proofs.lemmas.List.{length-map, length-append}
+use Rattle.std.proofs.lemmas.List.{length-map, length-append, map-append}
 use Rattle.std.proofs.lemmas.List.Elements.{All-map, All-append, All-from_recursion}
 use Rattle.std.proofs.lemmas.List.Elements.{Contains-append_left}
 use Rattle.plist_reader.specs.declared.tree.Tree.{Tree}
@@ -25,8 +24,8 @@ use Rattle.font_ir.specs.ReadGlyphs.{IsReadGlyph, HasPoints, IsInRange, is_compo
 use Rattle.refusal_codes.specs.declared.refusal.Refusal.{Refusal}
 use Rattle.refusal_codes.specs.declared.errors.ReadError.{ReadError}
 use Rattle.refusal_codes.specs.declared.first.Failure.{Failure}
-use Rattle.refusal_codes.specs.First.{first_of, foremost, or_next, refusal_of, judged}
-use Rattle.refusal_codes.specs.FirstLaws.{first_of_none}
+use Rattle.refusal_codes.specs.First.{first_of, foremost, or_next, noted, refusal_of, judged}
+use Rattle.refusal_codes.specs.FirstLaws.{first_of_none, noted-append}
 use Rattle.refusal_codes.specs.JudgedLaws.{judged_ok}
 use Rattle.refusal_codes.specs.Gives.{Gives}
 use Rattle.refusal_codes.specs.declared.job.TheConstants.{RAW}
@@ -37,20 +36,28 @@ use Rattle.axis_space.specs.PlacingLaws.{length-place_of}
 use Rattle.axis_space.specs.Repeats.{TellsRepeat, first_repeat}
 use Rattle.layer_shapes.specs.declared.kind.LayerKind.{LayerKind}
 use Rattle.layer_shapes.specs.declared.kind.LayerKind.TheVariants as a
+use Rattle.layer_shapes.specs.LayerRules.{component_numbers}
 use Rattle.layer_shapes.specs.LayerReading.{layer_record}
-use Rattle.layer_shapes.specs.ReadLayers.{IsReadLayer}
+use Rattle.layer_shapes.specs.LayerLaws.{components_have_bases}
+use Rattle.layer_shapes.specs.ReadLayers.{IsReadLayer, bases_of}
 use Rattle.glyphs_layers.specs.declared.layers.SourceLayer.{SourceLayer}
 use Rattle.glyphs_layers.specs.SourceLayers.{layer_numbers, layer_of, masters_layer}
 use Rattle.glyphs_layers.specs.SourceLayers.{masters_layers, is_intermediate, if_intermediate}
 use Rattle.glyphs_layers.specs.SourceLayers.{intermediate_layers, source_layers}
-use Rattle.glyphs_layers.specs.GlyphPlaces.{missing_layer, design_of, own_place, places_of}
+use Rattle.glyphs_layers.specs.GlyphPlaces.{missing_layer, design_of, places_of}
 use Rattle.glyphs_layers.specs.GlyphPlaces.{at_same_place, layer_at, same_place}
 use Rattle.glyphs_layers.specs.GlyphPlaces.{layers_failure, places_failure}
 use Rattle.glyphs_layers.specs.Forms.{same_form, record_of, unlike_first, incompatible}
-use Rattle.glyphs_layers.specs.Bases.{unknown_components, too_many_components}
+use Rattle.glyphs_layers.specs.GlyphRules.{glyph_failures}
+use Rattle.glyphs_layers.specs.Bases.{is_glyph, base_of, without_base, unknown_components}
+use Rattle.glyphs_layers.specs.Bases.{too_many_components}
 use Rattle.glyphs_layers.specs.GlyphReading.{name_in, glyph_in, shapes_failure, whole_failure}
-use Rattle.glyphs_layers.specs.GlyphReading.{glyph_record, judged_glyph}
-use Rattle.glyphs_layers.specs.MastersAlone.{location_of, own, none_own, masters_places}
+use Rattle.glyphs_layers.specs.GlyphReading.{glyph_record, judged_glyph, forms_of}
+use Rattle.glyphs_layers.specs.GlyphReading.{built_glyph_failures}
+use Rattle.glyphs_layers.specs.SourceGlyphs.{IsGlyphOf, masters_record, HasMastersLayers}
+use Rattle.glyphs_layers.specs.SourceGlyphs.{HasKnownBases, IsWholeGlyph}
+use Rattle.glyphs_layers.specs.BuiltLaws.{front_empty, back_empty}
+use Rattle.glyphs_layers.specs.MastersAlone.{location_of, own, none_own}
 use Rattle.glyphs_layers.proofs.FormLaws.{compared}
 
 -- ---- failures that aren't there
@@ -72,6 +79,11 @@ none_fails false f rest e = absurd cc
 only_fails : (b : Bool) (f : Failure) → foremost (cond b [] (f ∷ [])) ≡ None → b ≡ true
 only_fails true f e = refl
 only_fails false f e = absurd cc
+
+none_told : (b : Bool) (f : Failure) (rest : List Failure) → cond b [] (f ∷ []) ++ rest ≡ []
+    → (b ≡ true) × (rest ≡ [])
+none_told true f rest e = (refl, e)
+none_told false f rest e = absurd cc
 
 -- ---- the layers and their places
 
@@ -323,52 +335,139 @@ module _ (t : Tree) (ranges : (kind : LayerKind) (t : Tree) (n : ℕ)
             (λ layer r. r.small_anchors) layers;
       }
 
-  -- what is answered as a glyph
-  pub record Facts (h : Header) (number g : ℕ) (glyph : GlyphIr) : Type 0 where
-    pub number_is : glyph.number ≡ number
-    pub places : glyph.places ≡ places_of t h g
-    pub read : IsReadGlyph glyph
+  -- the base of each component is in the index
+  each_known : (index : List (List ℕ × IndexEntry)) (ns : List ℕ)
+      → flat_map (without_base t index) ns ≡ []
+      → AllByRecursion (λ base. is_glyph index base ≡ true) (map (base_of t) ns)
+  each_known index [] e = tt
+  each_known index (n ∷ ns) e =
+      let parts = none_told (is_glyph index (base_of t n)) _ (flat_map (without_base t index) ns) e
+      in
+      (parts.0, each_known index ns parts.1)
 
-  pub judged_facts : (local : List Failure) (h : Header) (index : List (List ℕ × IndexEntry))
-      (number : ℕ) → IsHeader h → IsFlatGlyph (made_notdef_of h)
+  layer_known : (index : List (List ℕ × IndexEntry)) (kind : LayerKind) (n : ℕ)
+      → flat_map (without_base t index) (component_numbers t n) ≡ []
+      → All (λ base. is_glyph index base ≡ true) (bases_of (layer_record kind t n).shapes)
+  layer_known index kind n e =
+      subst (All (λ (base : List ℕ). is_glyph index base ≡ true)) (components_have_bases kind t n)
+      (All-from_recursion (λ (base : List ℕ). is_glyph index base ≡ true)
+      (map (base_of t) (component_numbers t n)) (each_known index (component_numbers t n) e))
+
+  known_bases : (index : List (List ℕ × IndexEntry)) (layers : List SourceLayer)
+      → flat_map (unknown_components t index) layers ≡ []
+      → AllByRecursion (λ (layer : LayerIr). All (λ base. is_glyph index base ≡ true)
+      (bases_of layer.shapes)) (map (record_of t) layers)
+  known_bases index [] e = tt
+  known_bases index (layer ∷ layers) e =
+      let first = unknown_components t index layer in
+      let rest = flat_map (unknown_components t index) layers in (
+        layer_known index layer.kind layer.number (front_empty first rest e),
+        known_bases index layers (back_empty first rest e),
+      )
+
+  record_known : (h : Header) (index : List (List ℕ × IndexEntry)) (number g : ℕ)
+      → whole_failure t h index g ≡ None → HasKnownBases index (glyph_record t h number g)
+  unfolding whole_failure shapes_failure glyph_record
+  record_known h index number g none =
+      let layers = source_layers t h g in
+      let lies = places_failure t g layers (places_of t h g) in
+      let shapes = shapes_failure t index layers in
+      let unlike = foremost (incompatible t layers) in
+      let unknown = first_of (flat_map (unknown_components t index) layers) in
+      let many = first_of (flat_map (too_many_components t) layers) in
+      let shaped = next_none lies shapes
+      (next_none (layers_failure t h g) (or_next lies shapes) none) in
+      let e = first_of_none (flat_map (unknown_components t index) layers)
+      (first_none unknown many (next_none unlike (or_next unknown many) shaped)) in
+      All-from_recursion (λ (layer : LayerIr). All (λ (base : List ℕ). is_glyph index base ≡ true)
+      (bases_of layer.shapes)) (map (record_of t) layers) (known_bases index layers e)
+
+  -- the masters' layers come first
+  masters_records : (ns : List ℕ) (ms : List Master)
+      → list_all (λ (m : Master). is_some (layer_of t ns m)) ms ≡ true
+      → map (record_of t) (masters_layers t ms ns) ≡ map (masters_record t ns) ms
+  masters_records ns [] e = refl
+  masters_records ns (m ∷ ms) e =
+      by (layer_of t ns m) (list_all (λ (m : Master). is_some (layer_of t ns m)) ms) e
+      (masters_records ns ms)
+    where
+      by : (o : Option ℕ) (all : Bool) → (is_some o && all) ≡ true
+          → (all ≡ true → map (record_of t) (masters_layers t ms ns) ≡ map (masters_record t ns) ms)
+          → map (record_of t) (option_map_or masters_layer o [] ++ masters_layers t ms ns)
+          ≡ option_map_or (layer_record a.Master t) o
+          (record { width = pos 0; shapes = []; anchors = [] }) ∷ map (masters_record t ns) ms
+      by None all e rest = absurd (true≢false (sym e))
+      by (Some n) all e rest =
+          ap (λ (records : List LayerIr). layer_record a.Master t n ∷ records) (rest e)
+
+  record_masters : (h : Header) (number g : ℕ) → layers_failure t h g ≡ None
+      → HasMastersLayers t h g (glyph_record t h number g)
+  unfolding glyph_record source_layers
+  record_masters h number g there =
+      let ns = layer_numbers t g in
+      let masters = masters_layers t h.masters ns in
+      let rest = intermediate_layers t h ns in
+      record {
+        others = map (record_of t) rest;
+        layers = map-append (record_of t) masters rest
+            ∙ ap (λ (records : List LayerIr). records ++ map (record_of t) rest)
+            (masters_records ns h.masters (all_there t h g there));
+      }
+
+  record_whole : (h : Header) (index : List (List ℕ × IndexEntry)) (number : ℕ)
+      → IsReadGlyph (glyph_record t h number (glyph_in index number))
+      → HasMastersLayers t h (glyph_in index number)
+      (glyph_record t h number (glyph_in index number))
+      → HasKnownBases index (glyph_record t h number (glyph_in index number))
+      → IsWholeGlyph t h index number (glyph_record t h number (glyph_in index number))
+  unfolding glyph_record places_of
+  record_whole h index number read layers bases = record {
+    number_is = refl;
+    places = refl;
+    read = read;
+    masters = record {
+      count = refl;
+      others = own t h (source_layers t h (glyph_in index number));
+      places = refl;
+    };
+    layers = layers;
+    bases = bases;
+  }
+
+  pub whole_glyph : (h : Header) (index : List (List ℕ × IndexEntry)) (number : ℕ)
+      (glyph : GlyphIr) → IsHeader h → IsFlatGlyph (made_notdef_of h)
       → ((places : List (List F2Dot14)) → TellsRepeat places (first_repeat places))
-      → (r : Result GlyphIr ReadError)
-      → Gives (λ (x : GlyphIr). x) r (judged_glyph local t h index number)
-      → IfOk r (Facts h number (glyph_in index number))
-  unfolding judged_glyph glyph_record
-  judged_facts local h index number is flat tells (Err e) given = tt
-  judged_facts local h index number is flat tells (Ok glyph) given =
+      → IsGlyphOf t h index number glyph → IsWholeGlyph t h index number glyph
+  unfolding judged_glyph whole_failure
+  whole_glyph h index number glyph is flat tells e =
       let g = glyph_in index number in
-      let parts = judged_ok (refusal_of RAW (name_in index number)) (first_of local)
-      (whole_failure t h index g) (glyph_record t h number g) glyph given in
-      let read = record_read h index number g is flat tells parts.1 in
-      let made : Facts h number g (glyph_record t h number g) = record {
-        number_is = refl;
-        places = refl;
-        read = read;
-      } in
-      subst (Facts h number g) parts.2 made
+      let layers = source_layers t h g in
+      let others = or_next (places_failure t g layers (places_of t h g))
+      (shapes_failure t index layers) in
+      let parts = judged_ok (refusal_of RAW (name_in index number))
+      (first_of (glyph_failures t h g)) (whole_failure t h index g) (glyph_record t h number g)
+      glyph e in
+      subst (IsWholeGlyph t h index number) parts.2
+      (record_whole h index number (record_read h index number g is flat tells parts.1)
+      (record_masters h number g (first_none (layers_failure t h g) others parts.1))
+      (record_known h index number g parts.1))
 
-  module _ (h : Header) (number g : ℕ) where
-    pub fact_number : (r : Result GlyphIr ReadError) → IfOk r (Facts h number g)
-        → IfOk r (λ x. x.number ≡ number)
-    fact_number (Err e) facts = tt
-    fact_number (Ok x) facts = facts.number_is
+-- what is noted of a glyph, with the forms that are told, is what its failures and they are
+pub built_first : (t : Tree) (h : Header) (g : ℕ)
+    → noted (noted None (glyph_failures t h g)) (flat_map (forms_of t) (source_layers t h g))
+    ≡ first_of (built_glyph_failures t h g)
+unfolding built_glyph_failures
+built_first t h g = sym (noted-append None (glyph_failures t h g)
+    (flat_map (forms_of t) (source_layers t h g)))
 
-    pub fact_places : (r : Result GlyphIr ReadError) → IfOk r (Facts h number g)
-        → IfOk r (λ x. x.places ≡ places_of t h g)
-    fact_places (Err e) facts = tt
-    fact_places (Ok x) facts = facts.places
+-- ---- what calls answer
 
-    pub fact_masters : h.axes ≡ [] → (r : Result GlyphIr ReadError) → IfOk r (Facts h number g)
-        → IfOk r (λ x. x.places ≡ map (λ master. master.location) h.masters)
-    fact_masters none (Err e) facts = tt
-    fact_masters none (Ok x) facts = facts.places ∙ masters_places t h g none
-
-    pub fact_read : (r : Result GlyphIr ReadError) → IfOk r (Facts h number g)
-        → IfOk r IsReadGlyph
-    fact_read (Err e) facts = tt
-    fact_read (Ok x) facts = facts.read
+-- what holds of each glyph that is defined holds of the one that is answered
+pub of_given : (P : GlyphIr → Type 0) (definition : Result GlyphIr Refusal)
+    → ((glyph : GlyphIr) → definition ≡ Ok glyph → P glyph) → (r : Result GlyphIr ReadError)
+    → Gives (λ (x : GlyphIr). x) r definition → IfOk r P
+of_given P definition law (Ok glyph) given = law glyph given
+of_given P definition law (Err e) given = tt
 
 -- the answer for the glyph whose name and dictionary the index has under its number
 module _ (t : Tree) (h : Header) (index : List (List ℕ × IndexEntry)) (number : ℕ) where

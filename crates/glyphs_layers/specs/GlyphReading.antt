@@ -66,7 +66,7 @@ abbrev pub glyph_of : Tree → Header → List (List ℕ × IndexEntry) → ℕ 
 glyph_of t header index number =
     judged_glyph (glyph_failures t header (glyph_in index number)) t header index number
 
--- ---- for a program that doesn't take all forms of a layer yet: those are told among the local rules
+-- ---- for a program that doesn't take components yet: those are told among the local rules
 
 abbrev pub forms_of : Tree → SourceLayer → List Failure
 forms_of t layer = layer_forms t layer.number

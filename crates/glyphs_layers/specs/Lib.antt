@@ -5,5 +5,8 @@ pub mod Forms
 pub mod Bases
 pub mod GlyphReading
 pub mod GlyphTables
+pub mod SourceGlyphs
+-- lemmas that the proofs of other crates need
+pub mod BuiltLaws
 pub mod MastersAlone
 pub mod OnLiterals

@@ -1,7 +1,7 @@
 -- What a proof by computation unfolds to compute the layers of a glyph of a source that is written
 -- out. Only such proofs need this module.
 use Rattle.std.specs.Prelude.{⊤}
-use Rattle.unbuilt_forms.specs.Forms.{node_forms, component_forms, shape_forms, layer_forms}
+use Rattle.unbuilt_forms.specs.Forms.{layer_forms}
 use Rattle.axis_space.specs.Placing.{place_of}
 use Rattle.axis_space.specs.Repeats.{first_repeat}
 use Rattle.layer_shapes.specs.OnLiterals.{layers_on_literals}
@@ -14,8 +14,8 @@ use Rattle.glyphs_layers.specs.GlyphReading.{shapes_failure, glyph_record, whole
 use Rattle.glyphs_layers.specs.GlyphReading.{judged_glyph, built_glyph_failures}
 
 unfoldable pub glyphs_on_literals : ⊤
-unfolding layers_on_literals node_forms component_forms shape_forms layer_forms place_of
-    first_repeat layer_numbers source_layers entry_failures entries_failures coordinates_failures
-    glyph_failures missing_layer design_of places_of same_place layers_failure places_failure
-    shapes_failure glyph_record whole_failure judged_glyph built_glyph_failures
+unfolding layers_on_literals layer_forms place_of first_repeat layer_numbers source_layers
+    entry_failures entries_failures coordinates_failures glyph_failures missing_layer design_of
+    places_of same_place layers_failure places_failure shapes_failure glyph_record whole_failure
+    judged_glyph built_glyph_failures
 glyphs_on_literals = tt

@@ -1,12 +1,11 @@
 ghost use Rattle.std.specs.Prelude.{◌≡◌, ◌<◌, ◌++◌, length, map, flat_map, Ok, IfOk, OnOk};
 ghost use Rattle.font_ir.specs.Headers.{IsHeader};
-ghost use Rattle.font_ir.specs.ReadGlyphs.{IsReadGlyph, HasNoComponents, HasNoAnchors};
+ghost use Rattle.font_ir.specs.ReadGlyphs.{IsReadGlyph, HasNoComponents};
 ghost use Rattle.refusal_codes.specs.First.{noted, judged, refusal_of, or_next};
 ghost use Rattle.refusal_codes.specs.declared.job.TheConstants.{RAW};
 ghost use Rattle.refusal_codes.specs.Gives.{Gives};
 ghost use Rattle.layer_shapes.specs.LayerRules.{layer_failures};
 ghost use Rattle.glyphs_source.specs.HeaderReading.{header_of};
-ghost use Rattle.glyphs_source.specs.BuiltHeaders.{built_header_of};
 ghost use Rattle.glyphs_source.specs.IndexReading.{index_of};
 ghost use Rattle.glyphs_layers.specs.SourceLayers.{source_layers};
 ghost use Rattle.glyphs_layers.specs.GlyphRules.{place_failures, source_failures, glyph_failures};
@@ -15,16 +14,17 @@ ghost use Rattle.glyphs_layers.specs.Forms.{record_of};
 ghost use Rattle.glyphs_layers.specs.GlyphReading.{glyph_in, name_in, shapes_failure, glyph_record};
 ghost use Rattle.glyphs_layers.specs.GlyphReading.{whole_failure, glyph_of, forms_of};
 ghost use Rattle.glyphs_layers.specs.GlyphReading.{built_glyph_failures, built_glyph_of};
+ghost use Rattle.glyphs_layers.specs.SourceGlyphs.{IsGlyphOf, HasMastersFirst, HasKnownBases};
 
 use crate::bases::{crowded_layer, unknown_component};
 use crate::forms::incompatible;
 use crate::layers::{SourceLayer, source_layers};
 use crate::places::{layers_failure, places_failure, places_of};
-use axis_space::first_repeat_is_the_first;
-use font_ir::{GlyphIr, Header, LayerIr, Name, made_notdef_is_flat};
-use glyphs_source::{
-    GlyphIndex, built_headers_are_read, built_headers_have_one_master, read_headers_are_whole,
+use crate::rule_laws::{
+    built_glyphs_are_read, built_glyphs_have_no_components, read_glyphs_are_whole,
 };
+use font_ir::{GlyphIr, Header, LayerIr, Name};
+use glyphs_source::{GlyphIndex, read_headers_are_whole};
 use layer_shapes::{LayerKind, read_layer};
 use plain_lists::Sequence;
 use plist_reader::Tree;
@@ -36,8 +36,8 @@ use unbuilt_forms::note_layer_forms;
 
 /// The layers of the glyph with this number in the index: one per master, and in a font with axes
 /// the intermediate ones, in the order of the file (Glyphs file format, version 3). What is read
-/// fulfils what flattening asks of a glyph. Its places are normalised coordinates in 2.14 (OpenType
-/// 1.9, "Coordinate scales and normalization").
+/// fulfils what flattening asks of a glyph, and the bases of its components are in the index. Its
+/// places are normalised coordinates in 2.14 (OpenType 1.9, "Coordinate scales and normalization").
 ///
 /// The header and the index are those of the tree: what `header` and `glyph_index` answer for it.
 ///
@@ -64,10 +64,11 @@ pub fn raw_glyph(
     ensures places { IfOk result (λ glyph. glyph.places
         ≡ places_of tree.now header.now (glyph_in index.now number)) }
     ensures read { IfOk result IsReadGlyph }
+    ensures masters { IfOk result (HasMastersFirst header.now) }
+    ensures bases { IfOk result (HasKnownBases index.now) }
 {
     read_headers_are_whole();
-    made_notdef_is_flat();
-    first_repeat_is_the_first();
+    read_glyphs_are_whole();
     let (name, entry) = index.at(number).unwrap();
     let mut first = FirstFailure::new();
     let glyph = Glyph {
@@ -81,7 +82,8 @@ pub fn raw_glyph(
 
 /// The layers of the glyph with this number in the index, for a program that doesn't take all forms
 /// of a layer yet: those of `unbuilt_forms` are told among the rules of single values, each of a
-/// wrong shape. What is read has no components and no anchors. All else is as in `raw_glyph`.
+/// wrong shape. What is read has no components, and is what `raw_glyph` reads. All else is as in
+/// `raw_glyph`.
 pub fn built_glyph(
     alloc: Global,
     tree: &Tree,
@@ -89,23 +91,24 @@ pub fn built_glyph(
     index: &GlyphIndex,
     number: u32,
 ) -> Result<GlyphIr, ReadError>
-    requires header { built_header_of tree.now ≡ Ok header.now }
+    requires header { header_of tree.now ≡ Ok header.now }
     requires index { index_of tree.now ≡ Ok index.now }
     requires number { number < length index.now }
     ensures record { Gives (λ glyph. glyph) result
         (built_glyph_of tree.now header.now index.now number) }
+    ensures raw { IfOk result (IsGlyphOf tree.now header.now index.now number) }
     ensures number { IfOk result (λ glyph. glyph.number ≡ number) }
     ensures places { IfOk result (λ glyph. glyph.places
-        ≡ map (λ master. master.location) header.now.masters) }
+        ≡ places_of tree.now header.now (glyph_in index.now number)) }
     ensures read { IfOk result IsReadGlyph }
+    ensures masters { IfOk result (HasMastersFirst header.now) }
+    ensures bases { IfOk result (HasKnownBases index.now) }
     ensures components { IfOk result HasNoComponents }
-    ensures anchors { IfOk result HasNoAnchors }
 {
-    built_headers_are_read();
-    built_headers_have_one_master();
     read_headers_are_whole();
-    made_notdef_is_flat();
-    first_repeat_is_the_first();
+    read_glyphs_are_whole();
+    built_glyphs_are_read();
+    built_glyphs_have_no_components();
     let (name, entry) = index.at(number).unwrap();
     let mut first = FirstFailure::new();
     let glyph = Glyph {

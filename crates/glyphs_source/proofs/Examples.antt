@@ -8,11 +8,10 @@ use Rattle.refusal_codes.specs.declared.refusal.Refusal.{Refusal}
 use Rattle.refusal_codes.specs.declared.job.TheConstants.{HEADER, INDEX}
 use Rattle.refusal_codes.specs.First.{refusal_of}
 use Rattle.refusal_codes.specs.declared.rule.Rule.{Rule}
-use Rattle.refusal_codes.specs.declared.rule.Rule.TheVariants.{WrongShape, MissingKey, OutOfRange}
+use Rattle.refusal_codes.specs.declared.rule.Rule.TheVariants.{MissingKey, OutOfRange}
 use Rattle.refusal_codes.specs.declared.rule.Rule.TheVariants.{AxisCount, DuplicateUnicode}
 use Rattle.font_ir.specs.declared.header.Header.{Header}
 use Rattle.glyphs_source.specs.declared.entries.IndexEntry.{IndexEntry}
-use Rattle.glyphs_source.specs.BuiltHeaders.{built_header_of}
 use Rattle.glyphs_source.specs.HeaderReading.{header_of}
 use Rattle.glyphs_source.specs.IndexReading.{index_of}
 use Rattle.glyphs_source.specs.OnLiterals.{header_on_literals, index_on_literals}
@@ -184,19 +183,6 @@ header_rows =
 pub headers-computed : map (λ row. header_of row.0) header_rows ≡ map (λ row. row.1) header_rows
 unfolding header_on_literals
 headers-computed = refl
-
--- a program that takes no axes refuses their list
-abbrev built_rows : List (Tree × Result Header Refusal)
-built_rows =
-    (triangle, Ok triangle_header)
-    ∷ (nameless, Err (header_refusal MissingKey 0))
-    ∷ (axes, Err (header_refusal WrongShape 29))
-    ∷ []
-
-pub built-headers-computed : map (λ row. built_header_of row.0) built_rows
-    ≡ map (λ row. row.1) built_rows
-unfolding header_on_literals
-built-headers-computed = refl
 
 -- the one exported glyph of the triangle, with one code, whose dictionary is the value 40
 abbrev triangle_entry : IndexEntry

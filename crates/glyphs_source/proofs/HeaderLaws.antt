@@ -1,16 +1,13 @@
--- What a header fulfils that is read: all that is asked of one; and where no form is told that isn't
--- taken, it has one master and no axes.
-use Rattle.std.proofs.Common.{◌≡◌, ℕ, ◌+◌, ◌≤◌, ◌<◌, ◌*◌, ◌/◌, ◌==◌, ◌&&◌, ◌||◌, not, cond}
+-- What a header fulfils that is read: all that is asked of one.
+use Rattle.std.proofs.Common.{◌≡◌, ℕ, ◌+◌, ◌≤◌, ◌<◌, ◌==◌, ◌&&◌, ◌||◌, not, cond}
 use Rattle.std.proofs.Common.{nat_le, Bool, true, false, List, [], ◌∷◌, ◌++◌, length, map, Option}
 use Rattle.std.proofs.Common.{Some, None, Result, Ok, Err, refl, sym, ap, ◌∙◌, subst, lit≤, arith}
-use Rattle.std.specs.Prelude.{codes, IfOk, option_and_then, unwrap_or, slice_get}
+use Rattle.std.specs.Prelude.{codes, IfOk, option_and_then, unwrap_or}
 use Rattle.std.specs.Option.{option_map_or}
-use Rattle.std.specs.List.{All, AllByRecursion, filter}
+use Rattle.std.specs.List.{All}
 use Rattle.std.proofs.lemmas.Bool.Decides.{nat_tests}
 use Rattle.std.proofs.lemmas.List.{length-map}
-use Rattle.std.proofs.lemmas.List.Elements.{All-head}
 use Rattle.fixed_math.specs.declared.F2Dot14.{F2Dot14}
-use Rattle.fixed_math.specs.declared.Fixed.{Fixed}
 use Rattle.plist_reader.specs.declared.tree.Tree.{Tree}
 use Rattle.plist_reader.specs.Tree.{find_in, text_at}
 use Rattle.font_ir.specs.declared.header.Header.{Header}
@@ -24,43 +21,37 @@ use Rattle.axis_space.specs.UnmappedAxes.{TellsUnmapped, first_unmapped}
 use Rattle.refusal_codes.specs.declared.first.Failure.{Failure}
 use Rattle.refusal_codes.specs.declared.errors.ReadError.{ReadError}
 use Rattle.refusal_codes.specs.Gives.{Gives}
-use Rattle.refusal_codes.specs.declared.rule.Rule.TheVariants.{MissingKey, OutOfRange, WrongShape}
-use Rattle.refusal_codes.specs.First.{first_of, foremost, or_next, noted, refusal_of, judged}
+use Rattle.refusal_codes.specs.declared.rule.Rule.TheVariants.{MissingKey, OutOfRange}
+use Rattle.refusal_codes.specs.First.{first_of, foremost, or_next, noted, refusal_of}
 use Rattle.refusal_codes.specs.declared.job.TheConstants.{HEADER}
-use Rattle.refusal_codes.specs.FirstLaws.{first_of_none, noted-append}
+use Rattle.refusal_codes.specs.FirstLaws.{first_of_none}
 use Rattle.refusal_codes.specs.JudgedLaws.{judged_ok}
 use Rattle.source_values.specs.declared.decimals.Decimal.{Decimal}
 use Rattle.source_values.specs.Decimals.{is_whole}
-use Rattle.source_values.specs.Values.{items_at, is_dictionary, decimal_at, natural_by, natural_in}
-use Rattle.source_values.specs.Values.{items_under}
+use Rattle.source_values.specs.Values.{is_dictionary, decimal_at, natural_by, natural_in}
 use Rattle.source_values.specs.Asking.{fails, name_failures_by, name_failures, under_by, optional}
-use Rattle.source_values.specs.Asking.{required, is_empty_list, empty_list_failures}
+use Rattle.source_values.specs.Asking.{required}
 use Rattle.source_axes.specs.AxisReading.{axes_failures, axis_of, axis_numbers, axes_of}
 use Rattle.source_axes.specs.AxisReading.{too_many_axes}
-use Rattle.source_axes.specs.InstanceReading.{instances_failures, is_kept, instance_of}
-use Rattle.source_axes.specs.InstanceReading.{kept_instances, instances_of}
+use Rattle.source_axes.specs.InstanceReading.{instances_failures}
 use Rattle.source_axes.specs.InstanceReading.{instance_count_failures}
-use Rattle.source_axes.specs.ReadAxes.{AreReadAxes, AreReadInstances, HasSoundAxes}
+use Rattle.source_axes.specs.ReadAxes.{HasSoundAxes}
 use Rattle.source_axes.specs.ReadAxes.{HasSoundInstances, SoundAxesAreRead, SoundInstancesAreRead}
 use Rattle.source_masters.specs.Metrics.{used_metrics}
 use Rattle.source_masters.specs.MasterRules.{masters_failures}
-use Rattle.source_masters.specs.WholeRules.{master_numbers, too_many_masters, no_master}
+use Rattle.source_masters.specs.WholeRules.{too_many_masters, no_master}
 use Rattle.source_masters.specs.WholeRules.{duplicate_masters, axis_counts, origin_of}
 use Rattle.source_masters.specs.WholeRules.{unknown_origin}
-use Rattle.source_masters.specs.MasterReading.{units_per_em, default_heights, master_with}
+use Rattle.source_masters.specs.MasterReading.{units_per_em}
 use Rattle.source_masters.specs.MasterReading.{masters_of}
 use Rattle.source_masters.specs.ReadMasters.{IsReadMaster, AreReadMasters, HasSoundMasters}
 use Rattle.source_masters.specs.ReadMasters.{HasOrigin, SoundMastersAreRead}
-use Rattle.unbuilt_forms.specs.Forms.{second_master_forms, first_master_forms, master_forms}
-use Rattle.unbuilt_forms.specs.Forms.{header_forms}
-use Rattle.glyphs_source.specs.BuiltHeaders.{built_header_of}
 use Rattle.glyphs_source.specs.HeaderReading.{name_and_numbers_failures, design_failures}
 use Rattle.glyphs_source.specs.HeaderReading.{top_failures, header_failures, count_failures}
 use Rattle.glyphs_source.specs.HeaderReading.{source_failure, origin_at, HasSoundHeader}
 use Rattle.glyphs_source.specs.HeaderReading.{placed_masters, same_location_by, not_rising_by}
 use Rattle.glyphs_source.specs.HeaderReading.{place_failure_of, header_record, judged_header}
-use Rattle.glyphs_source.specs.HeaderReading.{header_by, header_of, HasMetricsInRange}
-use Rattle.glyphs_source.specs.HeaderReading.{IsReadHeader}
+use Rattle.glyphs_source.specs.HeaderReading.{header_by, header_of}
 
 -- ---- lists of failures
 
@@ -435,157 +426,6 @@ read_whole laws t h e =
     let sound : HasSoundHeader t = record { local = answer.local; whole = answer.source } in
     subst IsHeader answer.is (whole_record laws t sound answer.places)
 
-pub built_read : (t : Tree) (h : Header) → built_header_of t ≡ Ok h → header_of t ≡ Ok h
-unfolding header_of built_header_of header_by judged_header
-built_read t h e =
-    let answer = answered t (header_failures t ++ header_forms t) h e in
-    let none : header_failures t ≡ [] = first_empty (header_failures t) (header_forms t) answer.local
-    in
-    ap (λ (fs : List Failure). judged (refusal_of HEADER []) (first_of fs)
-    (or_next (source_failure t) (place_failure_of t (placed_masters t))) (header_record t)) none
-    ∙ ap (λ (o : Option Failure). judged (refusal_of HEADER []) None
-    (or_next o (place_failure_of t (placed_masters t))) (header_record t)) answer.source
-    ∙ ap (λ (o : Option Failure). judged (refusal_of HEADER []) None o (header_record t))
-    answer.places
-    ∙ ap (λ (x : Header). Ok x) answer.is
-
--- ---- one master
-
-empty_list : {X : Type 0} (xs : List X) → length xs ≡ 0 → xs ≡ []
-empty_list [] e = refl
-empty_list (x ∷ xs) e = absurd (omega (arith, e))
-
-one_master_read : (h : Header) → IsHeader h → h.axes ≡ [] → length h.masters ≡ 1
-    → h.instances ≡ [] → h.kerning ≡ [] → IsReadHeader h
-one_master_read h whole no_axes one no_instances no_kerning =
-    by h.masters (λ m e. read m e) one
-  where
-    read : (m : Master) → h.masters ≡ m ∷ [] → IsReadHeader h
-    read m e =
-        let all = subst (All (IsMaster (length h.axes))) e whole.masters in
-        let its = All-head (IsMaster (length h.axes)) m [] all in
-        let none : length h.axes ≡ 0 = ap length no_axes in
-        let there : h.origin < 1 = subst (λ (n : ℕ). h.origin < n) one whole.origin in
-        record {
-          numbers = record {
-            units_from = whole.units.0;
-            units = whole.units.1;
-            family_from = whole.family.0;
-            family = whole.family.1;
-            major = whole.major;
-            minor = whole.minor;
-            metrics = subst (AllByRecursion HasMetricsInRange) (sym e) (
-              record {
-                ascender = its.ascender;
-                descender = its.descender;
-                cap = its.cap;
-                xheight = its.xheight;
-              },
-              tt,
-            );
-          };
-          one_master = ap (map (λ (master : Master). master.location)) e
-              ∙ ap (λ (l : List F2Dot14). l ∷ []) (empty_list m.location (its.location ∙ none));
-          no_design = ap (map (λ (master : Master). master.design)) e
-              ∙ ap (λ (l : List Fixed). l ∷ []) (empty_list m.design (its.design ∙ none));
-          no_user = ap (map (λ (master : Master). master.user)) e
-              ∙ ap (λ (l : List Fixed). l ∷ []) (empty_list m.user (its.user ∙ none));
-          no_axes = no_axes;
-          origin = omega (arith, there);
-          no_instances = no_instances;
-          no_kerning = no_kerning;
-        }
-
-    by : (masters : List Master) → ((m : Master) → masters ≡ m ∷ [] → IsReadHeader h)
-        → length masters ≡ 1 → IsReadHeader h
-    by [] found size = absurd (omega (arith, size))
-    by (m ∷ []) found size = found m refl
-    by (m ∷ n ∷ ms) found size = absurd (omega (arith, size))
-
--- a form that isn't taken is told unless the list is empty
-passed : (b : Bool) (f : Failure) → cond b [] (f ∷ []) ≡ [] → b ≡ true
-passed true f e = refl
-passed false f e = absurd cc
-
-no_length : (n : ℕ) → (n == 0) ≡ true → n ≡ 0
-no_length n e = grind (arith, nat_tests, e)
-
-no_items : (t : Tree) (n : ℕ) (o : Option (List ℕ))
-    → cond (is_empty_list o) [] (fails WrongShape t n) ≡ [] → unwrap_or o [] ≡ []
-no_items t n None e = absurd cc
-no_items t n (Some items) e =
-    empty_list items (no_length (length items) (passed (length items == 0) _ e))
-
-none_under : (t : Tree) (o : Option ℕ) → under_by (empty_list_failures t) [] o ≡ []
-    → unwrap_or (option_and_then (items_at t) o) [] ≡ []
-unfolding empty_list_failures
-none_under t None e = refl
-none_under t (Some n) e = no_items t n (items_at t n) e
-
-at_most_one : (t : Tree) (ms : List ℕ) → second_master_forms t ms ≡ [] → length ms ≤ 1
-at_most_one t [] e = omega arith
-at_most_one t (m ∷ []) e = omega arith
-at_most_one t (m ∷ n ∷ ms) e = absurd cc
-
-module _ (t : Tree) (forms : header_forms t ≡ []) where
-  no_axes : axis_numbers t ≡ []
-  unfolding header_forms axis_numbers
-  no_axes =
-      none_under t (find_in t t.top (codes "axes"))
-      (first_empty _ _ (first_empty _ _ (first_empty _ _ (first_empty _ _ forms))))
-
-  one_number : length (master_numbers t) ≤ 1
-  unfolding header_forms master_forms master_numbers
-  one_number =
-      at_most_one t (items_under t t.top (codes "fontMaster"))
-      (last_empty (first_master_forms t (items_under t t.top (codes "fontMaster"))) _
-      (last_empty _ _ forms))
-
-  record_axes : (header_record t).axes ≡ []
-  unfolding header_record axes_of
-  record_axes = ap (map (axis_of t)) no_axes
-
-  record_instances : (header_record t).instances ≡ []
-  unfolding header_record instances_of kept_instances
-  record_instances =
-      ap (λ (ns : List ℕ). map (instance_of t) (cond (length ns == 0) []
-      (filter (is_kept t) (items_under t t.top (codes "instances"))))) no_axes
-
-  record_masters : (axes : List (List ℕ)) → length (masters_of t axes) ≤ 1
-  unfolding masters_of
-  record_masters axes =
-      subst (λ (n : ℕ). n ≤ 1)
-      (sym (length-map (master_numbers t) (master_with t axes (default_heights t)))) one_number
-
-  no_kerning : (header_record t).kerning ≡ []
-  unfolding header_record
-  no_kerning = refl
-
-  one_there : SoundMastersAreRead → HasSoundHeader t → length (header_record t).masters ≡ 1
-  unfolding header_record placed_masters
-  one_there law sound =
-      let names = map (λ (axis : Axis). axis.name) (axes_of t) in
-      let most : length (masters_of t names) ≤ 1 = record_masters names in
-      let least : 1 ≤ length (masters_of t names) = (masters_read t sound law).some in
-      let one : length (masters_of t names) ≡ 1 = omega (arith, most, least) in
-      length-placed (origin_at t) (length (axes_of t)) (masters_of t names) ∙ one
-
-pub built_one : ((t : Tree) (h : Header) → header_of t ≡ Ok h → IsHeader h) → SoundMastersAreRead
-    → (t : Tree) (h : Header) → built_header_of t ≡ Ok h → IsReadHeader h
-unfolding built_header_of
-built_one whole law t h e =
-    let answer = answered t (header_failures t ++ header_forms t) h e in
-    let sound : HasSoundHeader t = record {
-      local = first_empty (header_failures t) (header_forms t) answer.local;
-      whole = answer.source;
-    } in
-    let forms : header_forms t ≡ [] = last_empty (header_failures t) (header_forms t) answer.local in
-    let is : IsHeader (header_record t) = subst IsHeader (sym answer.is)
-    (whole t h (built_read t h e)) in
-    subst IsReadHeader answer.is
-    (one_master_read (header_record t) is (record_axes t forms) (one_there t forms law sound)
-    (record_instances t forms) (no_kerning t forms))
-
 -- ---- what functions need
 
 -- where nothing is noted, there is nothing to note
@@ -593,25 +433,6 @@ pub none_noted : (start first : Option Failure) (fs : List Failure) → start �
     → first ≡ noted start fs → first ≡ None → fs ≡ []
 none_noted start first fs s f e =
     first_of_none fs (sym (ap (λ (o : Option Failure). noted o fs) s) ∙ sym f ∙ e)
-
-pub none_noted_before : (start first last : Option Failure) (fs gs : List Failure) → start ≡ None
-    → first ≡ noted start fs → last ≡ noted first gs → last ≡ None → fs ≡ []
-none_noted_before start first last fs gs s f l e =
-    first_empty fs gs
-    (none_noted start last (fs ++ gs) s
-    (l ∙ ap (λ (o : Option Failure). noted o gs) f ∙ sym (noted-append start fs gs)) e)
-
--- what is answered of both the failures and the forms
-pub built_answer : (t : Tree) (r : Result Header ReadError) (start first last : Option Failure)
-    → start ≡ None → first ≡ noted start (header_failures t)
-    → last ≡ noted first (header_forms t) → Gives (λ header. header) r (judged_header t last)
-    → Gives (λ header. header) r (built_header_of t)
-unfolding built_header_of header_by
-built_answer t r start first last s f l g =
-    subst (λ (o : Option Failure). Gives (λ (header : Header). header) r (judged_header t o))
-    (l ∙ ap (λ (o : Option Failure). noted o (header_forms t)) f
-    ∙ sym (noted-append start (header_failures t) (header_forms t))
-    ∙ ap (λ (o : Option Failure). noted o (header_failures t ++ header_forms t)) s) g
 
 pub few_masters : (t : Tree) → HasSoundHeader t → foremost (too_many_masters t) ≡ None
 few_masters t sound = (none_fails t sound.whole).masters
@@ -652,14 +473,3 @@ pub given_whole : ((t : Tree) (h : Header) → header_of t ≡ Ok h → IsHeader
     (r : Result Header ReadError) → Gives (λ header. header) r (header_of t) → IfOk r IsHeader
 given_whole law t (Ok header) g = law t header g
 given_whole law t (Err error) g = tt
-
-pub given_built : ((t : Tree) (h : Header) → built_header_of t ≡ Ok h → IsReadHeader h)
-    → (t : Tree) (r : Result Header ReadError) → Gives (λ header. header) r (built_header_of t)
-    → IfOk r IsReadHeader
-given_built law t (Ok header) g = law t header g
-given_built law t (Err error) g = tt
-
-pub given_built_whole : ((t : Tree) (h : Header) → header_of t ≡ Ok h → IsHeader h) → (t : Tree)
-    (r : Result Header ReadError) → Gives (λ header. header) r (built_header_of t) → IfOk r IsHeader
-given_built_whole law t (Ok header) g = law t header (built_read t header g)
-given_built_whole law t (Err error) g = tt

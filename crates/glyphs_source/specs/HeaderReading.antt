@@ -1,11 +1,10 @@
 -- What a source says of the whole font, and the rules that it may fail there (Glyphs file format,
 -- version 3; the rules and the defaults are fontc's own). Feature code and kerning aren't built: a
 -- form of theirs is of a wrong shape.
-use Rattle.std.specs.Prelude.{◌≡◌, ℕ, ◌≤◌, Bool, not, ◌&&◌, ◌==◌, List, [], ◌∷◌, ◌++◌, length, map}
-use Rattle.std.specs.Prelude.{slice_get, slice_index, unwrap_or, Option, Some, None, Result, ℤ, pos}
-use Rattle.std.specs.Prelude.{neg_ℤ, ◌≤ℤ◌, codes, if◌then◌else◌}
+use Rattle.std.specs.Prelude.{◌≡◌, ℕ, Bool, not, ◌&&◌, ◌==◌, List, [], ◌++◌, length, map}
+use Rattle.std.specs.Prelude.{slice_get, slice_index, unwrap_or, Option, Some, None, Result}
+use Rattle.std.specs.Prelude.{codes, if◌then◌else◌}
 use Rattle.std.specs.Option.{option_map_or}
-use Rattle.std.specs.List.{AllByRecursion}
 use Rattle.plist_reader.specs.declared.tree.Tree.{Tree}
 use Rattle.plist_reader.specs.Tree.{find_in}
 use Rattle.font_ir.specs.declared.header.Header.{Header}
@@ -19,7 +18,6 @@ use Rattle.refusal_codes.specs.declared.rule.Rule.TheVariants.{SameLocation, Axi
 use Rattle.refusal_codes.specs.declared.first.Failure.{Failure}
 use Rattle.refusal_codes.specs.First.{first_of, foremost, or_next, refusal_of, judged}
 use Rattle.refusal_codes.specs.declared.job.TheConstants.{HEADER}
-use Rattle.refusal_codes.specs.declared.limits.TheConstants.{NAME_BYTES}
 use Rattle.source_values.specs.declared.decimals.Decimal.{Decimal}
 use Rattle.source_values.specs.declared.kinds.Range.TheVariants.{Natural}
 use Rattle.source_values.specs.Decimals.{is_whole}
@@ -169,38 +167,3 @@ header_by t failures = judged_header t (first_of failures)
 -- what the job of the header answers
 unfoldable pub header_of : Tree → Result Header Refusal
 header_of t = header_by t (header_failures t)
-
--- ---- what a header fulfils that has one master and no axes
-
--- a metric is from -16383 to 16383
-abbrev pub IsMetric : ℤ → Type 0
-IsMetric z = (neg_ℤ (pos 16383) ≤ℤ z) × (z ≤ℤ pos 16383)
-
--- each of a master's metrics is
-pub record HasMetricsInRange (master : Master) : Type 0 where
-  pub ascender : IsMetric master.ascender
-  pub descender : IsMetric master.descender
-  pub cap : IsMetric master.cap
-  pub xheight : IsMetric master.xheight
-
--- its numbers are in their ranges, and the family's name has 1 to 255 bytes
-pub record HasNumbersInRange (header : Header) : Type 0 where
-  pub units_from : 16 ≤ header.upem
-  pub units : header.upem ≤ 16384
-  pub family_from : 1 ≤ length header.family
-  pub family : length header.family ≤ NAME_BYTES
-  pub major : header.major ≤ 32767
-  pub minor : header.minor ≤ 999
-  pub metrics : AllByRecursion HasMetricsInRange header.masters
-
--- one master, which is the default one, and no axes, so it has no coordinates; nor are there
--- instances or kerning
-pub record IsReadHeader (header : Header) : Type 0 where
-  pub numbers : HasNumbersInRange header
-  pub one_master : map (λ master. master.location) header.masters ≡ [] ∷ []
-  pub no_design : map (λ master. master.design) header.masters ≡ [] ∷ []
-  pub no_user : map (λ master. master.user) header.masters ≡ [] ∷ []
-  pub no_axes : header.axes ≡ []
-  pub origin : header.origin ≡ 0
-  pub no_instances : header.instances ≡ []
-  pub no_kerning : header.kerning ≡ []

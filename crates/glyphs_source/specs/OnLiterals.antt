@@ -8,8 +8,6 @@ use Rattle.axis_space.specs.Placing.{place_of, placed}
 use Rattle.axis_space.specs.Repeats.{first_repeat}
 use Rattle.axis_space.specs.UnmappedAxes.{first_unmapped}
 use Rattle.font_ir.specs.AxisMaps.{pairs_of}
-use Rattle.unbuilt_forms.specs.Forms.{master_forms, header_forms}
-use Rattle.glyphs_source.specs.BuiltHeaders.{built_header_of}
 use Rattle.glyphs_source.specs.HeaderReading.{version_failures, name_and_numbers_failures}
 use Rattle.glyphs_source.specs.HeaderReading.{design_failures, feature_forms_failures, top_failures}
 use Rattle.glyphs_source.specs.HeaderReading.{count_failures, source_failure, origin_at}
@@ -22,10 +20,9 @@ use Rattle.glyphs_source.specs.IndexReading.{index_of}
 
 unfoldable pub header_on_literals : ⊤
 unfolding values_on_literals axes_on_literals masters_on_literals place_of placed first_repeat
-    first_unmapped pairs_of master_forms header_forms built_header_of version_failures
-    name_and_numbers_failures design_failures feature_forms_failures top_failures count_failures
-    source_failure origin_at placed_masters place_failure_of place_under header_record
-    judged_header header_by header_of
+    first_unmapped pairs_of version_failures name_and_numbers_failures design_failures
+    feature_forms_failures top_failures count_failures source_failure origin_at placed_masters
+    place_failure_of place_under header_record judged_header header_by header_of
 header_on_literals = tt
 
 unfoldable pub index_on_literals : ⊤

@@ -10,12 +10,11 @@ ghost use Rattle.source_masters.specs.MasterReading.{units_per_em};
 ghost use Rattle.source_axes.specs.AxisReading.{axes_of};
 ghost use Rattle.glyphs_source.specs.HeaderReading.{header_failures, header_record, judged_header};
 ghost use Rattle.glyphs_source.specs.HeaderReading.{header_of, place_under, HasSoundHeader};
-ghost use Rattle.glyphs_source.specs.HeaderReading.{placed_masters as seen_masters, IsReadHeader};
-ghost use Rattle.glyphs_source.specs.BuiltHeaders.{built_header_of};
+ghost use Rattle.glyphs_source.specs.HeaderReading.{placed_masters as seen_masters};
 
 use crate::header_places::{origin_at, place_failure, placed_masters};
 use crate::header_rules::{Numbers, read_numbers, source_failure};
-use crate::laws::{built_headers_have_one_master, read_headers_are_whole};
+use crate::laws::read_headers_are_whole;
 use font_ir::{Axis, Header, Master};
 use plain_lists::{Sequence, Text};
 use plist_reader::Tree;
@@ -24,7 +23,6 @@ use source_axes::{read_axes, read_instances};
 use source_masters::masters_place;
 use source_values::{copied, place_at, text_under};
 use std::alloc::{AllocError, Global};
-use unbuilt_forms::note_header_forms;
 
 /// What a source says of the whole font (Glyphs file format, version 3).
 ///
@@ -43,30 +41,6 @@ pub fn header(alloc: Global, tree: &Tree) -> Result<Header, ReadError>
 {
     read_headers_are_whole();
     read_header(alloc, tree)
-}
-
-/// What a source says of the whole font, for a program that doesn't take all of its forms yet: those
-/// of `unbuilt_forms` are told among the rules of single values, each of a wrong shape. What is read
-/// has one master, without axes; else the answer is that of `header`.
-pub fn built_header(alloc: Global, tree: &Tree) -> Result<Header, ReadError>
-    requires { IsTree tree.now }
-    ensures record { Gives (λ header. header) result (built_header_of tree.now) }
-    ensures read { IfOk result IsReadHeader }
-    ensures whole { IfOk result IsHeader }
-{
-    read_headers_are_whole();
-    built_headers_have_one_master();
-    read_built(alloc, tree)
-}
-
-fn read_built(alloc: Global, tree: &Tree) -> Result<Header, ReadError>
-    requires { IsTree tree.now }
-    ensures { Gives (λ header. header) result (built_header_of tree.now) }
-{
-    let mut first = FirstFailure::new();
-    let numbers = read_numbers(alloc, tree, &mut first)?;
-    note_header_forms(tree, &mut first);
-    finish(alloc, tree, numbers, &first)
 }
 
 #[tactic(auto, unfolding(crate::specs::HeaderReading::header_of, crate::specs::HeaderReading::header_by))]

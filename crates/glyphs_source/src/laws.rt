@@ -6,8 +6,7 @@ ghost use Rattle.plist_reader.specs.declared.tree.Tree.{Tree};
 ghost use Rattle.font_ir.specs.declared.header.Header.{Header};
 ghost use Rattle.font_ir.specs.Headers.{IsHeader};
 ghost use Rattle.glyphs_source.specs.declared.entries.IndexEntry.{IndexEntry};
-ghost use Rattle.glyphs_source.specs.BuiltHeaders.{built_header_of};
-ghost use Rattle.glyphs_source.specs.HeaderReading.{header_of, IsReadHeader};
+ghost use Rattle.glyphs_source.specs.HeaderReading.{header_of};
 ghost use Rattle.glyphs_source.specs.IndexReading.{index_of, AreNamed, AreCoded};
 ghost use Rattle.glyphs_source.specs.IndexReading.{IsNotdefExported};
 
@@ -25,22 +24,6 @@ pub fn read_headers_are_whole()
     sound_masters_are_read();
     first_repeat_is_the_first();
     first_unmapped_is_the_first();
-}
-
-/// What `built_header` reads of a tree is what `header` reads of it.
-pub fn built_headers_are_read()
-    ensures { (tree : Tree) (header : Header) → built_header_of tree ≡ Ok header
-        → header_of tree ≡ Ok header }
-{}
-
-/// What `built_header` reads of a tree has one master and no axes, and its numbers are in their
-/// ranges.
-pub fn built_headers_have_one_master()
-    ensures { (tree : Tree) (header : Header) → built_header_of tree ≡ Ok header
-        → IsReadHeader header }
-{
-    read_headers_are_whole();
-    sound_masters_are_read();
 }
 
 /// What `glyph_index` reads of a tree has names of 1 to 255 bytes.

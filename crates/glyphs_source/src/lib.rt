@@ -11,11 +11,10 @@ mod laws;
 mod rule_laws;
 
 pub use entries::IndexEntry;
-pub use font_header::{built_header, header};
+pub use font_header::header;
 pub use index::{GlyphIndex, glyph_index};
 pub use laws::{
-    built_headers_are_read, built_headers_have_one_master, exported_codes_are_distinct,
-    glyph_names_are_short, notdef_is_exported, read_headers_are_whole,
+    exported_codes_are_distinct, glyph_names_are_short, notdef_is_exported, read_headers_are_whole,
 };
 pub use rule_laws::{
     fractions_of_the_header_are_refused, fractions_of_the_index_are_refused,

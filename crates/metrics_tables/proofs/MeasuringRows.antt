@@ -1,6 +1,6 @@
 -- Worked rows: the regions and rows of a font of one axis whose letter also has a place half way,
 -- and the counts of composites.
-use Rattle.std.proofs.Common.{◌≡◌, ℕ, ◌*◌, ℤ, pos, negsuc, neg_ℤ}
+use Rattle.std.proofs.Common.{◌≡◌, ℕ, ℤ, pos, negsuc, neg_ℤ}
 use Rattle.std.proofs.Common.{List, [], ◌∷◌, codes, true, None, Some}
 use Rattle.std.proofs.Common.{refl}
 use Rattle.fixed_math.specs.declared.F2Dot14.{F2Dot14}

@@ -1,5 +1,5 @@
 -- A walk down the components keeps what it promises, and less of it is left after each step.
-use Rattle.std.proofs.Common.{◌≡◌, ℕ, zero, suc, ◌+◌, ◌*◌, ◌^◌, ◌<◌, ◌≤◌, Bool, true, false, List}
+use Rattle.std.proofs.Common.{◌≡◌, ℕ, zero, suc, ◌+◌, ◌*◌, ◌^◌, ◌<◌, ◌≤◌, true, List}
 use Rattle.std.proofs.Common.{[], ◌∷◌, ◌++◌, length, map, get_or, set, refl, sym, ap, ◌∙◌, subst}
 use Rattle.std.proofs.Common.{arith}
 use Rattle.std.proofs.Common.{inl, inr, ◌⊎◌, max, Option, None, Some, is_some, zero-add, replicate}
@@ -11,9 +11,8 @@ use Rattle.std.proofs.lemmas.List.Elements.{recursion_from_All}
 use Rattle.std.proofs.Math.Nat.{pow-succ', mul-le-mul_right}
 use Rattle.metrics_tables.specs.Comparisons.{greatest_count}
 use Rattle.metrics_tables.specs.Nesting.{bases_at, depth_of}
-use Rattle.metrics_tables.specs.Walks as walks
 use Rattle.metrics_tables.specs.Walks.{AreBases, AreDepths, AreOwed, AreThere, IsCovered, IsKnown}
-use Rattle.metrics_tables.specs.Walks.{IsOwed, IsWalk, Occurs, cost, cost_of, depth_known}
+use Rattle.metrics_tables.specs.Walks.{IsOwed, IsWalk, Occurs, cost, depth_known}
 use Rattle.metrics_tables.specs.Walks.{depth_over, depths_after, entries_of, entry_of, gid_in}
 use Rattle.metrics_tables.specs.Walks.{known_depth, stack_after}
 use Rattle.metrics_tables.specs.declared.nesting.Step.{Step}

@@ -1,20 +1,17 @@
 -- A font of one master, without axes and without components, has no regions, no deltas and no
 -- nesting. For the proofs of other crates alone.
-use Rattle.std.proofs.Common.{◌≡◌, ℕ, zero, suc, ◌+◌, ◌<◌, ◌≤◌, max, ℤ, pos, negsuc, ◌≤ℤ◌, List, []}
-use Rattle.std.proofs.Common.{◌∷◌, ◌++◌, length, map, get_or, take, drop, Option, None, Some, refl}
-use Rattle.std.proofs.Common.{sym}
-use Rattle.std.proofs.Common.{ap, ◌∙◌, subst, arith, true, Bool}
+use Rattle.std.proofs.Common.{◌≡◌, ℕ, zero, suc, ◌+◌, ◌<◌, ℤ, pos, ◌≤ℤ◌, List, []}
+use Rattle.std.proofs.Common.{◌∷◌, length, map, drop, None, Some, refl}
+use Rattle.std.proofs.Common.{ap, ◌∙◌, arith, true, Bool}
 use Rattle.std.proofs.lemmas.Int.{ints}
-use Rattle.std.proofs.lemmas.List.{length-map}
 use Rattle.std.proofs.lemmas.List.Elements.{recursion_from_All}
 use Rattle.std.specs.Prelude.{if◌then◌else◌, nat_eq, ◌*ℤ◌, ◌-ℤ◌, Ok}
-use Rattle.std.specs.List.{All, AllByRecursion, Contains, flat_map, fold, filter, zip}
+use Rattle.std.specs.List.{All, AllByRecursion, Contains, flat_map}
 use Rattle.std.specs.List.{range_with_len}
 use Rattle.std.specs.Option.{option_to_list}
 use Rattle.fixed_math.specs.FloorLaws.{half_up_exact}
 use Rattle.fixed_math.specs.FixedPoint.{half_up}
 use Rattle.fixed_math.specs.declared.F2Dot14.{F2Dot14}
-use Rattle.fixed_math.specs.declared.Fixed.{Fixed}
 use Rattle.font_ir.specs.FlatGlyphs.{IsFlatGlyph}
 use Rattle.font_ir.specs.Glyphs.{gid_of}
 use Rattle.font_ir.specs.Headers.{IsHeader, IsMaster}
@@ -26,14 +23,14 @@ use Rattle.font_ir.specs.declared.glyph.Kept.{Kept}
 use Rattle.font_ir.specs.declared.variation.Region.{Region}
 use Rattle.variation_model.specs.Places.{order_of}
 use Rattle.variation_model.specs.Supports.{supports_of}
-use Rattle.variation_model.specs.Deltas.{deltas_of, first_large, is_storable, value_at_place}
+use Rattle.variation_model.specs.Deltas.{deltas_of, first_large, is_storable}
 use Rattle.metrics_tables.specs.Comparisons.{greatest_count}
 use Rattle.metrics_tables.specs.Nesting.{bases_of, bases_in, bases_at, depth_within, depth_of}
-use Rattle.metrics_tables.specs.Nesting.{greatest_depth, IsChain, NoneLeadsToItself}
+use Rattle.metrics_tables.specs.Nesting.{NoneLeadsToItself}
 use Rattle.metrics_tables.specs.Changes.{master_places, advance_deltas, changes_of, in_16_16}
 use Rattle.metrics_tables.specs.Changes.{changes_over}
 use Rattle.metrics_tables.specs.Changes.{large_from, or_large_in, row_over, regions_of, with_glyphs}
-use Rattle.metrics_tables.specs.Changes.{with_changes, BeginsWithMasters}
+use Rattle.metrics_tables.specs.Changes.{with_changes}
 use Rattle.metrics_tables.specs.Measuring as measuring
 use Rattle.metrics_tables.specs.Measuring.{HasMastersPlaces, IsStatic, measured_of, measures_of}
 use Rattle.metrics_tables.specs.Measuring.{font_measures, maxima_of, simple_maxima}

@@ -1,22 +1,24 @@
-ghost use Rattle.std.specs.Prelude.{◌≡◌, ◌≤◌, ◌<◌, [], length, map, max, unsigned_abs, IfOk};
+ghost use Rattle.std.specs.Prelude.{◌≡◌, ◌≤◌, ◌<◌, length, map, max, unsigned_abs, IfOk};
 ghost use Rattle.std.specs.List.{All};
 ghost use Rattle.font_ir.specs.FlatGlyphs.{glyphs_of, IsFlatGlyph};
 ghost use Rattle.font_ir.specs.Headers.{IsHeader};
 ghost use Rattle.font_ir.specs.Outlines.{points_at, bounds_of};
+ghost use Rattle.metrics_tables.specs.Changes.{BeginsWithMasters};
 ghost use Rattle.metrics_tables.specs.Comparisons.{greatest_count};
 ghost use Rattle.metrics_tables.specs.Hvar.{AreMeasuresFor};
 ghost use Rattle.metrics_tables.specs.Measuring as spec;
-ghost use Rattle.metrics_tables.specs.Measuring.{IsMeasurable, HasMastersPlaces, Measured};
+ghost use Rattle.metrics_tables.specs.Measuring.{IsMeasurable, Measured};
 ghost use Rattle.metrics_tables.specs.Measuring.{measured_of, width_at};
 ghost use Rattle.metrics_tables.specs.Nesting.{bases_in, bases_of, greatest_depth};
 ghost use Rattle.metrics_tables.specs.Nesting.{NoneLeadsToItself};
 ghost use Rattle.metrics_tables.specs.Tables.{AreMeasures};
 ghost use Rattle.metrics_tables.specs.Walks.{AreBases};
 
+use crate::changes::regions_and_rows;
 use crate::measures::{Maxima, MeasureError, Measures};
 use crate::nesting::{all_bases, greatest_depth};
 use crate::outline::{advance_at, bounds_at, contours_of, points_of};
-use font_ir::{FlatGlyph, GlyphOrder, Header};
+use font_ir::{FlatGlyph, GlyphOrder, Header, Region};
 use plain_lists::Sequence;
 use refusal_codes::NoMemory;
 use std::alloc::Global;
@@ -50,17 +52,6 @@ fn all_bounds(
         bounds.push(bounds_at(glyph, place))?;
     }
     Ok(bounds)
-}
-
-/// The glyphs' changes of the advance width, in no region.
-fn no_rows(alloc: Global, glyphs: &[Arc<FlatGlyph>]) -> Result<Vec<Sequence<i16>>, NoMemory>
-    ensures { IfOk result (λ rows. rows.items ≡ map (λ glyph. []) glyphs.now) }
-{
-    let mut rows = Vec::with_capacity(alloc, glyphs.len())?;
-    for _glyph in glyphs {
-        rows.push(Sequence::new(alloc))?;
-    }
-    Ok(rows)
 }
 
 /// The counts of a glyph, without its depth.
@@ -165,12 +156,14 @@ fn maxima_of(
     Ok(Maxima { depth, ..counts })
 }
 
-/// The measures of glyphs at a place, without regions.
+/// The measures of glyphs at a place, with these regions and rows.
 fn measures_at(
     alloc: Global,
     order: &GlyphOrder,
     glyphs: &[Arc<FlatGlyph>],
     place: u32,
+    regions: Vec<Region>,
+    rows: Vec<Sequence<i16>>,
 ) -> Result<Measures, NoMemory>
     requires glyphs { All (λ glyph. IsMeasurable place glyph.value) glyphs.now }
     requires one_glyph { length glyphs.now ≡ length order.now.names }
@@ -179,29 +172,38 @@ fn measures_at(
         ≡ map (λ glyph. unsigned_abs (width_at place glyph.value)) glyphs.now) }
     ensures bounds { IfOk result (λ measures. measures.bounds
         ≡ map (λ glyph. bounds_of (points_at place glyph.value)) glyphs.now) }
-    ensures regions { IfOk result (λ measures. measures.regions ≡ []) }
-    ensures rows { IfOk result (λ measures. measures.rows ≡ map (λ glyph. []) glyphs.now) }
+    ensures regions { IfOk result (λ measures. measures.regions ≡ regions.items) }
+    ensures rows { IfOk result (λ measures. measures.rows ≡ rows.items) }
     ensures maxima { IfOk result (λ measures. measures.maxima
         ≡ spec.maxima_of order.now.names (glyphs_of glyphs.now) place) }
 {
     let advances = advances_of(alloc, glyphs, place)?;
     let bounds = all_bounds(alloc, glyphs, place)?;
-    let rows = no_rows(alloc, glyphs)?;
     let maxima = maxima_of(alloc, order, glyphs, place)?;
     Ok(Measures {
         advances: Sequence::from_vec(advances),
         bounds: Sequence::from_vec(bounds),
-        regions: Sequence::new(alloc),
+        regions: Sequence::from_vec(regions),
         rows: Sequence::from_vec(rows),
         maxima,
     })
 }
 
-/// Measures the glyphs of a font of one master, without axes, at its default master.
+/// Measures the glyphs of a font at its default master, and how their advance widths change over
+/// its design space.
 ///
-/// The glyphs stand in the order of their glyph numbers, one for each name of the order, and none
-/// leads to itself by its components, which are found by their names. A font of one master has no
-/// regions, so no error but want of memory comes.
+/// The glyphs stand in the order of their glyph numbers, one for each name of the order. The places
+/// of each begin with those of the masters, and none leads to itself by its components, which are
+/// found by their names.
+///
+/// It takes time for the glyphs' points and components, for the model of each glyph that has places
+/// besides the masters', and for a row over all regions for each glyph.
+///
+/// # Errors
+///
+/// `TooLarge` exactly where a glyph's advance width has a delta outside an `i16`: the first such of
+/// the first glyph. `Regions` exactly where there are more than 1,024 regions and no such delta.
+/// `NoMemory` where memory runs out.
 pub fn measure(
     alloc: Global,
     header: &Header,
@@ -209,10 +211,8 @@ pub fn measure(
     glyphs: &[Arc<FlatGlyph>],
 ) -> Result<Measures, MeasureError>
     requires header { IsHeader header.now }
-    requires one_master { length header.now.masters ≡ 1 }
-    requires no_axes { header.now.axes ≡ [] }
     requires flat { All IsFlatGlyph (glyphs_of glyphs.now) }
-    requires places { All (HasMastersPlaces header.now) (glyphs_of glyphs.now) }
+    requires places { All (BeginsWithMasters header.now) (glyphs_of glyphs.now) }
     requires one_glyph { length glyphs.now ≡ length order.now.names }
     requires nesting { NoneLeadsToItself (bases_in order.now.names (glyphs_of glyphs.now)) }
     ensures measured { Measured result
@@ -221,5 +221,6 @@ pub fn measure(
     ensures for_header { IfOk result (AreMeasuresFor header.now) }
 {
     let _count = order.len();
-    Ok(measures_at(alloc, order, glyphs, header.origin)?)
+    let (regions, rows) = regions_and_rows(alloc, header, glyphs)?;
+    Ok(measures_at(alloc, order, glyphs, header.origin, regions, rows)?)
 }

@@ -1,5 +1,5 @@
 ghost use Rattle.std.specs.Prelude.{◌≡◌, ◌<◌, length, Ok};
-ghost use Rattle.glyphs_source.specs.BuiltHeaders.{built_header_of};
+ghost use Rattle.glyphs_source.specs.HeaderReading.{header_of};
 ghost use Rattle.glyphs_source.specs.IndexReading.{index_of};
 
 use component_flatten::flatten;
@@ -7,7 +7,7 @@ use fixed_math::Fixed;
 use fixtures::SOURCE;
 use font_ir::{DrawnPoint, FlatGlyph, Header};
 use glyphs_layers::built_glyph;
-use glyphs_source::{GlyphIndex, built_header, glyph_index};
+use glyphs_source::{GlyphIndex, glyph_index, header};
 use plist_reader::{Tree, read};
 use refusal_codes::ReadError;
 use std::alloc::Global;
@@ -20,7 +20,7 @@ fn first_drawn(
     header: &Header,
     index: &GlyphIndex,
 ) -> Result<FlatGlyph, ReadError>
-    requires header { built_header_of tree.now ≡ Ok header.now }
+    requires header { header_of tree.now ≡ Ok header.now }
     requires index { index_of tree.now ≡ Ok index.now }
     requires number { 0 < length index.now }
 {
@@ -55,7 +55,7 @@ fn are_corners(points: &[DrawnPoint], corners: &[(i32, i32)]) -> bool {
 #[test]
 fn the_last_node_stored_starts_a_contour(rt: HostRuntime) -> Result<(), Fail> {
     let tree = read(rt.alloc(), SOURCE)?;
-    let header = built_header(rt.alloc(), &tree)?;
+    let header = header(rt.alloc(), &tree)?;
     let index = glyph_index(rt.alloc(), &tree)?;
     assert!(rt; index.len() == 1);
     let glyph = first_drawn(rt.alloc(), &tree, &header, &index)?;

@@ -1,6 +1,6 @@
 use fixed_math::{F2Dot14, Fixed};
 use font_ir::{Header, Master};
-use glyphs_source::{built_header, header};
+use glyphs_source::header;
 use plist_reader::read;
 use refusal_codes::{ReadError, Refusal, Rule};
 use std::alloc::Global;
@@ -192,18 +192,5 @@ value=x;});}"
         let tree = read(rt.alloc(), source)?;
         assert!(rt; is_refused(header(rt.alloc(), &tree), rule, place));
     }
-    Ok(())
-}
-
-#[test]
-fn axes_are_a_form_that_a_built_header_does_not_take(rt: HostRuntime) -> Result<(), Fail> {
-    let tree = read(rt.alloc(), TWO_MASTERS)?;
-    assert!(rt; is_refused(built_header(rt.alloc(), &tree), Rule::WrongShape, 23));
-    let tree = read(
-        rt.alloc(),
-        b"{.formatVersion=3;familyName=T;unitsPerEm=1000;fontMaster=({id=a;});}",
-    )?;
-    let built = built_header(rt.alloc(), &tree)?;
-    assert!(rt; built.axes.is_empty() && built == header(rt.alloc(), &tree)?);
     Ok(())
 }

@@ -1,5 +1,5 @@
 use font_ir::GlyphIr;
-use glyphs_layers::raw_glyph;
+use glyphs_layers::{built_glyph, raw_glyph};
 use glyphs_source::{glyph_index, header};
 use plist_reader::read;
 use refusal_codes::ReadError;
@@ -30,8 +30,15 @@ fn between(alloc: Global, coordinates: &str) -> Result<String, AllocError> {
     )
 }
 
+/// Which of the two calls reads a glyph: that which takes components, or that which refuses them.
+#[derive(Clone, Copy)]
+enum Taken {
+    All,
+    NoComponents,
+}
+
 /// The glyph of a source with these layers.
-fn glyph_of(alloc: Global, layers: &str) -> Result<GlyphIr, ReadError> {
+fn glyph_of(alloc: Global, layers: &str, taken: Taken) -> Result<GlyphIr, ReadError> {
     let source = format!(in alloc; "{HEAD}{layers}{TAIL}")?;
     if source.len() > 67_108_864 {
         return Err(ReadError::NoMemory);
@@ -42,12 +49,20 @@ fn glyph_of(alloc: Global, layers: &str) -> Result<GlyphIr, ReadError> {
     if index.is_empty() {
         return Err(ReadError::NoMemory);
     }
-    raw_glyph(alloc, &tree, &header, &index, 0)
+    match taken {
+        Taken::All => raw_glyph(alloc, &tree, &header, &index, 0),
+        Taken::NoComponents => built_glyph(alloc, &tree, &header, &index, 0),
+    }
 }
 
 /// What the console shows of the refusal of a glyph with these layers, nothing where it is read.
 fn told(alloc: Global, layers: &str) -> Result<String, Fail> {
-    match glyph_of(alloc, layers) {
+    told_where(alloc, layers, Taken::All)
+}
+
+/// The same of one of the two calls.
+fn told_where(alloc: Global, layers: &str, taken: Taken) -> Result<String, Fail> {
+    match glyph_of(alloc, layers, taken) {
         Ok(_) => Ok(String::new(alloc)),
         Err(ReadError::Refused(refusal)) => Ok(refusal.text(alloc)?),
         Err(ReadError::NoMemory) => Err("no memory".into()),
@@ -72,11 +87,15 @@ fn has_places(glyph: &GlyphIr, expected: &[(i16, i32)]) -> bool {
 #[test]
 fn layers_lie_at_the_masters_and_between_them(rt: HostRuntime) -> Result<(), Fail> {
     let alloc = rt.alloc();
-    let glyph = glyph_of(alloc, format!(in alloc; "{FIRST},{SECOND}")?.as_str())?;
+    let glyph = glyph_of(
+        alloc,
+        format!(in alloc; "{FIRST},{SECOND}")?.as_str(),
+        Taken::All,
+    )?;
     assert!(rt; glyph.masters == 2 && has_places(&glyph, [(0, 500), (16384, 520)].as_slice()));
     let between = between(alloc, "(550)")?;
     let layers = format!(in alloc; "{between},{SECOND},{FIRST}")?;
-    let glyph = glyph_of(alloc, layers.as_str())?;
+    let glyph = glyph_of(alloc, layers.as_str(), Taken::All)?;
     let expected = [(0, 500), (16384, 520), (8192, 512)];
     assert!(rt; glyph.masters == 2 && has_places(&glyph, expected.as_slice()));
     Ok(())
@@ -146,6 +165,56 @@ fn each_rule_on_layers_is_told_at_its_place(rt: HostRuntime) -> Result<(), Fail>
     ] {
         let layers = format!(in alloc; "{FIRST},{SECOND},{third}")?;
         assert!(rt; told(alloc, layers.as_str())?.as_str() == expected);
+    }
+    Ok(())
+}
+
+/// A layer of a master with a quadratic curve and an anchor.
+fn curved_layer(alloc: Global, id: &str) -> Result<String, AllocError> {
+    format!(in alloc;
+        "{{anchors = ({{name = top;pos = (250,700);}});layerId = {id};\
+        shapes = ({{closed = 1;nodes = ((0,0,l),(500,0,o),(250,700,qs));}});width = 500;}}"
+    )
+}
+
+#[test]
+fn a_program_without_components_reads_all_else(rt: HostRuntime) -> Result<(), Fail> {
+    let alloc = rt.alloc();
+    let curved = (curved_layer(alloc, "m1")?, curved_layer(alloc, "m2")?);
+    let component = (
+        masters_layer(alloc, "m1", "{ref = A;}")?,
+        masters_layer(alloc, "m2", "{ref = A;}")?,
+    );
+    let path = "{closed = 1;nodes = ((0,0,l));ref = A;}";
+    let named = (
+        masters_layer(alloc, "m1", path)?,
+        masters_layer(alloc, "m2", path)?,
+    );
+    let between = between(alloc, "(550)")?;
+    let drawn = "{attr = {coordinates = (550);};layerId = x;shapes = ({ref = A;});width = 512;}";
+    for layers in [
+        format!(in alloc; "{FIRST},{SECOND},{between}")?,
+        format!(in alloc; "{},{}", curved.0, curved.1)?,
+        format!(in alloc; "{},{}", named.0, named.1)?,
+    ] {
+        let built = glyph_of(alloc, layers.as_str(), Taken::NoComponents)?;
+        assert!(rt; built == glyph_of(alloc, layers.as_str(), Taken::All)?);
+    }
+    for (layers, expected) in [
+        (
+            format!(in alloc; "{},{}", component.0, component.1)?,
+            "S1 WrongShape Raw A at 208",
+        ),
+        (
+            format!(in alloc; "{FIRST},{SECOND},{drawn}")?,
+            "S1 WrongShape Raw A at 423",
+        ),
+        (
+            format!(in alloc; "{FIRST},{between}")?,
+            "G1 MissingLayer Raw A at 159",
+        ),
+    ] {
+        assert!(rt; told_where(alloc, layers.as_str(), Taken::NoComponents)?.as_str() == expected);
     }
     Ok(())
 }

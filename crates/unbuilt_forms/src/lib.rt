@@ -1,9 +1,7 @@
 //! The forms of a Glyphs source that the program doesn't take yet, each with its rule and its
-//! place. The readers read them all; what the program is built of asks here first.
+//! place: components. The readers read them all; what the program is built of asks here first.
 #![tactic(auto)]
 
-mod header_forms;
 mod layer_forms;
 
-pub use header_forms::note_header_forms;
 pub use layer_forms::note_layer_forms;

@@ -1,18 +1,19 @@
-use Rattle.std.proofs.Common.{◌∙◌, ap, sym, Option, List}
+use Rattle.std.proofs.Common.{◌≡◌, ◌∙◌, ap, sym, Option, List}
 use Rattle.std.specs.Prelude.{IfOk, option_map, flat_map}
 use Rattle.font_ir.specs.declared.glyph.GlyphIr.{GlyphIr}
+use Rattle.font_ir.specs.ReadGlyphs.{IsReadGlyph, HasNoComponents}
 use Rattle.refusal_codes.specs.declared.first.Failure.{Failure}
 use Rattle.refusal_codes.specs.Gives.{Gives}
 use Rattle.refusal_codes.specs.First.{noted}
-use Rattle.layer_shapes.specs.LayerLaws.{layer_is_read}
 use Rattle.glyphs_layers.specs.declared.layers.SourceLayer.{SourceLayer}
 use Rattle.glyphs_layers.specs.SourceLayers.{source_layers}
 use Rattle.glyphs_layers.specs.GlyphRules.{glyph_failures}
+use Rattle.glyphs_layers.specs.GlyphPlaces.{places_of}
 use Rattle.glyphs_layers.specs.GlyphReading.{glyph_in, forms_of, built_glyph_failures}
 use Rattle.glyphs_layers.specs.GlyphReading.{built_glyph_of}
-use Rattle.glyphs_layers.proofs.ReadLaws.{Facts, judged_facts, given_answer, fact_number}
-use Rattle.glyphs_layers.proofs.ReadLaws.{fact_masters, fact_read}
-use Rattle.glyphs_layers.proofs.BuiltLaws.{built_first, built_components, built_anchors}
+use Rattle.glyphs_layers.specs.SourceGlyphs.{IsGlyphOf, HasMastersFirst, HasKnownBases}
+use Rattle.glyphs_layers.specs.SourceGlyphs.{IsWholeGlyph}
+use Rattle.glyphs_layers.proofs.ReadLaws.{of_given, given_answer, built_first}
 use Rattle.glyphs_layers.proofs.glyph_layers.built_glyph.Goals as goal
 
 given : (c : goal.After-judge) → Gives (λ (x : GlyphIr). x) c.judge.result
@@ -35,43 +36,65 @@ given c =
     ∙ built_first t h node)
     c.judge.result c.judge.ensures
 
-facts : (c : goal.After-judge) → IfOk c.judge.result (Facts c.args.tree.now layer_is_read
-    c.args.header.now c.args.number (glyph_in c.args.index.now c.args.number))
-facts c =
+-- what holds of each glyph that is read without components holds of this one
+raw : (c : goal.After-judge)
+    → IfOk c.judge.result
+    (IsGlyphOf c.args.tree.now c.args.header.now c.args.index.now c.args.number)
+raw c =
+    let t = c.args.tree.now in
     let h = c.args.header.now in
-    let is = c.read_headers_are_whole.ensures c.args.tree.now h
-    (c.built_headers_are_read.ensures c.args.tree.now h c.requires.header) in
-    judged_facts c.args.tree.now layer_is_read
-    (built_glyph_failures c.args.tree.now h (glyph_in c.args.index.now c.args.number)) h
-    c.args.index.now c.args.number is (c.made_notdef_is_flat.ensures h is)
-    c.first_repeat_is_the_first.ensures c.judge.result (given c)
+    let index = c.args.index.now in
+    let number = c.args.number in
+    of_given (IsGlyphOf t h index number) (built_glyph_of t h index number)
+    (c.built_glyphs_are_read.ensures t h index number) c.judge.result (given c)
+
+from_whole : (c : goal.After-judge) (P : GlyphIr → Type 0)
+    → ((glyph : GlyphIr) → IsWholeGlyph c.args.tree.now c.args.header.now c.args.index.now
+    c.args.number glyph → P glyph) → IfOk c.judge.result P
+from_whole c P from =
+    let t = c.args.tree.now in
+    let h = c.args.header.now in
+    let index = c.args.index.now in
+    let number = c.args.number in
+    of_given P (built_glyph_of t h index number)
+    (λ glyph e. from glyph (c.read_glyphs_are_whole.ensures t h index number glyph
+    c.requires.header (c.built_glyphs_are_read.ensures t h index number glyph e)))
+    c.judge.result (given c)
 
 pub returns-clause-record : goal.returns-clause-record
 returns-clause-record c = given c
 
+pub returns-clause-raw : goal.returns-clause-raw
+returns-clause-raw c = raw c
+
 pub returns-clause-number : goal.returns-clause-number
-returns-clause-number c = fact_number _ _ _ _ _ c.judge.result (facts c)
+returns-clause-number c =
+    from_whole c (λ glyph. glyph.number ≡ c.args.number) (λ glyph whole. whole.number_is)
 
 pub returns-clause-places : goal.returns-clause-places
 returns-clause-places c =
-    let one = c.built_headers_have_one_master.ensures c.args.tree.now c.args.header.now c.requires.header
-    in
-    fact_masters _ _ _ _ _ one.no_axes c.judge.result (facts c)
+    from_whole c (λ glyph. glyph.places
+    ≡ places_of c.args.tree.now c.args.header.now (glyph_in c.args.index.now c.args.number))
+    (λ glyph whole. whole.places)
 
 pub returns-clause-read : goal.returns-clause-read
-returns-clause-read c = fact_read _ _ _ _ _ c.judge.result (facts c)
+returns-clause-read c = from_whole c IsReadGlyph (λ glyph whole. whole.read)
+
+pub returns-clause-masters : goal.returns-clause-masters
+returns-clause-masters c =
+    from_whole c (HasMastersFirst c.args.header.now) (λ glyph whole. whole.masters)
+
+pub returns-clause-bases : goal.returns-clause-bases
+returns-clause-bases c =
+    from_whole c (HasKnownBases c.args.index.now) (λ glyph whole. whole.bases)
 
 pub returns-clause-components : goal.returns-clause-components
 returns-clause-components c =
-    built_components c.args.tree.now c.args.header.now c.args.index.now c.args.number
-    c.judge.result (given c)
-
-pub returns-clause-anchors : goal.returns-clause-anchors
-returns-clause-anchors c =
-    built_anchors c.args.tree.now c.args.header.now c.args.index.now c.args.number c.judge.result
-    (given c)
+    of_given HasNoComponents
+    (built_glyph_of c.args.tree.now c.args.header.now c.args.index.now c.args.number)
+    (c.built_glyphs_have_no_components.ensures c.args.tree.now c.args.header.now
+    c.args.index.now c.args.number) c.judge.result (given c)
 
 pub judge-requires-clause-header : goal.judge-requires-clause-header
 judge-requires-clause-header c =
-    c.read_headers_are_whole.ensures c.args.tree.now c.args.header.now
-    (c.built_headers_are_read.ensures c.args.tree.now c.args.header.now c.requires.header)
+    c.read_headers_are_whole.ensures c.args.tree.now c.args.header.now c.requires.header

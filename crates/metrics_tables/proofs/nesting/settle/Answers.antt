@@ -1,4 +1,4 @@
-use Rattle.std.proofs.Common.{◌++◌, ◌∷◌, [], ap, arith, subst, sym}
+use Rattle.std.proofs.Common.{ap, arith, subst, sym}
 use Rattle.metrics_tables.specs.Walks.{IsWalk, cost, stack_after}
 use Rattle.metrics_tables.proofs.WalkLemmas.{walk_on, less_left, there_front}
 use Rattle.metrics_tables.proofs.nesting.settle.Goals as goal

@@ -1,18 +1,17 @@
 -- what the job finds is what its part reads
-use Rattle.std.proofs.Common.{[], map, ap, sym, ◌∙◌, subst, Some}
+use Rattle.std.proofs.Common.{map, ap, sym, ◌∙◌, subst, Some}
 use Rattle.std.specs.Arc.{arc_value}
 use Rattle.std.specs.List.{All}
 use Rattle.std.proofs.lemmas.List.{length-map}
 use Rattle.std.proofs.lemmas.Simd.{map-map}
 use Rattle.font_ir.specs.FlatGlyphs.{glyphs_of}
-use Rattle.font_graph.specs.Running.{advances_finds, flats_read}
+use Rattle.font_graph.specs.Running.{advances_finds}
 use Rattle.font_graph.specs.declared.items.Item.TheVariants as an
 use Rattle.font_plan.specs.Jobs.{parts, measures_over}
 use Rattle.font_plan.specs.Known.{IsSimple}
-use Rattle.font_plan.specs.Order.{ordered}
 use Rattle.font_plan.specs.Settling.{Comes, made_by, none}
 use Rattle.font_plan.proofs.Found.{glyphs_there, glyphs_found}
-use Rattle.font_plan.proofs.Orders.{by_all_map, some_there}
+use Rattle.font_plan.proofs.Orders.{by_all_map}
 use Rattle.font_plan.proofs.Runs.{advances_comes}
 use Rattle.font_plan.proofs.plan.FontPlan.run_advances.Goals as goal
 
@@ -30,19 +29,8 @@ glyphs_in-requires-clause-there c = glyphs_there c.args.self.now c.args.reads.no
     (advances_finds (parts c.args.self.now) c.args.reads.now c.requires.due c.requires.done)
     (c.header_in.ensures ∙ ap Some (sym c.get-header.ensures.value)) c.order_in-order.ensures
 
-pub run_advances-requires-clause-read : goal.run_advances-requires-clause-read
-run_advances-requires-clause-read c =
-    let found = advances_finds (parts c.args.self.now) c.args.reads.now c.requires.due
-    c.requires.done in
-    let order_is = c.order_in-order.ensures in
-    let flats = some_there (flats_read (parts []) (ordered c.order_in-order.result.now)
-    c.args.reads.now) (found.flats c.order_in-order.result.now order_is) in
-    let of = found.flats_are c.get-header.result.now c.order_in-order.result.now flats.0
-    (c.header_in.ensures ∙ ap Some (sym c.get-header.ensures.value)) order_is flats.1 in
-    c.built_headers_have_one_master.ensures of.1.tree c.get-header.result.now of.1.header_read
-
 pub run_advances-requires-clause-drawn : goal.run_advances-requires-clause-drawn
-run_advances-requires-clause-drawn c = (glyphs_found c.built_headers_have_one_master.ensures c.args.self.now
+run_advances-requires-clause-drawn c = (glyphs_found c.read_glyphs_are_whole.ensures c.args.self.now
     c.args.reads.now c.get-header.result.now c.order_in-order.result.now
     (glyphs_of c.as_slice.result.now)
     (advances_finds (parts c.args.self.now) c.args.reads.now c.requires.due c.requires.done)
@@ -57,7 +45,7 @@ run_advances-requires-clause-drawn c = (glyphs_found c.built_headers_have_one_ma
 
 pub run_advances-requires-clause-order : goal.run_advances-requires-clause-order
 run_advances-requires-clause-order c = sym (length-map c.as_slice.result.now arc_value)
-    ∙ (glyphs_found c.built_headers_have_one_master.ensures c.args.self.now
+    ∙ (glyphs_found c.read_glyphs_are_whole.ensures c.args.self.now
     c.args.reads.now c.get-header.result.now c.order_in-order.result.now
     (glyphs_of c.as_slice.result.now)
     (advances_finds (parts c.args.self.now) c.args.reads.now c.requires.due c.requires.done)
@@ -72,7 +60,7 @@ run_advances-requires-clause-order c = sym (length-map c.as_slice.result.now arc
 
 pub returns : goal.returns
 returns c =
-    let found = (glyphs_found c.built_headers_have_one_master.ensures c.args.self.now
+    let found = (glyphs_found c.read_glyphs_are_whole.ensures c.args.self.now
     c.args.reads.now c.get-header.result.now c.order_in-order.result.now
     (glyphs_of c.as_slice.result.now)
     (advances_finds (parts c.args.self.now) c.args.reads.now c.requires.due c.requires.done)

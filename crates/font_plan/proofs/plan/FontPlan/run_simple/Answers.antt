@@ -23,7 +23,7 @@ run_simple-requires-clause-drawn c =
     record {
       flat = simple.flat;
       simple = simple.simple;
-      places = flat_placed c.built_headers_have_one_master.ensures c.args.self.now c.args.glyph
+      places = flat_placed c.read_glyphs_are_whole.ensures c.args.self.now c.args.glyph
           c.args.reads.now (simple_finds (parts c.args.self.now) c.args.glyph c.args.reads.now
           c.requires.due c.requires.done) c.get-header.result.now c.get-flat.result.now
           (c.header_in.ensures ∙ ap Some (sym c.get-header.ensures.value))
