@@ -37,7 +37,7 @@ numbers_with first others = option_map (λ glyph. glyph.0) first
 -- ---- where they stand
 
 -- a glyph stands among entries that are numbered from a number on, and passes a test
-record Stands (test : Entry → Bool) (number : ℕ) (entries : List Entry) (glyph : ℕ × Entry)
+pub record Stands (test : Entry → Bool) (number : ℕ) (entries : List Entry) (glyph : ℕ × Entry)
     : Type 0 where
   pub place : ℕ
   pub counted : glyph.0 ≡ number + place
@@ -75,7 +75,7 @@ module _ (test : Entry → Bool) where
   first_step false number entry entries glyph t further e =
       deeper number entry entries glyph (further e)
 
-  first_stands : (number : ℕ) (entries : List Entry) (glyph : ℕ × Entry)
+  pub first_stands : (number : ℕ) (entries : List Entry) (glyph : ℕ × Entry)
       → first_from test number entries ≡ Some glyph → Stands test number entries glyph
   first_stands number [] glyph e = absurd cc
   first_stands number (entry ∷ entries) glyph e =
@@ -100,7 +100,7 @@ module _ (test : Entry → Bool) where
           (chosen_from test (number + 1) entries) (here number entry entries t) others
       by false t = others
 
-  chosen_stand : (number : ℕ) (entries : List Entry)
+  pub chosen_stand : (number : ℕ) (entries : List Entry)
       → All (Stands test number entries) (chosen_from test number entries)
   chosen_stand number [] = All-nil (Stands test number [])
   chosen_stand number (entry ∷ entries) =
@@ -139,7 +139,7 @@ module _ (test : Entry → Bool) where
 
 -- ---- the order
 
-at_zero : (test : Entry → Bool) (index : List Entry) (glyph : ℕ × Entry)
+pub at_zero : (test : Entry → Bool) (index : List Entry) (glyph : ℕ × Entry)
     → Stands test 0 index glyph → slice_get index glyph.0 ≡ Some glyph.1
 at_zero test index glyph s =
     let counted = s.counted in

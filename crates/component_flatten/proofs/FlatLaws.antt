@@ -432,7 +432,7 @@ none_broken false true small e = absurd cc
 none_broken false false true e = (refl, refl)
 none_broken false false false e = absurd cc
 
-answered : (index : List (List ℕ × IndexEntry)) (name : List ℕ) (glyph : GlyphIr)
+pub answered : (index : List (List ℕ × IndexEntry)) (name : List ℕ) (glyph : GlyphIr)
     (bases : List FlatGlyph) (rule : Option Rule) (x : FlatGlyph) → rule_of glyph bases ≡ rule
     → flat_of index name glyph bases ≡ Ok x
     → (rule_of glyph bases ≡ None) × (flat_record index glyph bases ≡ x)

@@ -2,5 +2,6 @@ pub mod AnchorLaws
 pub mod ShapeLaws
 pub mod BaseLemmas
 pub mod FlatLaws
+pub mod SourceLaws
 pub mod LimitLaws
 mod WorkedRows

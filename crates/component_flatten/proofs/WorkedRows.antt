@@ -1,7 +1,8 @@
 -- Worked examples: what the job of a flat glyph answers.
 use Rattle.std.proofs.Common.{◌≡◌, ℕ, List, [], ◌∷◌, refl, map}
 use Rattle.std.specs.Prelude.{Ok, Err, ℤ, pos, negsuc, neg_ℤ, true, false, replicate, codes, None}
-use Rattle.std.specs.Prelude.{Bool}
+use Rattle.std.specs.Prelude.{Bool, nat_eq, if◌then◌else◌}
+use Rattle.std.specs.Cmp.Lexicographic.{pointwise}
 use Rattle.fixed_math.specs.declared.Fixed.{Fixed}
 use Rattle.fixed_math.specs.declared.F2Dot14.{F2Dot14}
 use Rattle.font_ir.specs.declared.glyph.DrawnPoint.{DrawnPoint}
@@ -26,6 +27,7 @@ use Rattle.component_flatten.specs.Transforms.{transformed_point}
 use Rattle.component_flatten.specs.Places.{placed}
 use Rattle.component_flatten.specs.Drawing.{glyph_drawn}
 use Rattle.component_flatten.specs.Flattening.{flat_record, flat_of}
+use Rattle.component_flatten.specs.SourceDrawing.{NestsWithin, drawn_within}
 
 abbrev point : ℤ → ℤ → DrawnPoint
 point x y = record { x = record { 0 = x }; y = record { 0 = y }; on = true }
@@ -196,6 +198,30 @@ pub moved-drawn : flat_of (index_with false) (codes "B") (glyph_of (moved_base �
     ≡ Ok (flat_with (moved_contour ∷ []))
 unfolding flat_of flat_record
 moved-drawn = refl
+
+-- ---- components of components
+
+abbrev moved_glyph : List ℕ → GlyphIr
+moved_glyph base = glyph_of (Component base (fixed (pos 6553600), fixed (pos 0))
+    (fixed (pos 65536), fixed (pos 65536)) 0 ∷ [])
+
+-- a source in which n1 has the component n2, a triangle
+abbrev nested : List ℕ → GlyphIr
+nested name =
+    if pointwise nat_eq name (codes "n2")
+    then glyph_of (Path (triangle_contour (pos 0) (pos 32768000)) ∷ [])
+    else moved_glyph (codes "n2")
+
+-- a glyph with the component n1 draws the triangle, moved by 100 twice
+pub nested-drawn : drawn_within nested 2 (moved_glyph (codes "n1"))
+    ≡ (record {
+      points = point (pos 29491200) (pos 45875200) ∷ point (pos 13107200) (pos 0)
+          ∷ point (pos 45875200) (pos 0) ∷ [];
+    } ∷ []) ∷ []
+nested-drawn = refl
+
+pub nested-nests : NestsWithin nested 2 (moved_glyph (codes "n1"))
+nested-nests = ((refl, tt), tt)
 
 -- points are counted before coordinates are looked at
 pub points-first : flat_of [] (codes "A") (glyph_of (Path (many_points 8000)

@@ -1,16 +1,17 @@
 -- What a caller of `flatten` may use where a glyph has no components or no anchors.
 use Rattle.std.proofs.Common.{◌≡◌, ℕ, Bool, true, false, List, [], ◌∷◌, length, refl, arith}
-use Rattle.std.proofs.Common.{take, ◌+◌, zero, suc}
+use Rattle.std.proofs.Common.{take, ◌+◌, zero, suc, cond}
 use Rattle.std.specs.Prelude.{slice_index_or, if◌then◌else◌, pos}
-use Rattle.std.specs.List.{All, AllByRecursion, flat_map}
+use Rattle.std.specs.List.{All, AllByRecursion, flat_map, count_by}
 use Rattle.std.proofs.lemmas.List.Elements.{recursion_from_All}
+use Rattle.std.proofs.lemmas.List.Sums.{sum_by-cons}
 use Rattle.font_ir.specs.declared.glyph.Shape.{Shape}
 use Rattle.font_ir.specs.declared.glyph.Shape.TheVariants.{Path, Component}
 use Rattle.font_ir.specs.declared.glyph.Anchor.{Anchor}
 use Rattle.font_ir.specs.declared.glyph.Kept.{Kept}
 use Rattle.font_ir.specs.declared.glyph.LayerIr.{LayerIr}
 use Rattle.font_ir.specs.declared.glyph.GlyphIr.{GlyphIr}
-use Rattle.font_ir.specs.ReadGlyphs.{IsPath, HasNoComponents, HasNoAnchors}
+use Rattle.font_ir.specs.ReadGlyphs.{IsPath, HasNoComponents, HasNoAnchors, is_component}
 use Rattle.glyphs_source.specs.declared.entries.IndexEntry.{IndexEntry}
 use Rattle.component_flatten.specs.Numbered.{flat_numbered}
 use Rattle.component_flatten.specs.Drawing.{names_of, first_shapes, component_names}
@@ -38,6 +39,17 @@ pub no_components : (glyph : GlyphIr) → HasNoComponents glyph → HasBases gly
 no_components glyph h =
     let e : component_names glyph ≡ [] = no_names (first_shapes glyph) (paths_first glyph.layers h)
     in rw e refl
+
+-- it needs one for each component of its first layer
+pub names_counted : (shapes : List Shape) → count_by is_component shapes ≡ length (names_of shapes)
+names_counted [] = refl
+names_counted (Path contour ∷ shapes) =
+    let counted = sum_by-cons (λ (s : Shape). cond (is_component s) 1 0) (Path contour) shapes in
+    omega (arith, counted, names_counted shapes)
+names_counted (Component base at scale quarters ∷ shapes) =
+    let counted = sum_by-cons (λ (s : Shape). cond (is_component s) 1 0)
+    (Component base at scale quarters) shapes in
+    omega (arith, counted, names_counted shapes)
 
 -- and isn't kept as a composite
 nothing_kept : (layers : List LayerIr) (k : ℕ) (shapes : List Shape)

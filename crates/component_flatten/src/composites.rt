@@ -1,7 +1,7 @@
 ghost use Rattle.std.specs.Prelude.{◌≡◌, ◌<◌, ◌++◌, map, length, IfOk, OnOk, slice_index_or};
 ghost use Rattle.std.specs.List.{All, list_all};
 ghost use Rattle.font_ir.specs.FlatGlyphs.{IsSmallFixed};
-ghost use Rattle.font_ir.specs.ReadGlyphs.{IsReadGlyph, IsInRange};
+ghost use Rattle.font_ir.specs.ReadGlyphs.{IsReadGlyph, IsInRange, is_component};
 ghost use Rattle.component_flatten.specs.Numbered.{flat_numbered};
 ghost use Rattle.component_flatten.specs.Drawing as drawing;
 ghost use Rattle.component_flatten.specs.Composites as spec;
@@ -30,6 +30,24 @@ pub fn kept(
     } else {
         Ok(Sequence::new(alloc))
     }
+}
+
+/// How many bases `flatten` asks for: one for each component of a layer.
+#[tactic(auto, using(crate::specs::BaseLaws::names_counted))]
+pub fn component_count(glyph: &GlyphIr) -> usize
+    requires { IsReadGlyph glyph.now }
+    ensures { result ≡ length (drawing.component_names glyph.now) }
+{
+    first_shapes(glyph)
+        .iter()
+        .filter(|shape| is_component(shape))
+        .count()
+}
+
+fn is_component(shape: &Shape) -> bool
+    ensures { result ≡ is_component shape.now }
+{
+    matches!(shape, Shape::Component { .. })
 }
 
 /// The shapes of a glyph's first layer.

@@ -11,5 +11,6 @@ mod laws;
 mod limits;
 mod transform;
 
+pub use composites::component_count;
 pub use flat::flatten;
-pub use laws::drawn_glyphs_are_flat;
+pub use laws::{depths_draw_alike, drawn_glyphs_are_flat, flat_glyphs_draw_as_their_source};

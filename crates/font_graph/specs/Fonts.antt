@@ -2,7 +2,6 @@
 -- tables that are made of the glyphs. fontc's own.
 use Rattle.std.specs.Prelude.{◌≡◌, ℕ, List, [], ◌∷◌, Result, Ok, if◌then◌else◌}
 use Rattle.refusal_codes.specs.declared.refusal.Refusal.{Refusal}
-use Rattle.refusal_codes.specs.Gives.{◌>>=◌}
 use Rattle.font_ir.specs.declared.tag.Tag.{Tag}
 use Rattle.font_graph.specs.Parts.{Parts, Needs, Nothing, TheIndex, TheMeasures}
 use Rattle.font_graph.specs.Parts.{TheMeasuresAndIndex, TheOutlines, TheVariations, Extra}
@@ -16,9 +15,32 @@ AllMade make [] (b ∷ bs) = ⊥
 AllMade make (a ∷ others) [] = ⊥
 
 module _ (p : Parts) where
-  -- a glyph, read and drawn
-  abbrev pub drawn : p.Tree → p.Header → p.Index → ℕ → Result p.Flat Refusal
-  drawn tree header index glyph = p.raw tree header index glyph >>= λ raw. p.flat raw index
+  -- these glyphs are drawn so: each is read, its bases are drawn, and its contours are made of
+  -- theirs
+  module _ (tree : p.Tree) (header : p.Header) (index : p.Index) where
+    pub data AllDrawn : List ℕ → List p.Flat → Type 0 where
+      no_more : AllDrawn [] []
+      one_more :
+          (glyph : ℕ) (raw : p.Raw) (of_bases : List p.Flat) (flat : p.Flat) (glyphs : List ℕ)
+          (flats : List p.Flat)
+          → p.raw tree header index glyph ≡ Ok raw
+          → AllDrawn (p.bases raw index) of_bases
+          → p.flat raw index of_bases ≡ Ok flat
+          → AllDrawn glyphs flats
+          → AllDrawn (glyph ∷ glyphs) (flat ∷ flats)
+
+    -- and so one glyph
+    pub record DrawnSo (glyph : ℕ) (flat : p.Flat) : Type 0 where
+      pub raw : p.Raw
+      pub of_bases : List p.Flat
+      pub raw_made : p.raw tree header index glyph ≡ Ok raw
+      pub bases_drawn : AllDrawn (p.bases raw index) of_bases
+      pub flat_made : p.flat raw index of_bases ≡ Ok flat
+
+  -- a glyph's data in the table "glyf"
+  abbrev pub part : p.Header → p.Order → p.Flat → Result p.Data Refusal
+  part header order flat =
+      if p.is_composite flat then p.composite header order flat else p.simple header flat
 
   -- the glyphs that vary: all, in a font with axes
   abbrev pub varying : p.Header → List p.Flat → List p.Flat
@@ -52,8 +74,8 @@ module _ (p : Parts) where
     pub tree_read : p.tree ≡ Ok tree
     pub header_read : p.header tree ≡ Ok header
     pub index_read : p.index tree ≡ Ok index
-    pub glyphs_drawn : AllMade (drawn tree header index) (p.numbers index) flats
-    pub glyphs_written : AllMade (p.simple header) flats parts
+    pub glyphs_drawn : AllDrawn tree header index (p.numbers index) flats
+    pub glyphs_written : AllMade (part header order) flats parts
     pub glyphs_varied : AllMade (p.variations header index) (varying header flats) variations
     pub glyphs_ordered : p.order header index flats ≡ Ok order
     pub glyphs_measured : p.measures header order flats ≡ Ok measures
@@ -69,7 +91,7 @@ module _ (p : Parts) where
     pub tree_read : p.tree ≡ Ok tree
     pub header_read : p.header tree ≡ Ok header
     pub index_read : p.index tree ≡ Ok index
-    pub glyphs_drawn : AllMade (drawn tree header index) (p.numbers index) flats
+    pub glyphs_drawn : AllDrawn tree header index (p.numbers index) flats
     pub glyphs_ordered : p.order header index flats ≡ Ok order
 
   -- and a table of these needs is made of this
@@ -82,7 +104,7 @@ module _ (p : Parts) where
   IsExtraOf header index flats order TheMeasuresAndIndex (with_both measures known) =
       (p.measures header order flats ≡ Ok measures) × (known ≡ index)
   IsExtraOf header index flats order TheOutlines (with_data parts) =
-      AllMade (p.simple header) flats parts
+      AllMade (part header order) flats parts
   IsExtraOf header index flats order TheVariations (with_data variations) =
       AllMade (p.variations header index) (varying header flats) variations
   IsExtraOf header index flats order _ _ = ⊥

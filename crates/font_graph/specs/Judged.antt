@@ -1,12 +1,11 @@
 -- The verdict on a source is its font exactly where the font is made, and else the least refusal by
 -- which a job fails. fontc's own.
-use Rattle.std.proofs.Common.{◌≡◌, [], Option, Some, None, Result, Ok, Err, refl, sym, ap}
+use Rattle.std.proofs.Common.{◌≡◌, inl, inr, [], Option, Some, None, Result, Ok, Err, refl, sym, ap}
 use Rattle.std.proofs.Common.{◌∙◌, subst}
 use Rattle.std.proofs.lemmas.Bool.{false≢true}
 use Rattle.std.specs.Prelude.{◌↔◌, option_and_then}
 use Rattle.refusal_codes.specs.declared.refusal.Refusal.{Refusal}
 use Rattle.access_context.specs.Plain.{is_done, done_value}
-use Rattle.font_ir.specs.declared.tag.Tag.{Tag}
 use Rattle.job_graph.specs.Members.{In}
 use Rattle.font_graph.specs.Parts.{Parts}
 use Rattle.font_graph.specs.Fonts.{IsFontOf}
@@ -16,10 +15,12 @@ use Rattle.font_graph.specs.Same.{same_id, identity}
 use Rattle.font_graph.specs.Verdicts.{least, refusals, font_or, judge, verdict}
 use Rattle.font_graph.specs.Fails.{Fails, IsLeast, IsLeastFailure}
 use Rattle.font_graph.specs.Least.{least_is, least_none, nothing_in}
-use Rattle.font_graph.specs.Failing.{job_refused, fails_refused, refused_there}
+use Rattle.font_graph.specs.Failing.{cause, fails_refused, least_fails, failing_least}
 use Rattle.font_graph.specs.Unrefused.{unrefused_made}
 use Rattle.font_graph.specs.AllDone.{all_done}
+use Rattle.font_graph.specs.Outcomes.{found_of_done}
 use Rattle.font_graph.specs.declared.ids.JobId.{JobId}
+use Rattle.font_graph.specs.declared.ids.JobId.TheVariants as job
 
 module _ (p : Parts) where
   -- ---- no refusal, and a font
@@ -32,8 +33,12 @@ module _ (p : Parts) where
 
   pub unrefused_of_made : (font : p.File) → IsFontOf p font → refusals p ≡ []
   unrefused_of_made font f = nothing_in (refusals p) (λ r i.
-      let m = job_refused p r i in
-      false≢true (sym (ap is_done m.2) ∙ all_done p font f m.0 m.1))
+      elim (cause p r i) [
+        | inl own ↦ false≢true (sym (ap is_done own.refused_so) ∙ all_done p font f own.id
+            own.there)
+        | inr m ↦ false≢true (sym m.1.not_found ∙ found_of_done p same_id m.0
+            (all_done p font f (job.Flat m.0) m.1.there))
+      ])
 
   -- ---- the verdict
 
@@ -96,26 +101,9 @@ module _ (p : Parts) where
     λ l. verdict_by (Some r) ((least_is (refusals p) r).1 l),
   )
 
-  -- in the words of jobs that fail, where the font has a table
-  module _ (tag : Tag) (tag_there : In tag p.tags) where
-    least_fails : (r : Refusal) → IsLeast r (refusals p) → IsLeastFailure p r
-    least_fails r l =
-        let m = (refused_there p tag tag_there r).0 l.there in
-        record {
-          id = m.0;
-          fails = m.1;
-          none_less = λ other s f. l.none_less s (fails_refused p other s f);
-        }
-
-    failing_least : (r : Refusal) → IsLeastFailure p r → IsLeast r (refusals p)
-    failing_least r l = record {
-      there = fails_refused p l.id r l.fails;
-      none_less = λ s i. let m = (refused_there p tag tag_there s).0 i in
-          l.none_less m.0 s m.1;
-    }
-
-    pub verdict_fails : (r : Refusal) → (verdict p ≡ Err r) ↔ IsLeastFailure p r
-    verdict_fails r = (
-      λ e. least_fails r ((verdict_refuses r).0 e),
-      λ l. (verdict_refuses r).1 (failing_least r l),
-    )
+  -- in the words of jobs that fail
+  pub verdict_fails : (r : Refusal) → (verdict p ≡ Err r) ↔ IsLeastFailure p r
+  verdict_fails r = (
+    λ e. least_fails p r ((verdict_refuses r).0 e),
+    λ l. (verdict_refuses r).1 (failing_least p r l),
+  )

@@ -53,6 +53,12 @@ neither Greater e f = absurd (false≢true (sym e))
 same : (r s : Refusal) → UpTo r s → UpTo s r → r ≡ s
 same r s e f = refusal_exact r s (neither (refusal_cmp r s) e (sym (gt_is_lt s r) ∙ f))
 
+-- what is above a refusal that isn't less than r isn't less than r
+pub not_below : (r low high : Refusal) → refusal_cmp low r ≢ Less → refusal_cmp low high ≡ Less
+    → refusal_cmp high r ≢ Less
+not_below r low high none less = not_less r high (upto refusals_ordered r low high
+    (up_to r low none) (lt_not_gt (refusal_cmp low high) (ap is_lt less)))
+
 -- ---- the least of a list
 
 itself : (r : Refusal) → IsLeast r (r ∷ [])

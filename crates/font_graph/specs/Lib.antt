@@ -1,4 +1,5 @@
 pub mod Kinds
+pub mod Descent
 pub mod Parts
 pub mod Graph
 pub mod Fonts
@@ -25,3 +26,4 @@ pub mod Judged
 pub mod Grounds
 pub mod Ended
 pub mod PartFailures
+pub mod Nesting

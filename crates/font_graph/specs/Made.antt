@@ -1,7 +1,8 @@
 -- A graph has a font exactly where each part answers and the font is made of their answers. For the
 -- plans of crates above. fontc's own.
-use Rattle.std.proofs.Common.{◌≡◌, ℕ, suc, Bool, true, false, cond, inl, inr, List, [], ◌∷◌, map}
-use Rattle.std.proofs.Common.{length, Option}
+use Rattle.std.proofs.Common.{◌≡◌, ℕ, zero, suc, Bool, true, false, cond, inl, inr, List, [], ◌∷◌}
+use Rattle.std.proofs.Common.{map}
+use Rattle.std.proofs.Common.{length, Option, None}
 use Rattle.std.proofs.Common.{Some, Result, Ok, Err, refl, sym, ap, ◌∙◌, subst}
 use Rattle.std.specs.Prelude.{◌↔◌, IsTrue, option_and_then}
 use Rattle.std.proofs.lemmas.Bool.{false≢true, and_from}
@@ -14,19 +15,24 @@ use Rattle.job_graph.specs.Members.{In, list_all-In}
 use Rattle.font_graph.specs.Parts.{Parts, Needs, Nothing, TheIndex, TheMeasures}
 use Rattle.font_graph.specs.Parts.{TheMeasuresAndIndex, TheOutlines, TheVariations, Extra}
 use Rattle.font_graph.specs.Parts.{with_index, with_measures, with_both, with_data}
-use Rattle.font_graph.specs.Fonts.{AllMade, drawn, varying, extra, table, IsFontOf}
-use Rattle.refusal_codes.specs.Gives.{◌>>=◌}
+use Rattle.font_graph.specs.Descent.{none_at_once, ended_base}
+use Rattle.font_graph.specs.Fonts.{AllMade, AllDrawn, no_more, one_more, part, varying, extra}
+use Rattle.font_graph.specs.Fonts.{table}
+use Rattle.font_graph.specs.Fonts.{IsFontOf}
 use Rattle.font_graph.specs.Graph.{Item}
 use Rattle.font_graph.specs.Graph.{as_tree, as_header, as_index, as_raw, as_flat, as_order}
 use Rattle.font_graph.specs.Graph.{as_measures, as_data, as_table, as_font, all_of, on, settle}
 use Rattle.font_graph.specs.Graph.{none, outcome, needed, varied_of, data_behind, data_in}
-use Rattle.font_graph.specs.Graph.{extra_read, exported, varied, variations_value}
-use Rattle.font_graph.specs.Graph.{settled}
+use Rattle.font_graph.specs.Graph.{extra_read, exported, varied, variations_value, composite_value}
+use Rattle.font_graph.specs.Graph.{settled, all, bases, bases_in, index_known, is_read}
+use Rattle.font_graph.specs.Graph.{is_found_within, kind_in, kind_of, part_in, part_of, part_job}
+use Rattle.font_graph.specs.Graph.{part_ids}
 use Rattle.font_graph.specs.Graph.{read_as, read_all, reads_with, numbers, value_of, tree_value}
 use Rattle.font_graph.specs.Graph.{header_value, index_value, raw_value, flat_value, simple_value}
 use Rattle.font_graph.specs.Graph.{order_value, advances_value, table_value, font_value}
 use Rattle.font_graph.specs.Outcomes.{map-In, In-map, with_value, items, reads_done, value}
-use Rattle.font_graph.specs.Solved.{found, numbers_are, varies_is, raw_done}
+use Rattle.font_graph.specs.Outcomes.{found_of_done}
+use Rattle.font_graph.specs.Solved.{found, numbers_are, varies_is}
 use Rattle.font_graph.specs.declared.ids.JobId.{JobId}
 use Rattle.font_graph.specs.declared.ids.JobId.TheVariants as job
 use Rattle.font_graph.specs.declared.items.Item.TheVariants as an
@@ -80,7 +86,8 @@ module _ (p : Parts) (same : JobId → JobId → Bool)
       ap (λ o. option_and_then kind (option_and_then done_value o))
       (found p same identity ids id there ∙ ap Some is) ∙ kinded
 
-  pub all_from : (ids : List JobId) → ((id : JobId) → In id ids → is_done (value_of p same id) ≡ true)
+  pub all_from : (ids : List JobId) → ((id : JobId) → In id ids → is_done (value_of p same id) ≡
+      true)
       → all_done (map (with_value p same) ids) ≡ true
   all_from [] every = refl
   all_from (id ∷ ids) every = and_from (is_done (value_of p same id))
@@ -104,6 +111,32 @@ module _ (p : Parts) (same : JobId → JobId → Bool)
       | inr none ↦ absurd none
     ]
   ])
+
+  -- what a job with a value reads has values
+  pub part_done : (id : JobId) → is_done (value_of p same id) ≡ true → (read : JobId)
+      → In read (reads_with p same (numbers p same) id) → is_done (value_of p same read) ≡ true
+  part_done id done read there = list_all-In (λ (item : JobId × Plain (Item p)). is_done item.1)
+      (items p same id) (with_value p same read)
+      (reads_done p same id (items p same id) (ap is_done (value p same id) ∙ done))
+      (map-In (with_value p same) (reads_with p same (numbers p same) id) read there)
+
+  -- the data of a glyph, by whether it is a composite
+  abbrev pub item_of : Option Bool → p.Data → Item p
+  item_of None bytes = an.Simple bytes
+  item_of (Some true) bytes = an.Composite bytes
+  item_of (Some false) bytes = an.Simple bytes
+
+  abbrev pub part_item : ℕ → p.Data → Item p
+  part_item glyph = item_of (kind_of p same glyph)
+
+  pub is_data : (kind : Option Bool) (bytes : p.Data) → as_data p (item_of kind bytes) ≡ Some bytes
+  is_data None bytes = refl
+  is_data (Some true) bytes = refl
+  is_data (Some false) bytes = refl
+
+  pub kind_is : (glyph : ℕ) (flat : p.Flat) → flat_value p same glyph ≡ Done (an.Flat flat)
+      → kind_of p same glyph ≡ Some (p.is_composite flat)
+  kind_is glyph flat is = ap (λ v. kind_in p same (option_and_then (as_flat p) (done_value v))) is
 
   -- ---- each value by its part
 
@@ -163,17 +196,6 @@ module _ (p : Parts) (same : JobId → JobId → Bool)
           (on_some _ _ index (index_read (job.Raw glyph) (inr (inr (inl refl)))))
           ∙ settle_value an.Raw _ (p.raw tree header index glyph)
 
-      pub flat_by : (glyph : ℕ) (raw : p.Raw) → raw_value p same glyph ≡ Done (an.Raw raw)
-          → flat_value p same glyph ≡ plain_of an.Flat (p.flat raw index)
-      flat_by glyph raw is = by_outcome (job.Flat glyph) (both (job.Raw glyph) job.Index
-          (is_done_by (raw_value p same glyph) (an.Raw raw) is)
-          (is_done_by (index_value p same) (an.Index index) index_is))
-          ∙ ap (λ o. o.value) (on_some _ _ raw (read_is (as_raw p)
-          (reads_with p same (numbers p same) (job.Flat glyph)) (job.Raw glyph) (an.Raw raw) raw
-          (inl refl) is refl))
-          ∙ ap (λ o. o.value) (on_some _ _ index (index_read (job.Flat glyph) (inr (inl refl))))
-          ∙ settle_value an.Flat _ (p.flat raw index)
-
       pub simple_by : (glyph : ℕ) (flat : p.Flat) → flat_value p same glyph ≡ Done (an.Flat flat)
           → simple_value p same glyph ≡ plain_of an.Simple (p.simple header flat)
       simple_by glyph flat is = by_outcome (job.Simple glyph) (both job.Header (job.Flat glyph)
@@ -190,6 +212,26 @@ module _ (p : Parts) (same : JobId → JobId → Bool)
           → is_done (value_of p same b) ≡ true → is_done (value_of p same c) ≡ true
           → all_done (map (with_value p same) (a ∷ b ∷ c ∷ [])) ≡ true
       three a b c e f g = and_from (is_done (value_of p same a)) _ e (both b c f g)
+
+      pub composite_by : (glyph : ℕ) (order : p.Order) (flat : p.Flat)
+          → order_value p same ≡ Done (an.Order order)
+          → flat_value p same glyph ≡ Done (an.Flat flat)
+          → composite_value p same glyph
+          ≡ plain_of an.Composite (p.composite header order flat)
+      composite_by glyph order flat order_is is = by_outcome (job.Composite glyph)
+          (three job.Header job.Order (job.Flat glyph)
+          (is_done_by (header_value p same) (an.Header header) header_is)
+          (is_done_by (order_value p same) (an.Order order) order_is)
+          (is_done_by (flat_value p same glyph) (an.Flat flat) is))
+          ∙ ap (λ o. o.value)
+          (on_some _ _ header (header_read (job.Composite glyph) (inl refl)))
+          ∙ ap (λ o. o.value) (on_some _ _ order (read_is (as_order p)
+          (reads_with p same (numbers p same) (job.Composite glyph)) job.Order (an.Order order)
+          order (inr (inl refl)) order_is refl))
+          ∙ ap (λ o. o.value) (on_some _ _ flat (read_is (as_flat p)
+          (reads_with p same (numbers p same) (job.Composite glyph)) (job.Flat glyph)
+          (an.Flat flat) flat (inr (inr (inl refl))) is refl))
+          ∙ settle_value an.Composite (none p same) (p.composite header order flat)
 
       pub variations_by : (glyph : ℕ) (flat : p.Flat)
           → flat_value p same glyph ≡ Done (an.Flat flat)
@@ -212,14 +254,15 @@ module _ (p : Parts) (same : JobId → JobId → Bool)
       -- ---- of the glyphs together
 
       -- each of these jobs has a value of one kind
-      unfoldable pub Valued : {X A : Type 0} → (X → JobId) → (A → Item p) → List X → List A → Type 0
+      unfoldable pub Valued : {X A : Type 0} → (X → JobId) → (X → A → Item p)
+          → List X → List A → Type 0
       Valued make item [] [] = Unit {0}
-      Valued make item (x ∷ xs) (a ∷ others) = (value_of p same (make x) ≡ Done (item a))
+      Valued make item (x ∷ xs) (a ∷ others) = (value_of p same (make x) ≡ Done (item x a))
           × Valued make item xs others
       Valued make item [] (a ∷ others) = ⊥
       Valued make item (x ∷ xs) [] = ⊥
 
-      pub valued_done : {X A : Type 0} (make : X → JobId) (item : A → Item p) (xs : List X)
+      pub valued_done : {X A : Type 0} (make : X → JobId) (item : X → A → Item p) (xs : List X)
           (answers : List A) → Valued make item xs answers → (x : X) → In x xs
           → is_done (value_of p same (make x)) ≡ true
       unfolding Valued
@@ -227,11 +270,11 @@ module _ (p : Parts) (same : JobId → JobId → Bool)
       valued_done make item (y ∷ xs) [] v x i = absurd v
       valued_done make item (y ∷ xs) (a ∷ others) v x i = elim i [
         | inl is ↦ subst (λ z. is_done (value_of p same (make z)) ≡ true) is
-            (is_done_by (value_of p same (make y)) (item a) v.0)
+            (is_done_by (value_of p same (make y)) (item y a) v.0)
         | inr there ↦ valued_done make item xs others v.1 x there
       ]
 
-      pub valued_length : {X A : Type 0} (make : X → JobId) (item : A → Item p) (xs : List X)
+      pub valued_length : {X A : Type 0} (make : X → JobId) (item : X → A → Item p) (xs : List X)
           (answers : List A) → Valued make item xs answers → length answers ≡ length xs
       unfolding Valued
       valued_length make item [] [] v = refl
@@ -241,7 +284,7 @@ module _ (p : Parts) (same : JobId → JobId → Bool)
           ap suc (valued_length make item xs others v.1)
 
       pub read_all_is : {X A : Type 0} (kind : Item p → Option A) (id : JobId) (make : X → JobId)
-          (item : A → Item p) → ((a : A) → kind (item a) ≡ Some a) → (xs : List X)
+          (item : X → A → Item p) → ((x : X) (a : A) → kind (item x a) ≡ Some a) → (xs : List X)
           (answers : List A) → Valued make item xs answers
           → ((x : X) → In x xs → In (make x) (reads_with p same (numbers p same) id))
           → read_all p same kind (items p same id) (map make xs) ≡ Some answers
@@ -251,14 +294,65 @@ module _ (p : Parts) (same : JobId → JobId → Bool)
       read_all_is kind id make item kinded (x ∷ xs) [] v read = absurd v
       read_all_is kind id make item kinded (x ∷ xs) (a ∷ others) v read =
           ap (λ o. all_of (o ∷ map (λ i. read_as p same kind (items p same id) i) (map make xs)))
-          (read_is kind (reads_with p same (numbers p same) id) (make x) (item a) a
-          (read x (inl refl)) v.0 (kinded a))
+          (read_is kind (reads_with p same (numbers p same) id) (make x) (item x a) a
+          (read x (inl refl)) v.0 (kinded x a))
           ∙ ap (option_and_then (λ rest. Some (a ∷ rest)))
           (read_all_is kind id make item kinded xs others v.1 (λ y i. read y (inr i)))
 
+      -- ---- a glyph, by its bases
+
+      index_so : index_known p same ≡ Some index
+      index_so = ap (λ v. option_and_then (as_index p) (done_value v)) index_is
+
+      pub bases_are : (glyph : ℕ) (raw : p.Raw) → raw_value p same glyph ≡ Done (an.Raw raw)
+          → bases p same glyph ≡ p.bases raw index
+      bases_are glyph raw is =
+          ap (λ v. bases_in p same (option_and_then (as_raw p) (done_value v)) (index_known p same))
+          is ∙ ap (λ o. bases_in p same (Some raw) o) index_so
+
+      pub flat_by : (glyph : ℕ) (raw : p.Raw) (flats : List p.Flat)
+          → raw_value p same glyph ≡ Done (an.Raw raw)
+          → Valued job.Flat (λ base. an.Flat) (p.bases raw index) flats
+          → flat_value p same glyph ≡ plain_of an.Flat (p.flat raw index flats)
+      flat_by glyph raw flats is drawn =
+          let from : (base : ℕ) → In base (p.bases raw index) → In base (bases p same glyph)
+          = λ base i. subst (λ bs. In base bs) (sym (bases_are glyph raw is)) i in
+          let into : (base : ℕ) → In base (bases p same glyph) → In base (p.bases raw index)
+          = λ base i. subst (λ bs. In base bs) (bases_are glyph raw is) i in
+          by_outcome (job.Flat glyph) (all_from
+          (job.Raw glyph ∷ job.Index ∷ map job.Flat (bases p same glyph)) (λ id i. elim i [
+            | inl e ↦ subst (λ id. is_done (value_of p same id) ≡ true) e
+                (is_done_by (raw_value p same glyph) (an.Raw raw) is)
+            | inr i ↦ elim i [
+              | inl e ↦ subst (λ id. is_done (value_of p same id) ≡ true) e
+                  (is_done_by (index_value p same) (an.Index index) index_is)
+              | inr i ↦ let m = In-map job.Flat (bases p same glyph) id i in
+                  subst (λ id. is_done (value_of p same id) ≡ true) m.2
+                  (valued_done job.Flat (λ base. an.Flat) (p.bases raw index) flats drawn m.0
+                  (into m.0 m.1))
+            ]
+          ]))
+          ∙ ap (λ o. o.value) (on_some _ _ raw (read_is (as_raw p)
+          (reads_with p same (numbers p same) (job.Flat glyph)) (job.Raw glyph) (an.Raw raw) raw
+          (inl refl) is refl))
+          ∙ ap (λ o. o.value) (on_some _ _ index (index_read (job.Flat glyph) (inr (inl refl))))
+          ∙ ap (λ o. o.value) (on_some _ _ flats (read_all_is (as_flat p) (job.Flat glyph) job.Flat
+          (λ base. an.Flat) (λ base flat. refl) (p.bases raw index) flats drawn
+          (λ base i. inr (inr (map-In job.Flat (bases p same glyph) base (from base i))))))
+          ∙ settle_value an.Flat _ (p.flat raw index flats)
+
+      -- its data, of either kind
+      pub part_by : (glyph : ℕ) (order : p.Order) (flat : p.Flat) (kind : Bool)
+          → order_value p same ≡ Done (an.Order order)
+          → flat_value p same glyph ≡ Done (an.Flat flat)
+          → value_of p same (part_job kind glyph) ≡ plain_of (item_of (Some kind))
+          (cond kind (p.composite header order flat) (p.simple header flat))
+      part_by glyph order flat true order_is is = composite_by glyph order flat order_is is
+      part_by glyph order flat false order_is is = simple_by glyph flat is
+
       -- and these are the data of glyphs that are read
-      data_are : {X : Type 0} (make : X → JobId) (item : p.Data → Item p)
-          → ((bytes : p.Data) → as_data p (item bytes) ≡ Some bytes) → (xs : List X)
+      data_are : {X : Type 0} (make : X → JobId) (item : X → p.Data → Item p)
+          → ((x : X) (bytes : p.Data) → as_data p (item x bytes) ≡ Some bytes) → (xs : List X)
           (answers : List p.Data) → Valued make item xs answers
           → data_in p same (map (with_value p same) (map make xs)) ≡ answers
       unfolding Valued
@@ -269,7 +363,7 @@ module _ (p : Parts) (same : JobId → JobId → Bool)
           ap (λ plain. data_behind p same (option_and_then (as_data p) (done_value plain))
           (data_in p same (map (with_value p same) (map make xs)))) v.0
           ∙ ap (λ o. data_behind p same o (data_in p same (map (with_value p same) (map make xs))))
-          (kinded a)
+          (kinded x a)
           ∙ ap (λ rest. a ∷ rest) (data_are make item kinded xs others v.1)
 
       pub in_numbers : (glyph : ℕ) → In glyph (p.numbers index) → In glyph (exported p same)
@@ -293,10 +387,12 @@ module _ (p : Parts) (same : JobId → JobId → Bool)
       index_done : IsDoneJob job.Index
       index_done = is_done_by (index_value p same) (an.Index index) index_is
 
-      module _ (flats : List p.Flat) (drawn : Valued job.Flat an.Flat (p.numbers index) flats) where
+      module _ (flats : List p.Flat) (drawn : Valued job.Flat (λ glyph. an.Flat) (p.numbers index)
+          flats) where
         flat_reads_done : (id : JobId) → In id (map job.Flat (exported p same)) → IsDoneJob id
         flat_reads_done id i = let m = In-map job.Flat (exported p same) id i in
-            subst IsDoneJob m.2 (valued_done job.Flat an.Flat (p.numbers index) flats drawn m.0
+            subst IsDoneJob m.2 (valued_done job.Flat (λ glyph. an.Flat) (p.numbers index) flats
+            drawn m.0
             (from_numbers m.0 m.1))
 
         pub order_by : order_value p same ≡ plain_of an.Order (p.order header index flats)
@@ -311,7 +407,7 @@ module _ (p : Parts) (same : JobId → JobId → Bool)
             ∙ ap (λ o. o.value) (on_some _ _ header (header_read job.Order (inl refl)))
             ∙ ap (λ o. o.value) (on_some _ _ index (index_read job.Order (inr (inl refl))))
             ∙ ap (λ o. o.value) (on_some _ _ flats (read_all_is (as_flat p) job.Order job.Flat
-            an.Flat (λ flat. refl) (p.numbers index) flats drawn
+            (λ glyph. an.Flat) (λ glyph flat. refl) (p.numbers index) flats drawn
             (λ g i. inr (inr (map-In job.Flat (exported p same) g (in_numbers g i))))))
             ∙ settle_value an.Order _ (p.order header index flats)
 
@@ -349,7 +445,8 @@ module _ (p : Parts) (same : JobId → JobId → Bool)
               ∙ ap (λ o. o.value) (on_some _ _ flats
               (ap (λ ns. read_all p same (as_flat p) (items p same job.Advances) (map job.Flat ns))
               ordered_are
-              ∙ read_all_is (as_flat p) job.Advances job.Flat an.Flat (λ flat. refl)
+              ∙ read_all_is (as_flat p) job.Advances job.Flat (λ glyph. an.Flat) (λ glyph flat.
+              refl)
               (p.numbers index) flats drawn
               (λ g i. inr (inr (map-In job.Flat (exported p same) g (in_numbers g i))))))
               ∙ settle_value an.Advances (none p same) (p.measures header order flats)
@@ -357,32 +454,37 @@ module _ (p : Parts) (same : JobId → JobId → Bool)
           -- ---- what a table reads
 
           abbrev pub table_reads : Needs → List JobId
-          table_reads needs = job.Header ∷ job.Order ∷ needed (numbers p same) needs
+          table_reads needs = job.Header ∷ job.Order ∷ needed (part_ids p same) (varied p same)
+              needs
 
           -- neither the header nor the order is a glyph's data
           pub needed_data : (needs : Needs)
               → data_in p same (map (with_value p same) (table_reads needs))
-              ≡ data_in p same (map (with_value p same) (needed (numbers p same) needs))
+              ≡ data_in p same (map (with_value p same) (needed (part_ids p same) (varied p same)
+              needs))
           needed_data needs =
               ap (λ v. data_behind p same (option_and_then (as_data p) (done_value v))
               (data_behind p same (option_and_then (as_data p) (done_value (order_value p same)))
-              (data_in p same (map (with_value p same) (needed (numbers p same) needs)))))
+              (data_in p same (map (with_value p same) (needed (part_ids p same) (varied p same)
+              needs)))))
               header_is
               ∙ ap (λ v. data_behind p same (option_and_then (as_data p) (done_value v))
-              (data_in p same (map (with_value p same) (needed (numbers p same) needs))))
+              (data_in p same (map (with_value p same) (needed (part_ids p same) (varied p same)
+              needs))))
               order_is
 
           pub outlines_read : (parts : List p.Data)
-              → Valued job.Simple an.Simple (p.numbers index) parts
+              → Valued (part_of p same) part_item (p.numbers index) parts
               → extra_read p same (map (with_value p same) (table_reads TheOutlines)) TheOutlines
               ≡ Some (with_data parts)
           outlines_read parts written = ap (λ ds. Some (with_data ds)) (needed_data TheOutlines
-              ∙ ap (λ ns. data_in p same (map (with_value p same) (map job.Simple ns)))
+              ∙ ap (λ ns. data_in p same (map (with_value p same) (map (part_of p same) ns)))
               (sym (numbers_are p same index index_is))
-              ∙ data_are job.Simple an.Simple (λ bytes. refl) (p.numbers index) parts written)
+              ∙ data_are (part_of p same) part_item (λ glyph bytes. is_data (kind_of p same glyph)
+              bytes) (p.numbers index) parts written)
 
           pub variations_read : (variations : List p.Data)
-              → Valued job.Variations an.Variations
+              → Valued job.Variations (λ glyph. an.Variations)
               (varied_of (p.is_variable header) (p.numbers index)) variations
               → extra_read p same (map (with_value p same) (table_reads TheVariations))
               TheVariations ≡ Some (with_data variations)
@@ -390,7 +492,7 @@ module _ (p : Parts) (same : JobId → JobId → Bool)
               (needed_data TheVariations
               ∙ ap (λ ns. data_in p same (map (with_value p same) (map job.Variations ns)))
               (sym varied_are)
-              ∙ data_are job.Variations an.Variations (λ bytes. refl)
+              ∙ data_are job.Variations (λ glyph. an.Variations) (λ glyph bytes. refl)
               (varied_of (p.is_variable header) (p.numbers index)) variations varied_so)
 
           index_among : (needs : Needs) → In job.Index (table_reads needs)
@@ -444,13 +546,14 @@ module _ (p : Parts) (same : JobId → JobId → Bool)
           module _ (measures : p.Measures)
               (measures_is : advances_value p same ≡ Done (an.Advances measures))
               (parts variations : List p.Data)
-              (written : Valued job.Simple an.Simple (p.numbers index) parts)
-              (varied_so : Valued job.Variations an.Variations
+              (written : Valued (part_of p same) part_item (p.numbers index) parts)
+              (varied_so : Valued job.Variations (λ glyph. an.Variations)
               (varied_of (p.is_variable header) (p.numbers index)) variations) where
             measures_done : IsDoneJob job.Advances
             measures_done = is_done_by (advances_value p same) (an.Advances measures) measures_is
 
-            needed_done : (needs : Needs) (id : JobId) → In id (needed (numbers p same) needs)
+            needed_done : (needs : Needs) (id : JobId) → In id (needed (part_ids p same) (varied p
+                same) needs)
                 → IsDoneJob id
             needed_done Nothing id i = absurd i
             needed_done TheIndex id i = elim i
@@ -462,11 +565,11 @@ module _ (p : Parts) (same : JobId → JobId → Bool)
               | inr i ↦ elim i
                   [ inl is ↦ subst IsDoneJob is index_done | inr none ↦ absurd none ]
             ]
-            needed_done TheOutlines id i = let m = In-map job.Simple (exported p same) id i in
-                subst IsDoneJob m.2 (valued_done job.Simple an.Simple (p.numbers index) parts
+            needed_done TheOutlines id i = let m = In-map (part_of p same) (exported p same) id i in
+                subst IsDoneJob m.2 (valued_done (part_of p same) part_item (p.numbers index) parts
                 written m.0 (from_numbers m.0 m.1))
             needed_done TheVariations id i = let m = In-map job.Variations (varied p same) id i in
-                subst IsDoneJob m.2 (valued_done job.Variations an.Variations
+                subst IsDoneJob m.2 (valued_done job.Variations (λ glyph. an.Variations)
                 (varied_of (p.is_variable header) (p.numbers index)) variations varied_so m.0
                 (subst (λ ns. In m.0 ns) (sym varied_are) m.1))
 
@@ -492,57 +595,84 @@ module _ (p : Parts) (same : JobId → JobId → Bool)
                   ]
                 ])) (extra_found (p.needs tag))
 
-      pub font_by : (tables : List p.Table) → Valued job.Table an.Table p.tags tables
+      pub font_by : (tables : List p.Table) → Valued job.Table (λ tag. an.Table) p.tags tables
           → font_value p same ≡ plain_of an.Font (p.font tables)
       font_by tables made = by_outcome job.Font (all_from (map job.Table p.tags) (λ id i.
           let m = In-map job.Table p.tags id i in
-          subst IsDoneJob m.2 (valued_done job.Table an.Table p.tags tables made m.0 m.1)))
+          subst IsDoneJob m.2 (valued_done job.Table (λ tag. an.Table) p.tags tables made m.0 m.1)))
           ∙ ap (λ o. o.value) (on_some _ _ tables (read_all_is (as_table p) job.Font job.Table
-          an.Table (λ bytes. refl) p.tags tables made (λ tag i. map-In job.Table p.tags tag i)))
+          (λ tag. an.Table) (λ tag bytes. refl) p.tags tables made (λ tag i. map-In job.Table p.tags
+          tag i)))
           ∙ settle_value an.Font (none p same) (p.font tables)
 
       -- ---- the parts' answers, and the values
 
-      drawn_by : (glyph : ℕ) (flat : p.Flat) → drawn p tree header index glyph ≡ Ok flat
-          → flat_value p same glyph ≡ Done (an.Flat flat)
-      drawn_by glyph flat e =
-          elim (p.raw tree header index glyph) as (λ r. p.raw tree header index glyph ≡ r
-          → (r >>= λ raw. p.flat raw index) ≡ Ok flat
-          → flat_value p same glyph ≡ Done (an.Flat flat)) [
-            | Ok raw ↦ λ is f. of_answer an.Flat (p.flat raw index) (flat_value p same glyph) flat
-                (flat_by glyph raw (of_answer an.Raw (p.raw tree header index glyph)
-                (raw_value p same glyph) raw (raw_by glyph) is)) f
-            | Err refusal ↦ λ is f. absurd cc
-          ] refl e
-
       pub all_drawn : (glyphs : List ℕ) (flats : List p.Flat)
-          → AllMade (drawn p tree header index) glyphs flats → Valued job.Flat an.Flat glyphs flats
+          → AllDrawn p tree header index glyphs flats
+          → Valued job.Flat (λ glyph. an.Flat) glyphs flats
       unfolding Valued
-      all_drawn [] [] m = tt
-      all_drawn [] (flat ∷ flats) m = absurd m
-      all_drawn (glyph ∷ glyphs) [] m = absurd m
-      all_drawn (glyph ∷ glyphs) (flat ∷ flats) m =
-          (drawn_by glyph flat m.0, all_drawn glyphs flats m.1)
+      all_drawn [] [] no_more = tt
+      all_drawn [] (flat ∷ flats) d = elim d [ ]
+      all_drawn (glyph ∷ glyphs) [] d = elim d [ ]
+      all_drawn (glyph ∷ glyphs) (flat ∷ flats) (one_more _ raw of_bases _ _ _ read drawn made rest)
+          = (
+            of_answer an.Flat (p.flat raw index of_bases) (flat_value p same glyph) flat
+                (flat_by glyph raw of_bases (of_answer an.Raw (p.raw tree header index glyph)
+                (raw_value p same glyph) raw (raw_by glyph) read)
+                (all_drawn (p.bases raw index) of_bases drawn)) made,
+            all_drawn glyphs flats rest,
+          )
 
-      pub all_written : (glyphs : List ℕ) (flats : List p.Flat) (parts : List p.Data)
-          → Valued job.Flat an.Flat glyphs flats → AllMade (p.simple header) flats parts
-          → Valued job.Simple an.Simple glyphs parts
-      unfolding Valued
-      all_written [] [] [] v m = tt
-      all_written [] [] (part ∷ parts) v m = absurd m
-      all_written [] (flat ∷ flats) parts v m = absurd v
-      all_written (glyph ∷ glyphs) [] parts v m = absurd v
-      all_written (glyph ∷ glyphs) (flat ∷ flats) [] v m = absurd m
-      all_written (glyph ∷ glyphs) (flat ∷ flats) (part ∷ parts) v m = (
-        of_answer an.Simple (p.simple header flat) (simple_value p same glyph) part
-            (simple_by glyph flat v.0) m.0,
-        all_written glyphs flats parts v.1 m.1,
-      )
+      -- a glyph that is drawn has data of its kind
+      module _ (order : p.Order) (order_is : order_value p same ≡ Done (an.Order order)) where
+        part_value_is : (glyph : ℕ) (flat : p.Flat)
+            → flat_value p same glyph ≡ Done (an.Flat flat)
+            → value_of p same (part_of p same glyph)
+            ≡ plain_of (part_item glyph) (part p header order flat)
+        part_value_is glyph flat is = subst (λ kind. value_of p same (part_in p same kind glyph)
+            ≡ plain_of (item_of kind) (part p header order flat)) (sym (kind_is glyph flat is))
+            (part_by glyph order flat (p.is_composite flat) order_is is)
+
+        pub all_written : (glyphs : List ℕ) (flats : List p.Flat) (parts : List p.Data)
+            → Valued job.Flat (λ glyph. an.Flat) glyphs flats
+            → AllMade (part p header order) flats parts
+            → Valued (part_of p same) part_item glyphs parts
+        unfolding Valued
+        all_written [] [] [] v m = tt
+        all_written [] [] (bytes ∷ parts) v m = absurd m
+        all_written [] (flat ∷ flats) parts v m = absurd v
+        all_written (glyph ∷ glyphs) [] parts v m = absurd v
+        all_written (glyph ∷ glyphs) (flat ∷ flats) [] v m = absurd m
+        all_written (glyph ∷ glyphs) (flat ∷ flats) (bytes ∷ parts) v m = (
+          of_answer (part_item glyph) (part p header order flat)
+              (value_of p same (part_of p same glyph)) bytes (part_value_is glyph flat v.0) m.0,
+          all_written glyphs flats parts v.1 m.1,
+        )
+
+        pub record Writings (flats : List p.Flat) : Type 0 where
+          pub parts : List p.Data
+          pub written_are : AllMade (part p header order) flats parts
+
+        pub writings : (glyphs : List ℕ) (flats : List p.Flat)
+            → Valued job.Flat (λ glyph. an.Flat) glyphs flats
+            → ((glyph : ℕ) → In glyph glyphs
+            → is_done (value_of p same (part_of p same glyph)) ≡ true)
+            → Writings flats
+        unfolding Valued
+        writings [] [] v done = record { parts = []; written_are = tt }
+        writings [] (flat ∷ flats) v done = absurd v
+        writings (glyph ∷ glyphs) [] v done = absurd v
+        writings (glyph ∷ glyphs) (flat ∷ flats) v done =
+            let made = answered (part_item glyph) (part p header order flat)
+            (value_of p same (part_of p same glyph)) (part_value_is glyph flat v.0)
+            (done glyph (inl refl)) in
+            let more = writings glyphs flats v.1 (λ g i. done g (inr i)) in
+            record { parts = made.0 ∷ more.parts; written_are = (made.1, more.written_are) }
 
       all_varied_from : (glyphs : List ℕ) (flats : List p.Flat) (variations : List p.Data)
-          → Valued job.Flat an.Flat glyphs flats
+          → Valued job.Flat (λ glyph. an.Flat) glyphs flats
           → AllMade (p.variations header index) flats variations
-          → Valued job.Variations an.Variations glyphs variations
+          → Valued job.Variations (λ glyph. an.Variations) glyphs variations
       unfolding Valued
       all_varied_from [] [] [] v m = tt
       all_varied_from [] [] (part ∷ parts) v m = absurd m
@@ -556,25 +686,27 @@ module _ (p : Parts) (same : JobId → JobId → Bool)
       )
 
       none_varied : (variations : List p.Data) → AllMade (p.variations header index) [] variations
-          → Valued job.Variations an.Variations [] variations
+          → Valued job.Variations (λ glyph. an.Variations) [] variations
       unfolding Valued
       none_varied [] m = tt
       none_varied (part ∷ parts) m = absurd m
 
       pub all_varied : (glyphs : List ℕ) (flats : List p.Flat) (variations : List p.Data)
-          → Valued job.Flat an.Flat glyphs flats
+          → Valued job.Flat (λ glyph. an.Flat) glyphs flats
           → AllMade (p.variations header index) (varying p header flats) variations
-          → Valued job.Variations an.Variations (varied_of (p.is_variable header) glyphs) variations
+          → Valued job.Variations (λ glyph. an.Variations) (varied_of (p.is_variable header) glyphs)
+          variations
       all_varied glyphs flats variations v m = by (p.is_variable header) m
         where
           by : (b : Bool) → AllMade (p.variations header index) (cond b flats []) variations
-              → Valued job.Variations an.Variations (varied_of b glyphs) variations
+              → Valued job.Variations (λ glyph. an.Variations) (varied_of b glyphs) variations
           by true m = all_varied_from glyphs flats variations v m
           by false m = none_varied variations m
 
       pub all_made : (make : Tag → Result p.Table Refusal)
           → ((tag : Tag) → table_value p same tag ≡ plain_of an.Table (make tag))
-          → (tags : List Tag) (tables : List p.Table) → AllMade make tags tables → Valued job.Table an.Table tags tables
+          → (tags : List Tag) (tables : List p.Table) → AllMade make tags tables → Valued job.Table
+          (λ tag. an.Table) tags tables
       unfolding Valued
       all_made make by [] [] m = tt
       all_made make by [] (made ∷ tables) m = absurd m
@@ -587,46 +719,70 @@ module _ (p : Parts) (same : JobId → JobId → Bool)
       -- what answers has a value, so what has a value was answered
       pub record Drawings (glyphs : List ℕ) : Type 0 where
         pub flats : List p.Flat
-        pub drawn_are : AllMade (drawn p tree header index) glyphs flats
+        pub drawn_are : AllDrawn p tree header index glyphs flats
+
+      pub record Drawing (glyph : ℕ) : Type 0 where
+        pub raw : p.Raw
+        pub of_bases : List p.Flat
+        pub flat : p.Flat
+        pub raw_made : p.raw tree header index glyph ≡ Ok raw
+        pub bases_drawn : AllDrawn p tree header index (p.bases raw index) of_bases
+        pub flat_made : p.flat raw index of_bases ≡ Ok flat
+        pub flat_is : flat_value p same glyph ≡ Done (an.Flat flat)
+
+      each_drawn : (glyphs : List ℕ) → ((glyph : ℕ) → In glyph glyphs → Drawing glyph)
+          → Drawings glyphs
+      each_drawn [] each = record { flats = []; drawn_are = no_more }
+      each_drawn (glyph ∷ glyphs) each =
+          let d = each glyph (inl refl) in
+          let more = each_drawn glyphs (λ g i. each g (inr i)) in
+          record {
+            flats = d.flat ∷ more.flats;
+            drawn_are = one_more glyph d.raw d.of_bases d.flat glyphs more.flats d.raw_made
+                d.bases_drawn d.flat_made more.drawn_are;
+          }
+
+      drawing_within : (depth glyph : ℕ) → is_found_within p same depth glyph ≡ true
+          → is_done (flat_value p same glyph) ≡ true → Drawing glyph
+      drawing_within zero glyph e done =
+          absurd (none_at_once (bases p same) (is_read p same) glyph e)
+      drawing_within (suc depth) glyph e done =
+          let raw = answered an.Raw (p.raw tree header index glyph) (raw_value p same glyph)
+          (raw_by glyph) (part_done (job.Flat glyph) done (job.Raw glyph) (inl refl)) in
+          let from : (base : ℕ) → In base (p.bases raw.0 index) → In base (bases p same glyph)
+          = λ base i. subst (λ bs. In base bs) (sym (bases_are glyph raw.0 raw.2)) i in
+          let below = each_drawn (p.bases raw.0 index) (λ base i.
+          drawing_within depth base
+          (ended_base (bases p same) (is_read p same) depth glyph base e (from base i))
+          (part_done (job.Flat glyph) done (job.Flat base)
+          (inr (inr (map-In job.Flat (bases p same glyph) base (from base i)))))) in
+          let flat = answered an.Flat (p.flat raw.0 index below.flats) (flat_value p same glyph)
+          (flat_by glyph raw.0 below.flats raw.2
+          (all_drawn (p.bases raw.0 index) below.flats below.drawn_are)) done in
+          record {
+            raw = raw.0;
+            of_bases = below.flats;
+            flat = flat.0;
+            raw_made = raw.1;
+            bases_drawn = below.drawn_are;
+            flat_made = flat.1;
+            flat_is = flat.2;
+          }
+
+      pub drawing : (glyph : ℕ) → is_done (flat_value p same glyph) ≡ true → Drawing glyph
+      drawing glyph done = drawing_within (suc (length (all p same))) glyph
+          (found_of_done p same glyph done) done
 
       pub drawings : (glyphs : List ℕ) → ((glyph : ℕ) → In glyph glyphs
           → is_done (flat_value p same glyph) ≡ true) → Drawings glyphs
-      drawings [] done = record { flats = []; drawn_are = tt }
-      drawings (glyph ∷ glyphs) done =
-          let flat_done = done glyph (inl refl) in
-          let raw = answered an.Raw (p.raw tree header index glyph) (raw_value p same glyph)
-          (raw_by glyph) (raw_done p same identity glyph flat_done) in
-          let flat = answered an.Flat (p.flat raw.0 index) (flat_value p same glyph)
-          (flat_by glyph raw.0 raw.2) flat_done in
-          let more = drawings glyphs (λ g i. done g (inr i)) in
-          record {
-            flats = flat.0 ∷ more.flats;
-            drawn_are = (ap (λ r. r >>= λ raw. p.flat raw index) raw.1 ∙ flat.1, more.drawn_are);
-          }
-
-      pub record Writings (flats : List p.Flat) : Type 0 where
-        pub parts : List p.Data
-        pub written_are : AllMade (p.simple header) flats parts
-
-      pub writings : (glyphs : List ℕ) (flats : List p.Flat) → Valued job.Flat an.Flat glyphs flats
-          → ((glyph : ℕ) → In glyph glyphs → is_done (simple_value p same glyph) ≡ true)
-          → Writings flats
-      unfolding Valued
-      writings [] [] v done = record { parts = []; written_are = tt }
-      writings [] (flat ∷ flats) v done = absurd v
-      writings (glyph ∷ glyphs) [] v done = absurd v
-      writings (glyph ∷ glyphs) (flat ∷ flats) v done =
-          let part = answered an.Simple (p.simple header flat) (simple_value p same glyph)
-          (simple_by glyph flat v.0) (done glyph (inl refl)) in
-          let more = writings glyphs flats v.1 (λ g i. done g (inr i)) in
-          record { parts = part.0 ∷ more.parts; written_are = (part.1, more.written_are) }
+      drawings glyphs done = each_drawn glyphs (λ glyph i. drawing glyph (done glyph i))
 
       pub record Varyings (flats : List p.Flat) : Type 0 where
         pub variations : List p.Data
         pub varied_are : AllMade (p.variations header index) flats variations
 
       varyings_from : (glyphs : List ℕ) (flats : List p.Flat)
-          → Valued job.Flat an.Flat glyphs flats
+          → Valued job.Flat (λ glyph. an.Flat) glyphs flats
           → ((glyph : ℕ) → In glyph glyphs → is_done (variations_value p same glyph) ≡ true)
           → Varyings flats
       unfolding Valued
@@ -641,7 +797,7 @@ module _ (p : Parts) (same : JobId → JobId → Bool)
           record { variations = part.0 ∷ more.variations; varied_are = (part.1, more.varied_are) }
 
       pub varyings : (glyphs : List ℕ) (flats : List p.Flat)
-          → Valued job.Flat an.Flat glyphs flats
+          → Valued job.Flat (λ glyph. an.Flat) glyphs flats
           → ((glyph : ℕ) → In glyph (varied_of (p.is_variable header) glyphs)
           → is_done (variations_value p same glyph) ≡ true)
           → Varyings (varying p header flats)
@@ -658,7 +814,8 @@ module _ (p : Parts) (same : JobId → JobId → Bool)
 
       pub tables_of : (make : Tag → Result p.Table Refusal)
           → ((tag : Tag) → table_value p same tag ≡ plain_of an.Table (make tag))
-          → (tags : List Tag) → ((tag : Tag) → In tag tags → is_done (table_value p same tag) ≡ true)
+          → (tags : List Tag) → ((tag : Tag) → In tag tags → is_done (table_value p same tag) ≡
+          true)
           → Tables make tags
       tables_of make by [] done = record { tables = []; made_are = tt }
       tables_of make by (tag ∷ tags) done =
@@ -685,7 +842,7 @@ module _ (p : Parts) (same : JobId → JobId → Bool)
       (advances_value p same) f.measures
       (advances_by f.tree tree_is f.header f.index header_is index_is f.flats flats f.order
       order_is) f.glyphs_measured in
-      let parts = all_written f.tree tree_is f.header f.index header_is index_is
+      let parts = all_written f.tree tree_is f.header f.index header_is index_is f.order order_is
       (p.numbers f.index) f.flats f.parts flats f.glyphs_written in
       let varied_so = all_varied f.tree tree_is f.header f.index header_is index_is
       (p.numbers f.index) f.flats f.variations flats f.glyphs_varied in
@@ -696,14 +853,6 @@ module _ (p : Parts) (same : JobId → JobId → Bool)
       f.tables_made in
       of_answer an.Font (p.font f.tables) (font_value p same) font
       (font_by f.tree tree_is f.header f.index header_is index_is f.tables tables) f.is_font
-
-  -- what a job with a value reads has values
-  pub part_done : (id : JobId) → is_done (value_of p same id) ≡ true → (read : JobId)
-      → In read (reads_with p same (numbers p same) id) → is_done (value_of p same read) ≡ true
-  part_done id done read there = list_all-In (λ (item : JobId × Plain (Item p)). is_done item.1)
-      (items p same id) (with_value p same read)
-      (reads_done p same id (items p same id) (ap is_done (value p same id) ∙ done))
-      (map-In (with_value p same) (reads_with p same (numbers p same) id) read there)
 
   same_file : (made font : p.File) → ◌≡◌ {A = Plain (Item p)} (Done (an.Font made))
       (Done (an.Font font))

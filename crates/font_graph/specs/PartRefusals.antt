@@ -1,25 +1,24 @@
 -- What the refusal of a job says of its part, and what was made before it. For the plans of crates
 -- above. fontc's own.
-use Rattle.std.proofs.Common.{◌≡◌, ℕ, true, inl, inr, Result, Ok, Err, refl, sym, ap, ◌∙◌}
+use Rattle.std.proofs.Common.{◌≡◌, ℕ, true, inl, inr, List, Result, Ok, Err, refl, sym, ap, ◌∙◌}
 use Rattle.std.proofs.Common.{subst}
 use Rattle.refusal_codes.specs.declared.refusal.Refusal.{Refusal}
 use Rattle.access_context.specs.Plain.{Plain, Done, Refused, is_done}
 use Rattle.job_graph.specs.Members.{In}
-use Rattle.refusal_codes.specs.Gives.{◌>>=◌}
 use Rattle.font_graph.specs.Parts.{Parts}
-use Rattle.font_graph.specs.Fonts.{drawn}
+use Rattle.font_graph.specs.Fonts.{DrawnSo}
 use Rattle.font_graph.specs.Graph.{Item, settle, none, value_of, tree_value}
 use Rattle.font_graph.specs.Graph.{header_value, index_value, raw_value, flat_value, simple_value}
-use Rattle.font_graph.specs.Graph.{exported, variations_value}
+use Rattle.font_graph.specs.Graph.{exported, variations_value, composite_value}
 use Rattle.font_graph.specs.Graph.{order_value, advances_value}
 use Rattle.font_graph.specs.Solved.{numbers_are, flats_done}
 use Rattle.font_graph.specs.Made.{plain_of, settle_value, answered, tree_by, header_by, index_by}
 use Rattle.font_graph.specs.Made.{raw_by, flat_by, simple_by, variations_by, order_by, advances_by}
-use Rattle.font_graph.specs.Made.{drawings}
+use Rattle.font_graph.specs.Made.{drawing, drawings, composite_by}
 use Rattle.font_graph.specs.Made.{part_done}
 use Rattle.font_graph.specs.Same.{same_id, identity}
 use Rattle.font_graph.specs.Values.{Source, tree_is, header_is, index_is, Drawn, flats_are, Ordered}
-use Rattle.font_graph.specs.Values.{order_is}
+use Rattle.font_graph.specs.Values.{order_is, AreValued}
 use Rattle.font_graph.specs.declared.ids.JobId.{JobId}
 use Rattle.font_graph.specs.declared.ids.JobId.TheVariants as job
 use Rattle.font_graph.specs.declared.items.Item.TheVariants as an
@@ -97,8 +96,11 @@ module _ (p : Parts) where
     raw_so = raw_by p same_id identity s.tree (tree_is p s) s.header s.index (header_is p s)
         (index_is p s)
 
-    pub flat_so : (glyph : ℕ) (raw : p.Raw) → raw_value p same_id glyph ≡ Done (an.Raw raw)
-        → flat_value p same_id glyph ≡ plain_of p same_id identity an.Flat (p.flat raw s.index)
+    pub flat_so : (glyph : ℕ) (raw : p.Raw) (flats : List p.Flat)
+        → raw_value p same_id glyph ≡ Done (an.Raw raw)
+        → AreValued p s job.Flat (λ base. an.Flat) (p.bases raw s.index) flats
+        → flat_value p same_id glyph
+        ≡ plain_of p same_id identity an.Flat (p.flat raw s.index flats)
     flat_so = flat_by p same_id identity s.tree (tree_is p s) s.header s.index (header_is p s)
         (index_is p s)
 
@@ -107,6 +109,14 @@ module _ (p : Parts) where
         ≡ plain_of p same_id identity an.Simple (p.simple s.header flat)
     simple_so = simple_by p same_id identity s.tree (tree_is p s) s.header s.index (header_is p s)
         (index_is p s)
+
+    pub composite_so : (glyph : ℕ) (order : p.Order) (flat : p.Flat)
+        → order_value p same_id ≡ Done (an.Order order)
+        → flat_value p same_id glyph ≡ Done (an.Flat flat)
+        → composite_value p same_id glyph
+        ≡ plain_of p same_id identity an.Composite (p.composite s.header order flat)
+    composite_so = composite_by p same_id identity s.tree (tree_is p s) s.header s.index
+        (header_is p s) (index_is p s)
 
     pub variations_so : (glyph : ℕ) (flat : p.Flat)
         → flat_value p same_id glyph ≡ Done (an.Flat flat)
@@ -124,16 +134,23 @@ module _ (p : Parts) where
         (raw_value p same_id glyph) (raw_so glyph) done
 
     abbrev pub FlatMade : ℕ → Type 0
-    FlatMade glyph = (flat : p.Flat) × (drawn p s.tree s.header s.index glyph ≡ Ok flat)
+    FlatMade glyph = (flat : p.Flat) × DrawnSo p s.tree s.header s.index glyph flat
         × (flat_value p same_id glyph ≡ Done (an.Flat flat))
 
     pub flat_made : (glyph : ℕ) → IsMade (job.Flat glyph) → FlatMade glyph
     flat_made glyph done =
-        let raw = raw_made glyph
-        (part_done p same_id identity (job.Flat glyph) done (job.Raw glyph) (inl refl)) in
-        let flat = answered p same_id identity an.Flat (p.flat raw.0 s.index)
-        (flat_value p same_id glyph) (flat_so glyph raw.0 raw.2) done in
-        (flat.0, ap (λ r. r >>= λ raw. p.flat raw s.index) raw.1 ∙ flat.1, flat.2)
+        let d = drawing p same_id identity s.tree (tree_is p s) s.header s.index (header_is p s)
+        (index_is p s) glyph done in (
+          d.flat,
+          record {
+            raw = d.raw;
+            of_bases = d.of_bases;
+            raw_made = d.raw_made;
+            bases_drawn = d.bases_drawn;
+            flat_made = d.flat_made;
+          },
+          d.flat_is,
+        )
 
     pub all_drawn : ((glyph : ℕ) → In glyph (exported p same_id) → IsMade (job.Flat glyph))
         → Drawn p s

@@ -1,10 +1,10 @@
 -- What a job of a source's graph finds where it is run: each item that it reads is there, and is
 -- what its part answered. And what comes of the job by its part. For the plans of crates above.
 -- fontc's own.
-use Rattle.std.proofs.Common.{◌≡◌, ℕ, true, inl, inr, List, [], ◌∷◌, map, Option}
+use Rattle.std.proofs.Common.{◌≡◌, ℕ, Bool, true, false, inl, inr, List, [], ◌∷◌, map, Option}
 use Rattle.std.proofs.Common.{Some, Ok, refl, sym, ap, ◌∙◌, subst}
-use Rattle.std.specs.Prelude.{IsSome}
-use Rattle.access_context.specs.Plain.{Plain, Done, is_done}
+use Rattle.std.specs.Prelude.{IsSome, ◌&&◌, option_and_then}
+use Rattle.access_context.specs.Plain.{Plain, Done, is_done, done_value}
 use Rattle.access_context.specs.Read.{all_done}
 use Rattle.font_ir.specs.declared.tag.Tag.{Tag}
 use Rattle.job_graph.specs.Rounds.{IsDue}
@@ -12,23 +12,26 @@ use Rattle.job_graph.specs.Members.{In, list_all-In}
 use Rattle.font_graph.specs.Parts.{Parts, Needs, Nothing, TheIndex, TheMeasures}
 use Rattle.font_graph.specs.Parts.{TheMeasuresAndIndex, TheOutlines, TheVariations, Extra}
 use Rattle.font_graph.specs.Parts.{nothing, with_index, with_measures, with_both, with_data}
+use Rattle.font_graph.specs.Fonts.{AllDrawn, DrawnSo}
 use Rattle.font_graph.specs.Fonts.{AreInOrder, IsExtraOf, IsOfGlyphs, IsTableOf, AreTablesOf}
 use Rattle.font_graph.specs.Graph.{Item, as_tree, as_header, as_index, as_raw, as_flat, as_order}
 use Rattle.font_graph.specs.Graph.{as_measures, as_table, needed, of_index}
 use Rattle.font_graph.specs.Graph.{of_order, settle, none, outcome, extra_read}
 use Rattle.font_graph.specs.Graph.{read_as, read_all, reads_with, numbers, exported, varied}
 use Rattle.font_graph.specs.Graph.{value_of, plan, tree_value}
-use Rattle.font_graph.specs.Graph.{raw_value, flat_value, advances_value, table_value}
-use Rattle.font_graph.specs.Graph.{after_index, after_order}
-use Rattle.font_graph.specs.Outcomes.{items, map-In, with_value, raw_next, simple_next, reads_done}
+use Rattle.font_graph.specs.Graph.{flat_value, advances_value, table_value}
+use Rattle.font_graph.specs.Graph.{after_index, after_raw, after_flat, after_order, all_in, bases}
+use Rattle.font_graph.specs.Graph.{Reached, kind_of, part_of, part_ids}
+use Rattle.font_graph.specs.Outcomes.{items, map-In, with_value, reads_done}
 use Rattle.font_graph.specs.Outcomes.{value}
-use Rattle.font_graph.specs.Solved.{numbers_are, varied_in, raw_done}
+use Rattle.font_graph.specs.Solved.{numbers_are, varied_in, raw_done, reached_there}
 use Rattle.font_graph.specs.Made.{on_some, answered, plain_of, read_is, tree_by, raw_by, flat_by}
 use Rattle.font_graph.specs.Made.{Valued, read_all_is, varied_are, index_needed, measures_needed}
 use Rattle.font_graph.specs.Made.{both_needed, outlines_read, variations_read, table_from}
-use Rattle.font_graph.specs.Made.{all_written, all_varied, writings, varyings}
+use Rattle.font_graph.specs.Made.{all_written, all_varied, writings, varyings, drawings, bases_are}
+use Rattle.font_graph.specs.Made.{kind_is}
 use Rattle.font_graph.specs.PartRefusals.{source_made, raw_source, all_drawn, advances_so, InOrder}
-use Rattle.font_graph.specs.PartRefusals.{in_order}
+use Rattle.font_graph.specs.PartRefusals.{in_order, raw_made, flat_made, FlatMade}
 use Rattle.font_graph.specs.Values.{Source, tree_is, header_is, index_is, Drawn, flats_are}
 use Rattle.font_graph.specs.Values.{order_is}
 use Rattle.font_graph.specs.Same.{same_id, identity}
@@ -102,17 +105,28 @@ module _ (p : Parts) where
       → tree_read reads ≡ Some tree → header_read reads ≡ Some header
       → index_read reads ≡ Some index
       → outcome p same_id (job.Raw glyph) reads
-      ≡ settle p same_id an.Raw (raw_next p same_id (p.is_variable header) glyph)
+      ≡ settle p same_id an.Raw (λ raw. after_raw p same_id
+      (p.is_variable header && p.is_exported index glyph) (p.bases raw index) glyph)
       (p.raw tree header index glyph)
   raw_runs glyph reads tree header index a b c = on_some p same_id identity _ _ tree a
       ∙ on_some p same_id identity _ _ header b ∙ on_some p same_id identity _ _ index c
 
-  pub flat_runs : (glyph : ℕ) (reads : Reads) (raw : p.Raw) (index : p.Index)
+  pub flat_runs : (glyph : ℕ) (reads : Reads) (raw : p.Raw) (index : p.Index) (flats : List p.Flat)
       → raw_read glyph reads ≡ Some raw → index_read reads ≡ Some index
+      → flats_read (p.bases raw index) reads ≡ Some flats
       → outcome p same_id (job.Flat glyph) reads
-      ≡ settle p same_id an.Flat (simple_next p same_id glyph) (p.flat raw index)
-  flat_runs glyph reads raw index a b = on_some p same_id identity _ _ raw a
-      ∙ on_some p same_id identity _ _ index b
+      ≡ settle p same_id an.Flat (λ flat. after_flat p same_id (p.is_exported index glyph)
+      (p.is_composite flat) glyph) (p.flat raw index flats)
+  flat_runs glyph reads raw index flats a b c = on_some p same_id identity _ _ raw a
+      ∙ on_some p same_id identity _ _ index b ∙ on_some p same_id identity _ _ flats c
+
+  pub composite_runs : (glyph : ℕ) (reads : Reads) (header : p.Header) (order : p.Order)
+      (flat : p.Flat) → header_read reads ≡ Some header → order_read reads ≡ Some order
+      → flat_read glyph reads ≡ Some flat
+      → outcome p same_id (job.Composite glyph) reads
+      ≡ settle p same_id an.Composite (none p same_id) (p.composite header order flat)
+  composite_runs glyph reads header order flat a b c = on_some p same_id identity _ _ header a
+      ∙ on_some p same_id identity _ _ order b ∙ on_some p same_id identity _ _ flat c
 
   pub simple_runs : (glyph : ℕ) (reads : Reads) (header : p.Header) (flat : p.Flat)
       → header_read reads ≡ Some header → flat_read glyph reads ≡ Some flat
@@ -134,7 +148,7 @@ module _ (p : Parts) where
       → flats_read (p.numbers index) reads ≡ Some flats
       → outcome p same_id job.Order reads
       ≡ settle p same_id an.Order
-      (λ order. after_order p same_id (of_order p same_id header (p.numbers index)))
+      (λ order. after_order p same_id (of_order p same_id header (p.numbers index) flats))
       (p.order header index flats)
   order_runs reads header index flats a b c = on_some p same_id identity _ _ header a
       ∙ on_some p same_id identity _ _ index b ∙ on_some p same_id identity _ _ flats c
@@ -174,7 +188,8 @@ module _ (p : Parts) where
       → In job.Tree (reads_with p same_id (numbers p same_id) id)
       → tree_read (items p same_id id) ≡ Some s.tree
   tree_known s id there = read_is p same_id identity (as_tree p)
-      (reads_with p same_id (numbers p same_id) id) job.Tree (an.Tree s.tree) s.tree there (tree_is p s)
+      (reads_with p same_id (numbers p same_id) id) job.Tree (an.Tree s.tree) s.tree there (tree_is
+      p s)
       refl
 
   header_known : (s : Source p) (id : JobId)
@@ -198,7 +213,14 @@ module _ (p : Parts) where
 
   into_numbers : (s : Source p) (glyph : ℕ) → In glyph (p.numbers s.index)
       → In glyph (exported p same_id)
-  into_numbers s glyph i = subst (λ ns. In glyph ns) (numbers_are p same_id s.index (index_is p s)) i
+  into_numbers s glyph i = subst (λ ns. In glyph ns) (numbers_are p same_id s.index (index_is p s))
+      i
+
+  -- what is reached is a glyph of the index
+  in_all : (s : Source p) (glyph : ℕ) → Reached p same_id glyph → In glyph (p.all s.index)
+  in_all s glyph reached = subst (λ o. In glyph (all_in p same_id o))
+      (ap (λ v. option_and_then (as_index p) (done_value v)) (index_is p s))
+      (reached_there p same_id glyph reached)
 
   abbrev Due : JobId → Reads → Type 0
   Due id reads = IsDue same_id (plan p same_id) id reads
@@ -241,7 +263,7 @@ module _ (p : Parts) where
         → header_read reads ≡ Some h → p.header t ≡ Ok h
     pub index_is : (t : p.Tree) (i : p.Index) → tree_read reads ≡ Some t
         → index_read reads ≡ Some i → p.index t ≡ Ok i
-    pub glyph_is : (i : p.Index) → index_read reads ≡ Some i → In glyph (p.numbers i)
+    pub glyph_is : (i : p.Index) → index_read reads ≡ Some i → In glyph (p.all i)
 
   pub raw_finds : (glyph : ℕ) (reads : Reads) → Due (job.Raw glyph) reads
       → all_done reads ≡ true → RawFound glyph reads
@@ -265,8 +287,8 @@ module _ (p : Parts) where
         index_is = λ t i a b. as_read (λ t. p.index t ≡ Ok i) (tree_read (items p same_id id))
             s.tree t tree a (as_read (λ i. p.index s.tree ≡ Ok i)
             (index_read (items p same_id id)) s.index i index b s.index_read);
-        glyph_is = λ i a. as_read (λ i. In glyph (p.numbers i)) (index_read (items p same_id id))
-            s.index i index a (from_numbers s glyph known.0);
+        glyph_is = λ i a. as_read (λ i. In glyph (p.all i)) (index_read (items p same_id id))
+            s.index i index a (in_all s glyph known.0);
       })
 
   -- a glyph was read so, of this index
@@ -277,30 +299,57 @@ module _ (p : Parts) where
     pub index_made : p.index tree ≡ Ok index
     pub raw_made : p.raw tree header index glyph ≡ Ok raw
 
+  -- and its bases were drawn so
+  pub record HasBasesOf (index : p.Index) (glyph : ℕ) (raw : p.Raw) (flats : List p.Flat)
+      : Type 0 where
+    pub tree : p.Tree
+    pub header : p.Header
+    pub header_made : p.header tree ≡ Ok header
+    pub index_made : p.index tree ≡ Ok index
+    pub raw_made : p.raw tree header index glyph ≡ Ok raw
+    pub bases_drawn : AllDrawn p tree header index (p.bases raw index) flats
+
   pub record FlatFound (glyph : ℕ) (reads : Reads) : Type 0 where
     pub raw : IsSome (raw_read glyph reads)
     pub index : IsSome (index_read reads)
-    pub glyph_is : (i : p.Index) → index_read reads ≡ Some i → In glyph (p.numbers i)
+    pub flats : (r : p.Raw) (i : p.Index) → raw_read glyph reads ≡ Some r
+        → index_read reads ≡ Some i → IsSome (flats_read (p.bases r i) reads)
+    pub glyph_is : (i : p.Index) → index_read reads ≡ Some i → In glyph (p.all i)
     pub raw_is : (r : p.Raw) (i : p.Index) → raw_read glyph reads ≡ Some r
         → index_read reads ≡ Some i → IsReadOf i glyph r
+    pub flats_are : (r : p.Raw) (i : p.Index) (fs : List p.Flat) → raw_read glyph reads ≡ Some r
+        → index_read reads ≡ Some i → flats_read (p.bases r i) reads ≡ Some fs
+        → HasBasesOf i glyph r fs
 
   pub flat_finds : (glyph : ℕ) (reads : Reads) → Due (job.Flat glyph) reads
       → all_done reads ≡ true → FlatFound glyph reads
   flat_finds glyph reads d done =
       let id = job.Flat glyph in
       let known = due p id reads d in
-      let all : all_done (items p same_id id) ≡ true
-      = subst (λ rs. all_done rs ≡ true) known.1 done in
+      let rs = items p same_id id in
+      let all : all_done rs ≡ true = subst (λ rs. all_done rs ≡ true) known.1 done in
       let raw_done = done_of id all (job.Raw glyph) (inl refl) in
       let s = raw_source p glyph raw_done in
-      let made = answered p same_id identity an.Raw (p.raw s.tree s.header s.index glyph)
-      (raw_value p same_id glyph)
-      (raw_by p same_id identity s.tree (tree_is p s) s.header s.index (header_is p s) (index_is p s) glyph)
-      raw_done in
-      let raw : raw_read glyph (items p same_id id) ≡ Some made.0
+      let made = raw_made p s glyph raw_done in
+      let raw : raw_read glyph rs ≡ Some made.0
       = read_is p same_id identity (as_raw p) (reads_with p same_id (numbers p same_id) id)
       (job.Raw glyph) (an.Raw made.0) made.0 (inl refl) made.2 refl in
       let index = index_known s id (inr (inl refl)) in
+      let there : (base : ℕ) → In base (p.bases made.0 s.index)
+      → In (job.Flat base) (reads_with p same_id (numbers p same_id) id)
+      = λ base i. inr (inr (map-In job.Flat (bases p same_id glyph) base
+      (subst (λ bs. In base bs) (sym (bases_are p same_id identity s.tree (tree_is p s) s.header
+      s.index (header_is p s) (index_is p s) glyph made.0 made.2)) i))) in
+      let below = drawings p same_id identity s.tree (tree_is p s) s.header s.index
+      (header_is p s) (index_is p s) (p.bases made.0 s.index)
+      (λ base i. done_of id all (job.Flat base) (there base i)) in
+      let flats : flats_read (p.bases made.0 s.index) rs ≡ Some below.flats
+      = read_all_is p same_id identity s.tree (tree_is p s) s.header s.index (header_is p s)
+      (index_is p s) (as_flat p) id job.Flat (λ base. an.Flat) (λ base flat. refl)
+      (p.bases made.0 s.index) below.flats
+      (Rattle.font_graph.specs.Made.all_drawn p same_id identity s.tree (tree_is p s) s.header
+      s.index (header_is p s) (index_is p s) (p.bases made.0 s.index) below.flats below.drawn_are)
+      there in
       let is : IsReadOf s.index glyph made.0 = record {
         tree = s.tree;
         header = s.header;
@@ -308,14 +357,32 @@ module _ (p : Parts) where
         index_made = s.index_read;
         raw_made = made.1;
       } in
+      let has : HasBasesOf s.index glyph made.0 below.flats = record {
+        tree = s.tree;
+        header = s.header;
+        header_made = s.header_read;
+        index_made = s.index_read;
+        raw_made = made.1;
+        bases_drawn = below.drawn_are;
+      } in
       subst (FlatFound glyph) (sym known.1) (record {
-        raw = some_read (raw_read glyph (items p same_id id)) made.0 raw;
-        index = some_read (index_read (items p same_id id)) s.index index;
-        glyph_is = λ i a. as_read (λ i. In glyph (p.numbers i)) (index_read (items p same_id id))
-            s.index i index a (from_numbers s glyph known.0.0);
-        raw_is = λ r i a b. as_read (λ r. IsReadOf i glyph r) (raw_read glyph (items p same_id id))
-            made.0 r raw a (as_read (λ i. IsReadOf i glyph made.0)
-            (index_read (items p same_id id)) s.index i index b is);
+        raw = some_read (raw_read glyph rs) made.0 raw;
+        index = some_read (index_read rs) s.index index;
+        flats = λ r i a b. as_read (λ r. IsSome (flats_read (p.bases r i) rs))
+            (raw_read glyph rs) made.0 r raw a
+            (as_read (λ i. IsSome (flats_read (p.bases made.0 i) rs)) (index_read rs) s.index i
+            index b (some_read (flats_read (p.bases made.0 s.index) rs) below.flats flats));
+        glyph_is = λ i a. as_read (λ i. In glyph (p.all i)) (index_read rs) s.index i index a
+            (in_all s glyph known.0.0);
+        raw_is = λ r i a b. as_read (λ r. IsReadOf i glyph r) (raw_read glyph rs) made.0 r raw a
+            (as_read (λ i. IsReadOf i glyph made.0) (index_read rs) s.index i index b is);
+        flats_are = λ r i fs a b e.
+            as_read (λ r. (fs : List p.Flat) → flats_read (p.bases r i) rs ≡ Some fs
+            → HasBasesOf i glyph r fs) (raw_read glyph rs) made.0 r raw a
+            (as_read (λ i. (fs : List p.Flat) → flats_read (p.bases made.0 i) rs ≡ Some fs
+            → HasBasesOf i glyph made.0 fs) (index_read rs) s.index i index b
+            (λ fs f. as_read (λ fs. HasBasesOf s.index glyph made.0 fs)
+            (flats_read (p.bases made.0 s.index) rs) below.flats fs flats f has)) fs e;
       })
 
   -- a glyph was drawn so, of this header
@@ -323,52 +390,39 @@ module _ (p : Parts) where
     pub tree : p.Tree
     pub index : p.Index
     pub glyph : ℕ
-    pub raw : p.Raw
     pub header_made : p.header tree ≡ Ok header
     pub index_made : p.index tree ≡ Ok index
-    pub raw_made : p.raw tree header index glyph ≡ Ok raw
-    pub flat_made : p.flat raw index ≡ Ok flat
+    pub drawn_so : DrawnSo p tree header index glyph flat
 
   pub record SimpleFound (glyph : ℕ) (reads : Reads) : Type 0 where
     pub header : IsSome (header_read reads)
     pub flat : IsSome (flat_read glyph reads)
     pub flat_is : (h : p.Header) (f : p.Flat) → header_read reads ≡ Some h
         → flat_read glyph reads ≡ Some f → IsDrawnOf h f
+    pub is_simple : (f : p.Flat) → flat_read glyph reads ≡ Some f → p.is_composite f ≡ false
 
-  record Drawing (s : Source p) (glyph : ℕ) : Type 0 where
-    raw : p.Raw
-    flat : p.Flat
-    raw_made : p.raw s.tree s.header s.index glyph ≡ Ok raw
-    flat_made : p.flat raw s.index ≡ Ok flat
-    flat_is : flat_value p same_id glyph ≡ Done (an.Flat flat)
+  -- a flat glyph is of the kind of the job of its data
+  same_kind : (a b : Bool) → ◌≡◌ {A = Option Bool} (Some a) (Some b) → a ≡ b
+  same_kind a b e = cc
+
+  pub kind_so : (glyph : ℕ) (flat : p.Flat) (kind : Bool)
+      → flat_value p same_id glyph ≡ Done (an.Flat flat) → kind_of p same_id glyph ≡ Some kind
+      → p.is_composite flat ≡ kind
+  kind_so glyph flat kind is e = same_kind (p.is_composite flat) kind
+      (sym (kind_is p same_id identity glyph flat is) ∙ e)
 
   drawing : (s : Source p) (glyph : ℕ) → is_done (flat_value p same_id glyph) ≡ true
-      → Drawing s glyph
-  drawing s glyph done =
-      let raw = answered p same_id identity an.Raw (p.raw s.tree s.header s.index glyph)
-      (raw_value p same_id glyph)
-      (raw_by p same_id identity s.tree (tree_is p s) s.header s.index (header_is p s) (index_is p s) glyph)
-      (raw_done p same_id identity glyph done) in
-      let flat = answered p same_id identity an.Flat (p.flat raw.0 s.index)
-      (flat_value p same_id glyph) (flat_by p same_id identity s.tree (tree_is p s) s.header s.index (header_is p s) (index_is p s) glyph raw.0 raw.2) done in
-      record {
-        raw = raw.0;
-        flat = flat.0;
-        raw_made = raw.1;
-        flat_made = flat.1;
-        flat_is = flat.2;
-      }
+      → FlatMade p s glyph
+  drawing s glyph done = flat_made p s glyph done
 
-  drawing_of : (s : Source p) (glyph : ℕ) (d : Drawing s glyph) → IsDrawnOf s.header d.flat
+  drawing_of : (s : Source p) (glyph : ℕ) (d : FlatMade p s glyph) → IsDrawnOf s.header d.0
   drawing_of s glyph d = record {
     tree = s.tree;
     index = s.index;
     glyph = glyph;
-    raw = d.raw;
     header_made = s.header_read;
     index_made = s.index_read;
-    raw_made = d.raw_made;
-    flat_made = d.flat_made;
+    drawn_so = d.1;
   }
 
   pub simple_finds : (glyph : ℕ) (reads : Reads) → Due (job.Simple glyph) reads
@@ -382,27 +436,28 @@ module _ (p : Parts) where
       let s = raw_source p glyph (raw_done p same_id identity glyph flat_done) in
       let made = drawing s glyph flat_done in
       let header = header_known s id (inl refl) in
-      let flat : flat_read glyph (items p same_id id) ≡ Some made.flat
+      let flat : flat_read glyph (items p same_id id) ≡ Some made.0
       = read_is p same_id identity (as_flat p) (reads_with p same_id (numbers p same_id) id)
-      (job.Flat glyph) (an.Flat made.flat) made.flat (inr (inl refl)) made.flat_is refl in
+      (job.Flat glyph) (an.Flat made.0) made.0 (inr (inl refl)) made.2 refl in
       subst (SimpleFound glyph) (sym known.1) (record {
         header = some_read (header_read (items p same_id id)) s.header header;
-        flat = some_read (flat_read glyph (items p same_id id)) made.flat flat;
+        flat = some_read (flat_read glyph (items p same_id id)) made.0 flat;
         flat_is = λ h f a b. as_read (λ h. IsDrawnOf h f) (header_read (items p same_id id))
             s.header h header a (as_read (λ f. IsDrawnOf s.header f)
-            (flat_read glyph (items p same_id id)) made.flat f flat b (drawing_of s glyph made));
+            (flat_read glyph (items p same_id id)) made.0 f flat b (drawing_of s glyph made));
+        is_simple = λ f a. as_read (λ f. p.is_composite f ≡ false)
+            (flat_read glyph (items p same_id id)) made.0 f flat a
+            (kind_so glyph made.0 false made.2 known.0.1);
       })
 
   -- a glyph was drawn so, of this header and this index
   pub record IsDrawnIn (header : p.Header) (index : p.Index) (flat : p.Flat) : Type 0 where
     pub tree : p.Tree
     pub glyph : ℕ
-    pub raw : p.Raw
     pub header_made : p.header tree ≡ Ok header
     pub index_made : p.index tree ≡ Ok index
     pub glyph_is : In glyph (p.numbers index)
-    pub raw_made : p.raw tree header index glyph ≡ Ok raw
-    pub flat_made : p.flat raw index ≡ Ok flat
+    pub drawn_so : DrawnSo p tree header index glyph flat
 
   pub record VariationsFound (glyph : ℕ) (reads : Reads) : Type 0 where
     pub header : IsSome (header_read reads)
@@ -423,28 +478,26 @@ module _ (p : Parts) where
       let made = drawing s glyph flat_done in
       let header = header_known s id (inl refl) in
       let index = index_known s id (inr (inl refl)) in
-      let flat : flat_read glyph (items p same_id id) ≡ Some made.flat
+      let flat : flat_read glyph (items p same_id id) ≡ Some made.0
       = read_is p same_id identity (as_flat p) (reads_with p same_id (numbers p same_id) id)
-      (job.Flat glyph) (an.Flat made.flat) made.flat (inr (inr (inl refl))) made.flat_is refl in
-      let is : IsDrawnIn s.header s.index made.flat = record {
+      (job.Flat glyph) (an.Flat made.0) made.0 (inr (inr (inl refl))) made.2 refl in
+      let is : IsDrawnIn s.header s.index made.0 = record {
         tree = s.tree;
         glyph = glyph;
-        raw = made.raw;
         header_made = s.header_read;
         index_made = s.index_read;
         glyph_is = from_numbers s glyph (varied_in p same_id glyph known.0.0).0;
-        raw_made = made.raw_made;
-        flat_made = made.flat_made;
+        drawn_so = made.1;
       } in
       subst (VariationsFound glyph) (sym known.1) (record {
         header = some_read (header_read (items p same_id id)) s.header header;
         index = some_read (index_read (items p same_id id)) s.index index;
-        flat = some_read (flat_read glyph (items p same_id id)) made.flat flat;
+        flat = some_read (flat_read glyph (items p same_id id)) made.0 flat;
         flat_is = λ h i f a b c. as_read (λ h. IsDrawnIn h i f)
             (header_read (items p same_id id)) s.header h header a
             (as_read (λ i. IsDrawnIn s.header i f) (index_read (items p same_id id)) s.index i
             index b (as_read (λ f. IsDrawnIn s.header s.index f)
-            (flat_read glyph (items p same_id id)) made.flat f flat c is));
+            (flat_read glyph (items p same_id id)) made.0 f flat c is));
       })
 
   -- ---- jobs that read all glyphs
@@ -454,7 +507,9 @@ module _ (p : Parts) where
       → ((glyph : ℕ) → In glyph (exported p same_id)
       → In (job.Flat glyph) (reads_with p same_id (numbers p same_id) id))
       → flats_read (p.numbers s.index) (items p same_id id) ≡ Some g.flats
-  flats_known s g id there = read_all_is p same_id identity s.tree (tree_is p s) s.header s.index (header_is p s) (index_is p s) (as_flat p) id job.Flat an.Flat (λ flat. refl) (p.numbers s.index)
+  flats_known s g id there = read_all_is p same_id identity s.tree (tree_is p s) s.header s.index
+      (header_is p s) (index_is p s) (as_flat p) id job.Flat (λ glyph. an.Flat)
+      (λ glyph flat. refl) (p.numbers s.index)
       g.flats (flats_are p s g) (λ n i. there n (into_numbers s n i))
 
   pub record OrderFound (reads : Reads) : Type 0 where
@@ -498,7 +553,8 @@ module _ (p : Parts) where
       (reads_with p same_id (numbers p same_id) id) job.Order (an.Order k.o.order) k.o.order there
       (order_is p k.s k.d k.o) refl
 
-  pub are_in_order : (k : InOrder p) → AreInOrder p k.s.header k.s.index k.d.flats k.o.order
+  unfoldable pub are_in_order : (k : InOrder p) → AreInOrder p k.s.header k.s.index k.d.flats
+      k.o.order
   are_in_order k = record {
     tree = k.s.tree;
     tree_read = k.s.tree_read;
@@ -507,6 +563,57 @@ module _ (p : Parts) where
     glyphs_drawn = k.d.glyphs_drawn;
     glyphs_ordered = k.o.glyphs_ordered;
   }
+
+  -- a composite was drawn so, and its font's glyphs ordered
+  pub record IsCompositeOf (header : p.Header) (order : p.Order) (flat : p.Flat) : Type 0 where
+    pub index : p.Index
+    pub flats : List p.Flat
+    pub in_order : AreInOrder p header index flats order
+    pub glyph : ℕ
+    pub glyph_is : In glyph (p.numbers index)
+    pub drawn_so : DrawnSo p in_order.tree header index glyph flat
+    pub is_composite : p.is_composite flat ≡ true
+
+  pub record CompositeFound (glyph : ℕ) (reads : Reads) : Type 0 where
+    pub header : IsSome (header_read reads)
+    pub order : IsSome (order_read reads)
+    pub flat : IsSome (flat_read glyph reads)
+    pub flat_is : (h : p.Header) (o : p.Order) (f : p.Flat) → header_read reads ≡ Some h
+        → order_read reads ≡ Some o → flat_read glyph reads ≡ Some f → IsCompositeOf h o f
+
+  pub composite_finds : (glyph : ℕ) (reads : Reads) → Due (job.Composite glyph) reads
+      → all_done reads ≡ true → CompositeFound glyph reads
+  unfolding are_in_order
+  composite_finds glyph reads d done =
+      let id = job.Composite glyph in
+      let known = due p id reads d in
+      let rs = items p same_id id in
+      let all : all_done rs ≡ true = subst (λ rs. all_done rs ≡ true) known.1 done in
+      let k = in_order p (done_of id all job.Order (inr (inl refl))) in
+      let made = drawing k.s glyph (done_of id all (job.Flat glyph) (inr (inr (inl refl)))) in
+      let header = header_known k.s id (inl refl) in
+      let order = order_known k id (inr (inl refl)) in
+      let flat : flat_read glyph rs ≡ Some made.0
+      = read_is p same_id identity (as_flat p) (reads_with p same_id (numbers p same_id) id)
+      (job.Flat glyph) (an.Flat made.0) made.0 (inr (inr (inl refl))) made.2 refl in
+      let is : IsCompositeOf k.s.header k.o.order made.0 = record {
+        index = k.s.index;
+        flats = k.d.flats;
+        in_order = are_in_order k;
+        glyph = glyph;
+        glyph_is = from_numbers k.s glyph known.0.0;
+        drawn_so = made.1;
+        is_composite = kind_so glyph made.0 true made.2 known.0.1;
+      } in
+      subst (CompositeFound glyph) (sym known.1) (record {
+        header = some_read (header_read rs) k.s.header header;
+        order = some_read (order_read rs) k.o.order order;
+        flat = some_read (flat_read glyph rs) made.0 flat;
+        flat_is = λ h o f a b c. as_read (λ h. IsCompositeOf h o f) (header_read rs) k.s.header h
+            header a (as_read (λ o. IsCompositeOf k.s.header o f) (order_read rs) k.o.order o order
+            b (as_read (λ f. IsCompositeOf k.s.header k.o.order f) (flat_read glyph rs) made.0 f
+            flat c is));
+      })
 
   abbrev IsOrderedOf : p.Header → p.Order → List p.Flat → Type 0
   IsOrderedOf header order flats = (index : p.Index) × AreInOrder p header index flats order
@@ -570,12 +677,13 @@ module _ (p : Parts) where
 
     abbrev TableReads : Needs → Reads
     TableReads needs = map (with_value p same_id)
-        (job.Header ∷ job.Order ∷ needed (numbers p same_id) needs)
+        (job.Header ∷ job.Order ∷ needed (part_ids p same_id) (varied p same_id) needs)
 
     abbrev HasValue : JobId → Type 0
     HasValue id = is_done (value_of p same_id id) ≡ true
 
-    found : (needs : Needs) → ((id : JobId) → In id (needed (numbers p same_id) needs)
+    found : (needs : Needs) → ((id : JobId) → In id (needed (part_ids p same_id) (varied p same_id)
+        needs)
         → HasValue id) → Found k needs (TableReads needs)
     found Nothing all = record { more = nothing; more_is = refl; is_extra = tt }
     found TheIndex all = record {
@@ -605,11 +713,13 @@ module _ (p : Parts) where
         }
     found TheOutlines all =
         let made = writings p same_id identity k.s.tree (tree_is p k.s) k.s.header k.s.index
-        (header_is p k.s) (index_is p k.s) (p.numbers k.s.index) k.d.flats (flats_are p k.s k.d)
-        (λ n i. all (job.Simple n)
-        (map-In job.Simple (exported p same_id) n (into_numbers k.s n i))) in
+        (header_is p k.s) (index_is p k.s) k.o.order (order_is p k.s k.d k.o)
+        (p.numbers k.s.index) k.d.flats (flats_are p k.s k.d)
+        (λ n i. all (part_of p same_id n)
+        (map-In (part_of p same_id) (exported p same_id) n (into_numbers k.s n i))) in
         let valued = all_written p same_id identity k.s.tree (tree_is p k.s) k.s.header k.s.index
-        (header_is p k.s) (index_is p k.s) (p.numbers k.s.index) k.d.flats made.parts
+        (header_is p k.s) (index_is p k.s) k.o.order (order_is p k.s k.d k.o)
+        (p.numbers k.s.index) k.d.flats made.parts
         (flats_are p k.s k.d) made.written_are in
         record {
           more = with_data made.parts;
@@ -719,7 +829,7 @@ module _ (p : Parts) where
   pub record TablesMade (k : InOrder p) (tags : List Tag) : Type 0 where
     pub tables : List p.Table
     pub valued : Valued p same_id identity k.s.tree (tree_is p k.s) k.s.header k.s.index
-        (header_is p k.s) (index_is p k.s) job.Table an.Table tags tables
+        (header_is p k.s) (index_is p k.s) job.Table (λ tag. an.Table) tags tables
     pub are : AreTablesOf p tags tables
 
   pub tables_made : (k : InOrder p) (tags : List Tag)
@@ -752,7 +862,7 @@ module _ (p : Parts) where
       let rs = items p same_id id in
       let read : tables_read rs ≡ Some m.tables = read_all_is p same_id identity k.s.tree
       (tree_is p k.s) k.s.header k.s.index (header_is p k.s) (index_is p k.s) (as_table p) id
-      job.Table an.Table (λ made. refl) p.tags m.tables m.valued
+      job.Table (λ tag. an.Table) (λ tag made. refl) p.tags m.tables m.valued
       (λ tag i. map-In job.Table p.tags tag i) in
       subst FontFound (sym known.1) (record {
         tables = some_read (tables_read rs) m.tables read;

@@ -1,17 +1,25 @@
 -- Where no job of a source fails its font is made: each part is asked, and answers. Lemmas.
-use Rattle.std.proofs.Common.{◌≡◌, ℕ, true, Result, Ok, Err, refl, sym, ◌∙◌, subst}
+use Rattle.std.proofs.Common.{◌≡◌, ℕ, zero, suc, Bool, true, false, inl, inr, length}
+use Rattle.std.proofs.Common.{Some, Result, Ok, Err, refl, sym, ap, ◌∙◌, subst}
+use Rattle.std.specs.Prelude.{option_and_then}
+use Rattle.std.proofs.lemmas.Bool.{cases_Bool}
 use Rattle.refusal_codes.specs.declared.refusal.Refusal.{Refusal}
-use Rattle.access_context.specs.Plain.{Done, is_done}
+use Rattle.access_context.specs.Plain.{Done, is_done, done_value}
 use Rattle.font_ir.specs.declared.tag.Tag.{Tag}
 use Rattle.job_graph.specs.Members.{In}
 use Rattle.font_graph.specs.Parts.{Parts}
 use Rattle.font_graph.specs.Fonts.{IsFontOf}
 use Rattle.font_graph.specs.Graph.{Item, settle, none, exported, varied, varied_of, value_of, There}
-use Rattle.font_graph.specs.Graph.{tree_value, variations_value}
-use Rattle.font_graph.specs.Graph.{header_value, index_value, raw_value, flat_value, simple_value}
+use Rattle.font_graph.specs.Descent.{none_at_once, ended_base}
+use Rattle.font_graph.specs.Graph.{tree_value, variations_value, all, bases, is_read, is_found}
+use Rattle.font_graph.specs.Graph.{is_found_within, kind_of, part_in, part_of, part_job}
+use Rattle.font_graph.specs.Graph.{as_raw, as_index, Reached, by_export, by_base}
+use Rattle.font_graph.specs.Graph.{header_value, index_value, raw_value, flat_value}
 use Rattle.font_graph.specs.Graph.{order_value, advances_value, table_value, font_value}
+use Rattle.font_graph.specs.Made.{bases_are, part_by, item_of, kind_is, drawing, all_drawn}
+use Rattle.font_graph.specs.Failing.{stuck_fails}
 use Rattle.font_graph.specs.Made.{plain_of, settle_value, answered, of_answer, is_done_by, tree_by}
-use Rattle.font_graph.specs.Made.{header_by, index_by, raw_by, flat_by, simple_by, order_by}
+use Rattle.font_graph.specs.Made.{header_by, index_by, raw_by, flat_by, order_by}
 use Rattle.font_graph.specs.Made.{advances_by, font_by, in_numbers, drawings, writings, varyings}
 use Rattle.font_graph.specs.Made.{variations_by, varied_are, tables_of}
 use Rattle.font_graph.specs.Solved.{varied_in}
@@ -34,7 +42,7 @@ module _ (p : Parts) (sound : (id : JobId) (r : Refusal) → Fails p id r → �
       (of_answer p same_id identity item (Ok a) (value_of p same_id id) a e refl)
   answers item (Err r) id there e = absurd (sound id r (record {
     there = there;
-    refused = e ∙ sym (settle_value p same_id identity item (none p same_id) (Err r));
+    refused = inl (e ∙ sym (settle_value p same_id identity item (none p same_id) (Err r)));
   }))
 
   abbrev Made : Type 0
@@ -43,47 +51,93 @@ module _ (p : Parts) (sound : (id : JobId) (r : Refusal) → Fails p id r → �
   module _ (s : Source p) where
     -- ---- the glyphs
 
-    raw_done : (glyph : ℕ) → In glyph (exported p same_id)
+    raw_done : (glyph : ℕ) → Reached p same_id glyph
         → is_done (raw_value p same_id glyph) ≡ true
-    raw_done glyph i = answers an.Raw (p.raw s.tree s.header s.index glyph) (job.Raw glyph) i
-        (raw_by p same_id identity s.tree (tree_is p s) s.header s.index (header_is p s)
+    raw_done glyph reached = answers an.Raw (p.raw s.tree s.header s.index glyph) (job.Raw glyph)
+        reached (raw_by p same_id identity s.tree (tree_is p s) s.header s.index (header_is p s)
         (index_is p s) glyph)
 
-    raw_at : (glyph : ℕ) → In glyph (exported p same_id)
+    raw_at : (glyph : ℕ) → Reached p same_id glyph
         → (raw : p.Raw) × (raw_value p same_id glyph ≡ Done (an.Raw raw))
-    raw_at glyph i =
+    raw_at glyph reached =
         let raw = answered p same_id identity an.Raw (p.raw s.tree s.header s.index glyph)
         (raw_value p same_id glyph) (raw_by p same_id identity s.tree (tree_is p s) s.header s.index
-        (header_is p s) (index_is p s) glyph) (raw_done glyph i) in
+        (header_is p s) (index_is p s) glyph) (raw_done glyph reached) in
         (raw.0, raw.2)
 
-    flat_by_raw : (glyph : ℕ) (raw : p.Raw) → raw_value p same_id glyph ≡ Done (an.Raw raw)
-        → flat_value p same_id glyph ≡ plain_of p same_id identity an.Flat (p.flat raw s.index)
-    flat_by_raw = flat_by p same_id identity s.tree (tree_is p s) s.header s.index (header_is p s)
-        (index_is p s)
+    -- none is stuck, since none that it leads to fails
+    all_found : (glyph : ℕ) → Reached p same_id glyph → is_found p same_id glyph ≡ true
+    all_found glyph reached = elim (cases_Bool (is_found p same_id glyph)) [
+      | inl is ↦ is
+      | inr not ↦ stuck not
+    ]
+      where
+        stuck : is_found p same_id glyph ≡ false → is_found p same_id glyph ≡ true
+        stuck not =
+            let raw = raw_at glyph reached in
+            absurd (sound (job.Flat glyph) (p.endless raw.0 s.index)
+            (stuck_fails p glyph (p.endless raw.0 s.index) (record {
+              there = (reached, raw_done glyph reached);
+              raw = raw.0;
+              index = s.index;
+              raw_is = ap (λ v. option_and_then (as_raw p) (done_value v)) raw.1;
+              index_is = ap (λ v. option_and_then (as_index p) (done_value v)) (index_is p s);
+              not_found = not;
+              refusal_is = refl;
+            }) (λ less. sound (job.Raw less.other) less.refusal less.fails)))
+
+    drawn_within : (depth glyph : ℕ) → is_found_within p same_id depth glyph ≡ true
+        → Reached p same_id glyph → is_done (flat_value p same_id glyph) ≡ true
+    drawn_within zero glyph e reached =
+        absurd (none_at_once (bases p same_id) (is_read p same_id) glyph e)
+    drawn_within (suc depth) glyph e reached =
+        let raw = raw_at glyph reached in
+        let below = drawings p same_id identity s.tree (tree_is p s) s.header s.index
+        (header_is p s) (index_is p s) (p.bases raw.0 s.index) (λ base i.
+        let there = subst (λ bs. In base bs) (sym (bases_are p same_id identity s.tree (tree_is p s)
+        s.header s.index (header_is p s) (index_is p s) glyph raw.0 raw.1)) i in
+        drawn_within depth base
+        (ended_base (bases p same_id) (is_read p same_id) depth glyph base e there)
+        (by_base glyph base reached there)) in
+        answers an.Flat (p.flat raw.0 s.index below.flats) (job.Flat glyph)
+        (reached, raw_done glyph reached)
+        (flat_by p same_id identity s.tree (tree_is p s) s.header s.index (header_is p s)
+        (index_is p s) glyph raw.0 below.flats raw.1
+        (all_drawn p same_id identity s.tree (tree_is p s) s.header s.index (header_is p s)
+        (index_is p s) (p.bases raw.0 s.index) below.flats below.drawn_are))
 
     flat_done : (glyph : ℕ) → In glyph (exported p same_id)
         → is_done (flat_value p same_id glyph) ≡ true
-    flat_done glyph i =
-        let raw = raw_at glyph i in
-        answers an.Flat (p.flat raw.0 s.index) (job.Flat glyph) (i, raw_done glyph i)
-        (flat_by_raw glyph raw.0 raw.1)
+    flat_done glyph i = drawn_within (suc (length (all p same_id))) glyph
+        (all_found glyph (by_export glyph i)) (by_export glyph i)
 
     flat_at : (glyph : ℕ) → In glyph (exported p same_id)
         → (flat : p.Flat) × (flat_value p same_id glyph ≡ Done (an.Flat flat))
     flat_at glyph i =
-        let raw = raw_at glyph i in
-        let flat = answered p same_id identity an.Flat (p.flat raw.0 s.index)
-        (flat_value p same_id glyph) (flat_by_raw glyph raw.0 raw.1) (flat_done glyph i) in
-        (flat.0, flat.2)
+        let flat = drawing p same_id identity s.tree (tree_is p s) s.header s.index (header_is p s)
+        (index_is p s) glyph (flat_done glyph i) in
+        (flat.flat, flat.flat_is)
 
-    simple_done : (glyph : ℕ) → In glyph (exported p same_id)
-        → is_done (simple_value p same_id glyph) ≡ true
-    simple_done glyph i =
+    part_done : (order : p.Order) → order_value p same_id ≡ Done (an.Order order) → (glyph : ℕ)
+        → In glyph (exported p same_id)
+        → is_done (value_of p same_id (part_of p same_id glyph)) ≡ true
+    part_done order order_so glyph i =
         let flat = flat_at glyph i in
-        answers an.Simple (p.simple s.header flat.0) (job.Simple glyph) (i, flat_done glyph i)
-        (simple_by p same_id identity s.tree (tree_is p s) s.header s.index (header_is p s)
-        (index_is p s) glyph flat.0 flat.1)
+        let kind = kind_is p same_id identity glyph flat.0 flat.1 in
+        subst (λ k. is_done (value_of p same_id (part_in p same_id k glyph)) ≡ true) (sym kind)
+        (by flat.0 flat.1 (p.is_composite flat.0) kind)
+      where
+        by : (flat : p.Flat) → flat_value p same_id glyph ≡ Done (an.Flat flat) → (kind : Bool)
+            → kind_of p same_id glyph ≡ Some kind
+            → is_done (value_of p same_id (part_job kind glyph)) ≡ true
+        by flat is true e = answers (item_of p same_id identity (Some true))
+            (p.composite s.header order flat) (job.Composite glyph) (i, e)
+            (part_by p same_id identity s.tree (tree_is p s) s.header s.index (header_is p s)
+            (index_is p s) glyph order flat true order_so is)
+        by flat is false e = answers (item_of p same_id identity (Some false))
+            (p.simple s.header flat) (job.Simple glyph) (i, e)
+            (part_by p same_id identity s.tree (tree_is p s) s.header s.index (header_is p s)
+            (index_is p s) glyph order flat false order_so is)
 
     variations_done : (glyph : ℕ) → In glyph (varied p same_id)
         → is_done (variations_value p same_id glyph) ≡ true
@@ -91,7 +145,7 @@ module _ (p : Parts) (sound : (id : JobId) (r : Refusal) → Fails p id r → �
         let exported_so = (varied_in p same_id glyph i).0 in
         let flat = flat_at glyph exported_so in
         answers an.Variations (p.variations s.header s.index flat.0) (job.Variations glyph)
-        (i, raw_done glyph exported_so)
+        (i, raw_done glyph (by_export glyph exported_so))
         (variations_by p same_id identity s.tree (tree_is p s) s.header s.index (header_is p s)
         (index_is p s) glyph flat.0 flat.1)
 
@@ -174,8 +228,9 @@ module _ (p : Parts) (sound : (id : JobId) (r : Refusal) → Fails p id r → �
             (answers an.Advances (p.measures s.header o.order d.flats) job.Advances order_done
             measures_by) in
             let written = writings p same_id identity s.tree (tree_is p s) s.header s.index
-            (header_is p s) (index_is p s) (p.numbers s.index) d.flats (flats_are p s d)
-            (λ glyph i. simple_done glyph (known glyph i)) in
+            (header_is p s) (index_is p s) o.order (order_is p s d o) (p.numbers s.index) d.flats
+            (flats_are p s d)
+            (λ glyph i. part_done o.order (order_is p s d o) glyph (known glyph i)) in
             let varying_so = varyings p same_id identity s.tree (tree_is p s) s.header s.index
             (header_is p s) (index_is p s) (p.numbers s.index) d.flats (flats_are p s d)
             (λ glyph i. variations_done glyph (known_varied glyph i)) in

@@ -5,12 +5,13 @@ use Rattle.refusal_codes.specs.declared.refusal.Refusal.{Refusal}
 use Rattle.access_context.specs.Plain.{Done}
 use Rattle.font_ir.specs.declared.tag.Tag.{Tag}
 use Rattle.font_graph.specs.Parts.{Parts}
-use Rattle.font_graph.specs.Fonts.{AllMade, drawn, varying, table}
+use Rattle.font_graph.specs.Fonts.{AllMade, AllDrawn, part, varying, table}
 use Rattle.font_graph.specs.Graph.{Item, tree_value, header_value, index_value, order_value}
-use Rattle.font_graph.specs.Graph.{advances_value, table_value, varied_of}
+use Rattle.font_graph.specs.Graph.{advances_value, table_value, varied_of, part_of}
 use Rattle.font_graph.specs.Made.{plain_of, of_answer, tree_by, header_by, index_by, Valued}
-use Rattle.font_graph.specs.Made.{order_by, advances_by, table_by, all_drawn, all_written, all_varied}
-use Rattle.font_graph.specs.Made.{all_made}
+use Rattle.font_graph.specs.Made.{order_by, advances_by, table_by, all_drawn, all_written}
+use Rattle.font_graph.specs.Made.{all_varied}
+use Rattle.font_graph.specs.Made.{all_made, part_item}
 use Rattle.font_graph.specs.Same.{same_id, identity}
 use Rattle.font_graph.specs.declared.ids.JobId.{JobId}
 use Rattle.font_graph.specs.declared.ids.JobId.TheVariants as job
@@ -40,17 +41,18 @@ module _ (p : Parts) where
         s.index (index_by p same_id identity s.tree tree_is) s.index_read
 
     -- each of these jobs has its value
-    abbrev pub AreValued : {X A : Type 0} → (X → JobId) → (A → Item p) → List X → List A → Type 0
+    abbrev pub AreValued : {X A : Type 0} → (X → JobId) → (X → A → Item p)
+        → List X → List A → Type 0
     AreValued make item xs answers = Valued p same_id identity s.tree tree_is s.header s.index
         header_is index_is make item xs answers
 
     -- its glyphs are drawn
     pub record Drawn : Type 0 where
       pub flats : List p.Flat
-      pub glyphs_drawn : AllMade (drawn p s.tree s.header s.index) (p.numbers s.index) flats
+      pub glyphs_drawn : AllDrawn p s.tree s.header s.index (p.numbers s.index) flats
 
     module _ (d : Drawn) where
-      pub flats_are : AreValued job.Flat an.Flat (p.numbers s.index) d.flats
+      pub flats_are : AreValued job.Flat (λ glyph. an.Flat) (p.numbers s.index) d.flats
       flats_are = all_drawn p same_id identity s.tree tree_is s.header s.index header_is index_is
           (p.numbers s.index) d.flats d.glyphs_drawn
 
@@ -71,7 +73,7 @@ module _ (p : Parts) where
           pub parts : List p.Data
           pub variations : List p.Data
           pub glyphs_measured : p.measures s.header o.order d.flats ≡ Ok measures
-          pub glyphs_written : AllMade (p.simple s.header) d.flats parts
+          pub glyphs_written : AllMade (part p s.header o.order) d.flats parts
           pub glyphs_varied : AllMade (p.variations s.header s.index) (varying p s.header d.flats)
               variations
 
@@ -82,11 +84,13 @@ module _ (p : Parts) where
               (advances_by p same_id identity s.tree tree_is s.header s.index header_is index_is
               d.flats flats_are o.order order_is) w.glyphs_measured
 
-          pub parts_are : AreValued job.Simple an.Simple (p.numbers s.index) w.parts
+          pub parts_are : AreValued (part_of p same_id) (part_item p same_id identity)
+              (p.numbers s.index) w.parts
           parts_are = all_written p same_id identity s.tree tree_is s.header s.index header_is
-              index_is (p.numbers s.index) d.flats w.parts flats_are w.glyphs_written
+              index_is o.order order_is (p.numbers s.index) d.flats w.parts flats_are
+              w.glyphs_written
 
-          pub variations_are : AreValued job.Variations an.Variations
+          pub variations_are : AreValued job.Variations (λ glyph. an.Variations)
               (varied_of (p.is_variable s.header) (p.numbers s.index)) w.variations
           variations_are = all_varied p same_id identity s.tree tree_is s.header s.index header_is
               index_is (p.numbers s.index) d.flats w.variations flats_are w.glyphs_varied
@@ -97,7 +101,8 @@ module _ (p : Parts) where
           pub tables_by : (tag : Tag)
               → table_value p same_id tag ≡ plain_of p same_id identity an.Table (make_table tag)
           tables_by = table_by p same_id identity s.tree tree_is s.header s.index header_is index_is
-              d.flats flats_are o.order order_is w.measures measures_are w.parts w.variations parts_are
+              d.flats flats_are o.order order_is w.measures measures_are w.parts w.variations
+              parts_are
               variations_are
 
           -- and the tables are made
@@ -105,6 +110,6 @@ module _ (p : Parts) where
             pub tables : List p.Table
             pub tables_made : AllMade make_table p.tags tables
 
-          pub tables_are : (t : Tabled) → AreValued job.Table an.Table p.tags t.tables
+          pub tables_are : (t : Tabled) → AreValued job.Table (λ tag. an.Table) p.tags t.tables
           tables_are t = all_made p same_id identity s.tree tree_is s.header s.index header_is
               index_is make_table tables_by p.tags t.tables t.tables_made

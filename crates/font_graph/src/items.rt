@@ -13,6 +13,8 @@ pub enum Item<Tree, Header, Index, Raw, Flat, Data, Order, Measures, Table, File
     Flat(Flat),
     /// A simple glyph's data in the table "glyf".
     Simple(Data),
+    /// A composite glyph's data in the table "glyf".
+    Composite(Data),
     /// A glyph's data in the table "gvar".
     Variations(Data),
     /// The order of the font's glyphs.

@@ -1,34 +1,35 @@
 -- What each job of a source finds where it is run, as its calls need it.
 use Rattle.std.proofs.Common.{◌≡◌, ℕ, suc, ◌<◌, ◌≤◌, ◌+◌, List, [], ◌∷◌, map, length, take, Option}
 use Rattle.std.proofs.Common.{Some, None, Result, Ok, Err, refl, sym, ap, ◌∙◌, true, false, subst}
-use Rattle.std.proofs.Common.{Bool, arith}
-use Rattle.std.specs.Prelude.{IsSome, option_and_then, if◌then◌else◌}
+use Rattle.std.proofs.Common.{Bool, arith, true≢false}
+use Rattle.std.specs.Prelude.{IsSome, option_and_then, if◌then◌else◌, not, nat_eq}
 use Rattle.std.specs.List.{All, AllByRecursion}
 use Rattle.std.specs.Option.{option_map}
 use Rattle.std.proofs.lemmas.Simd.{map-map}
+use Rattle.std.proofs.lemmas.Bool.Decides.{nat_tests}
 use Rattle.refusal_codes.specs.declared.limits.TheConstants.{GLYPHS}
 use Rattle.refusal_codes.specs.declared.refusal.Refusal.{Refusal}
-use Rattle.plist_reader.specs.declared.tree.Tree.{Tree}
 use Rattle.font_ir.specs.declared.header.Header.{Header}
 use Rattle.font_ir.specs.declared.header.Master.{Master}
 use Rattle.font_ir.specs.declared.glyph.GlyphIr.{GlyphIr}
+use Rattle.font_ir.specs.declared.glyph.Kept.{Kept}
 use Rattle.font_ir.specs.declared.glyph.FlatGlyph.{FlatGlyph}
 use Rattle.font_ir.specs.declared.tag.Tag.{Tag}
 use Rattle.font_ir.specs.FlatGlyphs.{IsFlatGlyph}
 use Rattle.font_ir.specs.Glyphs.{Glyphs}
 use Rattle.font_ir.specs.Headers.{IsHeader}
 use Rattle.font_ir.specs.Notdef.{made_notdef_of}
-use Rattle.glyphs_source.specs.HeaderReading.{header_of}
-use Rattle.glyphs_layers.specs.SourceGlyphs.{ReadGlyphsAreWhole}
+use Rattle.component_flatten.specs.Flattening.{IsBase, HasBases}
 use Rattle.metrics_tables.specs.declared.measures.Measures.{Measures}
 use Rattle.metrics_tables.specs.declared.measures.MeasureError.{MeasureError}
 use Rattle.metrics_tables.specs.Changes.{BeginsWithMasters}
 use Rattle.metrics_tables.specs.Hvar.{AreMeasuresFor}
 use Rattle.metrics_tables.specs.Measuring.{measured_of}
+use Rattle.metrics_tables.specs.Nesting.{NoneLeadsToItself, bases_in as bases_in_order}
 use Rattle.character_codes.specs.CharacterCodes.{Entry}
 use Rattle.font_tables.specs.Tags.{group_of}
 use Rattle.font_tables.specs.declared.tags.TableGroup.{TableGroup}
-use Rattle.font_graph.specs.Fonts.{AllMade, drawn, varying, IsOfGlyphs}
+use Rattle.font_graph.specs.Fonts.{AllMade, varying, AreInOrder, IsOfGlyphs}
 use Rattle.font_graph.specs.Graph.{read_as, as_flat, all_of}
 use Rattle.font_graph.specs.Parts.{Extra, TheIndex, TheMeasures, TheMeasuresAndIndex}
 use Rattle.font_graph.specs.Parts.{TheVariations, with_index, with_measures, with_both, with_data}
@@ -37,40 +38,104 @@ use Rattle.font_graph.specs.Running.{header_read, index_read, raw_read, flat_rea
 use Rattle.font_graph.specs.Running.{measures_read, flats_read, more_read}
 use Rattle.font_graph.specs.Same.{same_id}
 use Rattle.font_graph.specs.declared.ids.JobId.TheVariants as job
-use Rattle.font_plan.specs.Drawn.{IsDrawn}
+use Rattle.font_plan.specs.Bases.{bases_in}
+use Rattle.font_plan.specs.Drawn.{IsDrawn, DrawingLaws}
 use Rattle.font_plan.specs.Jobs.{parts, has_axes, glyphs_with, variations_in, unless_refused}
-use Rattle.font_plan.specs.Jobs.{needs_in, variations_with}
-use Rattle.font_plan.specs.Known.{IsSimple}
+use Rattle.font_plan.specs.Jobs.{needs_in, variations_with, is_composite}
 use Rattle.font_plan.specs.Order.{order_in, numbers_in, notdef_from, others_from, ordered}
 use Rattle.font_plan.specs.Order.{is_order_of, ordered_is, behind_made}
 use Rattle.font_plan.specs.Reading.{PlanReads, number_read, glyph_read}
-use Rattle.font_plan.proofs.Made.{raw_known, begins, drawn_number, DrawnGlyphsAreFlat, is_flat}
-use Rattle.font_plan.proofs.Made.{read_first}
-use Rattle.font_plan.proofs.Orders.{all_by, some_there, read_behind, read_there, read_count}
+use Rattle.font_plan.proofs.Made.{raw_known, raw_whole, bases_fit, all_drawn, one_drawn}
+use Rattle.font_plan.proofs.Made.{drawn_number, drawn_count, has_bases}
+use Rattle.font_plan.proofs.Nesting.{EntriesAreNamed, ordered_lead_nowhere}
+use Rattle.font_plan.proofs.Orders.{all_by, all_some, each_some, each_value, some_there}
+use Rattle.font_plan.proofs.Orders.{read_behind}
+use Rattle.font_plan.proofs.Orders.{read_there, read_count}
 use Rattle.font_plan.proofs.Orders.{made_count, numbers_few, order_few}
 
 -- ---- a glyph
 
-pub raw_within : (source : List ℕ) (glyph : ℕ) (reads : PlanReads)
-    → running.FlatFound (parts source) glyph reads → (raw : GlyphIr) (index : List Entry)
-    → raw_read (parts []) glyph reads ≡ Some raw → index_read (parts []) reads ≡ Some index
-    → raw.number < length index
-raw_within source glyph reads found raw index a b =
-    let read = found.raw_is raw index a b in
-    let known = raw_known read.tree read.header index glyph raw read.raw_made in
-    subst (λ n. n < length index) (sym known.number_is) known.within
+-- what a job of drawing finds of its glyph
+pub record FoundFlat (index : List Entry) (glyph : ℕ) (raw : GlyphIr) (flats : List FlatGlyph)
+    : Type 0 where
+  pub number : raw.number ≡ glyph
+  pub within : glyph < length index
+  pub enough : HasBases raw flats
+  pub bases : All (IsBase raw.places) flats
 
-pub flat_placed : ReadGlyphsAreWhole → (source : List ℕ) (glyph : ℕ) (reads : PlanReads)
-    → running.SimpleFound (parts source) glyph reads → (header : Header) (flat : FlatGlyph)
-    → header_read (parts []) reads ≡ Some header
-    → flat_read (parts []) glyph reads ≡ Some flat → BeginsWithMasters header flat
-flat_placed whole source glyph reads found header flat a b =
-    let made = found.flat_is header flat a b in
-    begins whole made.tree header made.index made.glyph made.raw flat (record {
-      header_read = made.header_made;
-      raw_made = made.raw_made;
-      flat_made = made.flat_made;
-    })
+abbrev flats_of : List (Option FlatGlyph) → Option (List FlatGlyph)
+flats_of values = all_of values
+
+flats_by : (glyphs : List ℕ) (reads : PlanReads)
+    → flats_read (parts []) glyphs reads
+    ≡ flats_of (map (λ glyph. flat_read (parts []) glyph reads) glyphs)
+flats_by glyphs reads = ap flats_of (map-map
+    (λ id. read_as (parts []) same_id (as_flat (parts [])) reads id) job.Flat glyphs)
+
+-- each of glyphs that are all read
+pub each_there : (glyphs : List ℕ) (reads : PlanReads)
+    → IsSome (flats_read (parts []) glyphs reads)
+    → All (λ glyph. IsSome (flat_read (parts []) glyph reads)) glyphs
+each_there glyphs reads is = all_by (λ glyph. IsSome (flat_read (parts []) glyph reads)) glyphs
+    (each_some (λ glyph. flat_read (parts []) glyph reads) glyphs
+    (subst IsSome (flats_by glyphs reads) is))
+
+-- what is collected of glyphs is what is read
+pub collected_are : (glyphs : List ℕ) (reads : PlanReads) (found : List FlatGlyph)
+    → map Some found ≡ map (λ glyph. flat_read (parts []) glyph reads) glyphs
+    → flats_read (parts []) glyphs reads ≡ Some found
+collected_are glyphs reads found e = flats_by glyphs reads ∙ ap flats_of (sym e) ∙ all_some found
+
+-- what is read of all is what is read of each
+pub each_read : (glyphs : List ℕ) (reads : PlanReads) (flats : List FlatGlyph)
+    → flats_read (parts []) glyphs reads ≡ Some flats
+    → map Some flats ≡ map (λ glyph. flat_read (parts []) glyph reads) glyphs
+each_read glyphs reads flats e = each_value (λ glyph. flat_read (parts []) glyph reads) glyphs flats
+    (sym (flats_by glyphs reads) ∙ e)
+
+pub found_flat : DrawingLaws → (source : List ℕ) (glyph : ℕ) (reads : PlanReads)
+    → running.FlatFound (parts source) glyph reads → (raw : GlyphIr) (index : List Entry)
+    (bases : List FlatGlyph) → raw_read (parts []) glyph reads ≡ Some raw
+    → index_read (parts []) reads ≡ Some index
+    → flats_read (parts []) (bases_in raw index) reads ≡ Some bases
+    → FoundFlat index glyph raw bases
+found_flat laws source glyph reads found raw index bases a b e =
+    let has = found.flats_are raw index bases a b e in
+    let known = raw_known has.tree has.header index glyph raw has.raw_made in
+    record {
+      number = known.number_is;
+      within = known.within;
+      enough = has_bases source has.tree has.header index glyph raw bases
+          (raw_whole laws.glyphs has.tree has.header index glyph raw has.header_made has.raw_made)
+          has.bases_drawn;
+      bases = all_by (IsBase raw.places) bases
+          (bases_fit laws has.tree has.header index has.header_made glyph raw bases has.raw_made
+          (all_drawn laws has.tree has.header index has.header_made source (bases_in raw index) bases
+          has.bases_drawn));
+    }
+
+-- a glyph of a job of its data stands at the masters first
+pub found_drawn : DrawingLaws → (source : List ℕ) (header : Header) (flat : FlatGlyph)
+    → running.IsDrawnOf (parts source) header flat → IsDrawn header flat
+found_drawn laws source header flat of =
+    one_drawn laws of.tree header of.index of.header_made source of.glyph flat of.drawn_so
+
+-- a simple glyph keeps nothing
+pub nothing_kept : (flat : FlatGlyph) → is_composite flat ≡ false → flat.kept ≡ []
+nothing_kept flat e = by flat.kept e
+  where
+    by : (kept : List Kept) → not (nat_eq (length kept) 0) ≡ false → kept ≡ []
+    by [] f = refl
+    by (kept ∷ others) f =
+        let some : nat_eq (length (kept ∷ others)) 0 ≡ false = grind (arith, nat_tests) in
+        absurd (true≢false (sym (ap not some) ∙ f))
+
+pub composite_drawn : DrawingLaws → (source : List ℕ) (header : Header) (order : Glyphs)
+    (flat : FlatGlyph) → running.IsCompositeOf (parts source) header order flat
+    → IsDrawn header flat
+composite_drawn laws source header order flat of =
+    one_drawn laws of.in_order.tree header of.index of.in_order.header_read source of.glyph flat
+    of.drawn_so
 
 pub flat_within : (source : List ℕ) (glyph : ℕ) (reads : PlanReads)
     → running.VariationsFound (parts source) glyph reads → (header : Header) (index : List Entry)
@@ -79,40 +144,10 @@ pub flat_within : (source : List ℕ) (glyph : ℕ) (reads : PlanReads)
     → flat_read (parts []) glyph reads ≡ Some flat → flat.number < length index
 flat_within source glyph reads found header index flat a b e =
     let made = found.flat_is header index flat a b e in
-    let known = drawn_number made.tree header index made.glyph made.raw flat (record {
-      header_read = made.header_made;
-      raw_made = made.raw_made;
-      flat_made = made.flat_made;
-    }) in
+    let known = drawn_number source made.tree header index made.glyph flat made.drawn_so in
     subst (λ n. n < length index) (sym known.0) known.1
 
 -- ---- all glyphs
-
-places_all : ReadGlyphsAreWhole → (tree : Tree) (header : Header) (index : List Entry)
-    (glyphs : List ℕ) (flats : List FlatGlyph) → header_of tree ≡ Ok header
-    → AllMade (drawn (parts []) tree header index) glyphs flats
-    → AllByRecursion (BeginsWithMasters header) flats
-places_all whole tree header index [] [] read m = tt
-places_all whole tree header index [] (flat ∷ flats) read m = absurd m
-places_all whole tree header index (glyph ∷ glyphs) [] read m = absurd m
-places_all whole tree header index (glyph ∷ glyphs) (flat ∷ flats) read m =
-    let first = read_first tree header index glyph flat read m.0 in (
-      begins whole tree header index glyph first.0 flat first.1,
-      places_all whole tree header index glyphs flats read m.1,
-    )
-
-flat_all : ReadGlyphsAreWhole → DrawnGlyphsAreFlat → (tree : Tree) (header : Header)
-    (index : List Entry) (glyphs : List ℕ) (flats : List FlatGlyph) → header_of tree ≡ Ok header
-    → AllMade (drawn (parts []) tree header index) glyphs flats
-    → AllByRecursion IsFlatGlyph flats
-flat_all whole law tree header index [] [] read m = tt
-flat_all whole law tree header index [] (flat ∷ flats) read m = absurd m
-flat_all whole law tree header index (glyph ∷ glyphs) [] read m = absurd m
-flat_all whole law tree header index (glyph ∷ glyphs) (flat ∷ flats) read m =
-    let first = read_first tree header index glyph flat read m.0 in (
-      is_flat whole law tree header index glyph first.0 flat first.1,
-      flat_all whole law tree header index glyphs flats read m.1,
-    )
 
 -- the made `.notdef` stands at the masters alone
 take_all : (masters : List Master)
@@ -131,22 +166,17 @@ behind P made [] flats first all = all
 behind P made (None ∷ numbers) flats first all = (first, all)
 behind P made (Some number ∷ numbers) flats first all = all
 
-all_drawn : (header : Header) (glyphs : List FlatGlyph) → AllByRecursion IsSimple glyphs
-    → AllByRecursion (BeginsWithMasters header) glyphs → AllByRecursion (IsDrawn header) glyphs
-all_drawn header [] simple placed = tt
-all_drawn header (glyph ∷ glyphs) simple placed = (
-  record { flat = simple.0.flat; simple = simple.0.simple; places = placed.0 },
-  all_drawn header glyphs simple.1 placed.1,
-)
-
-abbrev flats_of : List (Option FlatGlyph) → Option (List FlatGlyph)
-flats_of values = all_of values
-
-flats_by : (glyphs : List ℕ) (reads : PlanReads)
-    → flats_read (parts []) glyphs reads
-    ≡ flats_of (map (λ glyph. flat_read (parts []) glyph reads) glyphs)
-flats_by glyphs reads = ap flats_of (map-map
-    (λ id. read_as (parts []) same_id (as_flat (parts [])) reads id) job.Flat glyphs)
+-- the font's glyphs, where they were drawn and ordered
+ordered_drawn : DrawingLaws → (source : List ℕ) (header : Header) (index : List Entry)
+    (flats : List FlatGlyph) (order : Glyphs)
+    → AreInOrder (parts source) header index flats order
+    → IsFlatGlyph (made_notdef_of header)
+    → AllByRecursion (IsDrawn header) (glyphs_with header order flats)
+ordered_drawn laws source header index flats order of made = behind (IsDrawn header)
+    (made_notdef_of header) order.numbers flats
+    (record { flat = made; places = made_begins header })
+    (all_drawn laws of.tree header index of.header_read source (numbers_in index) flats
+    of.glyphs_drawn)
 
 -- the glyphs are there for the order's numbers
 pub glyphs_there : (source : List ℕ) (reads : PlanReads) (header : Header) (order : Glyphs)
@@ -170,14 +200,16 @@ pub record GlyphsFound (header : Header) (order : Glyphs) (reads : PlanReads)
   pub glyphs_are : glyphs ≡ glyphs_with header order flats
   pub drawn_are : All (IsDrawn header) glyphs
   pub count : length glyphs ≡ length order.names
+  pub nesting : NoneLeadsToItself (bases_in_order order.names glyphs)
 
 -- and what was collected is the font's glyphs
-pub glyphs_found : ReadGlyphsAreWhole → (source : List ℕ) (reads : PlanReads) (header : Header)
-    (order : Glyphs) (glyphs : List FlatGlyph) → running.AdvancesFound (parts source) reads
+pub glyphs_found : DrawingLaws → EntriesAreNamed → (source : List ℕ) (reads : PlanReads)
+    (header : Header) (order : Glyphs) (glyphs : List FlatGlyph)
+    → running.AdvancesFound (parts source) reads
     → header_read (parts []) reads ≡ Some header → order_read (parts []) reads ≡ Some order
     → map Some glyphs ≡ map (glyph_read header reads) order.numbers
-    → AllByRecursion IsSimple glyphs → GlyphsFound header order reads glyphs
-glyphs_found whole source reads header order glyphs found a b e simple =
+    → IsFlatGlyph (made_notdef_of header) → GlyphsFound header order reads glyphs
+glyphs_found laws named source reads header order glyphs found a b e made =
     let flats = some_there (flats_read (parts []) (ordered order) reads) (found.flats order b) in
     let of = found.flats_are header order flats.0 a b flats.1 in
     let is = is_order_of of.0 order of.1.glyphs_ordered in
@@ -191,17 +223,18 @@ glyphs_found whole source reads header order glyphs found a b e simple =
     (sym (ap (λ ns. flats_read (parts []) ns reads) numbers
     ∙ flats_by (numbers_in of.0) reads) ∙ flats.1)
     ∙ ap (λ (o : Glyphs). glyphs_with header o flats.0) (sym is) in
-    let placed = behind (BeginsWithMasters header) (made_notdef_of header) order.numbers flats.0
-    (made_begins header) (places_all whole of.1.tree header
-    of.0 (numbers_in of.0) flats.0 of.1.header_read of.1.glyphs_drawn) in
     record {
       flats = flats.0;
       flats_are = flats.1;
       glyphs_are = all;
-      drawn_are = all_by (IsDrawn header) glyphs (all_drawn header glyphs simple
-          (subst (AllByRecursion (BeginsWithMasters header)) (sym all) placed));
+      drawn_are = all_by (IsDrawn header) glyphs
+          (subst (AllByRecursion (IsDrawn header)) (sym all)
+          (ordered_drawn laws source header of.0 flats.0 order of.1 made));
       count = read_count (made_notdef_of header) read of.0 glyphs there
           ∙ ap (λ (o : Glyphs). length o.names) (sym is);
+      nesting = subst (λ gs. NoneLeadsToItself (bases_in_order order.names gs)) (sym all)
+          (ordered_lead_nowhere source header of.0 flats.0 order of.1
+          (named of.1.tree of.0 of.1.index_read));
     }
 
 -- ---- what a table is made of
@@ -313,21 +346,25 @@ MeasuresAreForTheirHeader = (header : Header) (names : List (List ℕ)) (glyphs 
     → All (BeginsWithMasters header) glyphs → measured_of header names glyphs ≡ Ok measures
     → AreMeasuresFor header measures
 
-pub measures_fit : ReadGlyphsAreWhole → DrawnGlyphsAreFlat → MeasuresAreForTheirHeader
+weaker : {P Q : FlatGlyph → Type 0} → ((glyph : FlatGlyph) → P glyph → Q glyph)
+    → (glyphs : List FlatGlyph) → AllByRecursion P glyphs → AllByRecursion Q glyphs
+weaker so [] all = tt
+weaker so (glyph ∷ glyphs) all = (so glyph all.0, weaker so glyphs all.1)
+
+pub measures_fit : DrawingLaws → MeasuresAreForTheirHeader
     → (source : List ℕ) (header : Header) (order : Glyphs) (measures : Measures)
     → IsHeader header → IsFlatGlyph (made_notdef_of header)
     → IsOfGlyphs (parts source) header order TheMeasures (with_measures measures)
     → AreMeasuresFor header measures
-measures_fit whole flat_law fit_law source header order measures is_header made of =
+measures_fit laws fit_law source header order measures is_header made of =
     let glyphs = glyphs_with header order of.flats in
+    let drawn = ordered_drawn laws source header of.index of.flats order of.in_order made in
     fit_law header order.names glyphs measures is_header
-    (all_by IsFlatGlyph glyphs (behind IsFlatGlyph (made_notdef_of header) order.numbers of.flats
-    made (flat_all whole flat_law of.in_order.tree header of.index (numbers_in of.index) of.flats
-    of.in_order.header_read of.in_order.glyphs_drawn)))
-    (all_by (BeginsWithMasters header) glyphs (behind (BeginsWithMasters header)
-    (made_notdef_of header) order.numbers of.flats (made_begins header)
-    (places_all whole of.in_order.tree header of.index (numbers_in of.index) of.flats
-    of.in_order.header_read of.in_order.glyphs_drawn)))
+    (all_by IsFlatGlyph glyphs
+    (weaker {Q = IsFlatGlyph} (λ glyph (d : IsDrawn header glyph). d.flat) glyphs drawn))
+    (all_by (BeginsWithMasters header) glyphs
+    (weaker {Q = BeginsWithMasters header} (λ glyph (d : IsDrawn header glyph). d.places) glyphs
+    drawn))
     (measured_so order.names glyphs (measured_of header order.names glyphs) measures of.is_extra)
 
 -- ---- variations
@@ -363,8 +400,8 @@ variations_few source header order variations of =
     let few = order_few index order of.in_order.glyphs_ordered in
     let count = made_length (variations_in header index) (varying (parts []) header of.flats)
     variations of.is_extra in
-    let drawn = made_length (drawn (parts []) of.in_order.tree header index) (numbers_in index)
-    of.flats of.in_order.glyphs_drawn in
+    let drawn = drawn_count source of.in_order.tree header index (numbers_in index) of.flats
+    of.in_order.glyphs_drawn in
     let fewer = varying_few header of.flats in
     subst (λ (o : Glyphs). length (variations_with o variations) ≤ GLYPHS) (sym is)
     (behind_few (option_map (λ glyph. glyph.0) (notdef_from 0 index))

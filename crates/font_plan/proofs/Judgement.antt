@@ -1,5 +1,5 @@
 -- What a board that has ended tells of the verdict.
-use Rattle.std.proofs.Common.{◌≡◌, ℕ, List, Option, Some, None, Result, Ok, Err, inl, inr}
+use Rattle.std.proofs.Common.{◌≡◌, ℕ, List, Option, Some, None, Result, Ok, Err}
 use Rattle.std.proofs.Common.{refl, ap, ◌∙◌}
 use Rattle.std.specs.Prelude.{option_and_then}
 use Rattle.refusal_codes.specs.declared.refusal.Refusal.{Refusal}
@@ -41,8 +41,9 @@ is_made source e =
       font = m.0;
       accepted = made_accepted p m.0 m.1;
       told = ap (option_and_then done_value)
-          (done_ended p job.Font (all_done p m.0 m.1 job.Order (inr (inr (inr (inl refl)))))
-          (all_done p m.0 m.1 job.Font (inr (inr (inr (inr (inr (inl refl)))))))
+          (done_ended p job.Font (all_done p m.0 m.1 job.Order (all_done p m.0 m.1 job.Index tt))
+          (all_done p m.0 m.1 job.Font
+          (all_done p m.0 m.1 job.Order (all_done p m.0 m.1 job.Index tt)))
           ∙ ap Some (made_font p same_id identity m.0 m.1));
     }
 

@@ -1,13 +1,16 @@
 pub mod AcceptedLaws
 pub mod Characters
+pub mod Composites
 pub mod Data
 pub mod Examples
+pub mod Exported
 pub mod FontLaws
 pub mod Found
 pub mod Judgement
 pub mod Loops
 pub mod Made
 pub mod Names
+pub mod Nesting
 pub mod NoFailure
 pub mod OnLiterals
 pub mod Orders

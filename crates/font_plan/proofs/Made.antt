@@ -1,36 +1,44 @@
--- What is known of a glyph that was read or drawn: its number, and where it stands.
-use Rattle.std.proofs.Common.{◌≡◌, ℕ, ◌<◌, ◌+◌, List, [], ◌∷◌, ◌++◌, map, length, take, Option, Some}
-use Rattle.std.proofs.Common.{None}
-use Rattle.std.proofs.Common.{Result, Ok, Err, refl, sym, ap, ◌∙◌, inl, inr, subst, arith, Bool}
-use Rattle.std.proofs.Common.{true, false}
-use Rattle.std.specs.Prelude.{slice_get, if◌then◌else◌}
+-- What is known of a glyph that was read or drawn: its number, where it stands, and its bases.
+use Rattle.std.proofs.Common.{◌≡◌, ℕ, suc, ◌<◌, ◌+◌, List, [], ◌∷◌, ◌++◌, map, length, take}
+use Rattle.std.proofs.Common.{Option, Some, None, Ok, refl, sym, ap, ◌∙◌, inl, inr, subst, arith}
+use Rattle.std.proofs.Common.{Bool, true, false, cond, is_some, pos}
+use Rattle.std.specs.Prelude.{slice_get, slice_index_or, nat_eq, if◌then◌else◌}
+use Rattle.std.specs.List.{All, AllByRecursion, flat_map}
+use Rattle.std.specs.Map.{lookup}
+use Rattle.std.specs.Cmp.Lexicographic.{pointwise}
+use Rattle.std.proofs.lemmas.List.{length-append}
 use Rattle.std.proofs.lemmas.Option.{slice_get_within}
-use Rattle.refusal_codes.specs.declared.refusal.Refusal.{Refusal}
+use Rattle.fixed_math.specs.declared.F2Dot14.{F2Dot14}
 use Rattle.refusal_codes.specs.First.{refusal_of, foremost}
 use Rattle.refusal_codes.specs.declared.job.TheConstants.{FLAT}
 use Rattle.refusal_codes.specs.JudgedLaws.{judged_ok}
-use Rattle.refusal_codes.specs.Gives.{◌>>=◌}
 use Rattle.plist_reader.specs.declared.tree.Tree.{Tree}
+use Rattle.font_ir.specs.Places.{axis_count}
 use Rattle.font_ir.specs.declared.header.Header.{Header}
+use Rattle.font_ir.specs.declared.header.Master.{Master}
+use Rattle.font_ir.specs.declared.glyph.Shape.{Shape}
+use Rattle.font_ir.specs.declared.glyph.Shape.TheVariants.{Path, Component}
+use Rattle.font_ir.specs.declared.glyph.LayerIr.{LayerIr}
 use Rattle.font_ir.specs.declared.glyph.GlyphIr.{GlyphIr}
 use Rattle.font_ir.specs.declared.glyph.FlatGlyph.{FlatGlyph}
-use Rattle.glyphs_layers.specs.BuiltLaws.{built_are_read}
-use Rattle.glyphs_layers.specs.GlyphReading.{built_glyph_of, judged_glyph, glyph_record, glyph_in}
-use Rattle.glyphs_layers.specs.SourceGlyphs.{ReadGlyphsAreWhole, IsWholeGlyph}
 use Rattle.glyphs_source.specs.HeaderReading.{header_of}
+use Rattle.layer_shapes.specs.ReadLayers.{bases_of}
+use Rattle.glyphs_layers.specs.Bases.{is_glyph}
+use Rattle.glyphs_layers.specs.GlyphReading.{glyph_of, judged_glyph, glyph_record, glyph_in}
+use Rattle.glyphs_layers.specs.SourceGlyphs.{ReadGlyphsAreWhole, IsWholeGlyph}
+use Rattle.component_flatten.specs.Composites.{kept_of}
+use Rattle.component_flatten.specs.Drawing.{names_of, first_shapes}
 use Rattle.component_flatten.specs.Flattening.{flat_of, flat_record, limit_failures, IsBase}
-use Rattle.font_ir.specs.FlatGlyphs.{IsFlatGlyph}
-use Rattle.font_ir.specs.ReadGlyphs.{IsReadGlyph}
-use Rattle.font_ir.specs.declared.header.Master.{Master}
-use Rattle.fixed_math.specs.declared.F2Dot14.{F2Dot14}
-use Rattle.metrics_tables.specs.Changes.{BeginsWithMasters}
-use Rattle.std.proofs.lemmas.List.Elements.{All-nil}
-use Rattle.std.specs.List.{All}
-use Rattle.job_graph.specs.Members.{In, In-append_cases}
+use Rattle.component_flatten.specs.Flattening.{HasBases}
+use Rattle.metrics_tables.specs.Changes.{master_places}
+use Rattle.job_graph.specs.Members.{In}
 use Rattle.character_codes.specs.CharacterCodes.{Entry}
-use Rattle.font_plan.specs.Order.{is_notdef, is_other, others_from, notdef_from}
-use Rattle.font_plan.specs.Jobs.{raw_at, raw_in, flat_at, flat_in}
-use Rattle.font_plan.specs.Order.{number_of, numbers_in}
+use Rattle.font_graph.specs.Fonts.{AllDrawn, no_more, one_more, DrawnSo}
+use Rattle.font_plan.specs.Bases.{numbers_from, all_in, named_from, shape_bases, bases_in}
+use Rattle.font_plan.specs.Drawn.{IsDrawn, DrawingLaws}
+use Rattle.font_plan.specs.Jobs.{parts, raw_at, raw_in, flat_at, flat_in}
+use Rattle.font_plan.specs.Order.{number_of}
+use Rattle.font_plan.proofs.Orders.{all_by, by_all}
 
 -- ---- a glyph that was read
 
@@ -39,7 +47,7 @@ pub record IsRawOf (index : List Entry) (number : ℕ) (raw : GlyphIr) : Type 0 
   pub within : number < length index
 
 record_is : (tree : Tree) (header : Header) (index : List Entry) (number : ℕ) (raw : GlyphIr)
-    → built_glyph_of tree header index number ≡ Ok raw
+    → glyph_of tree header index number ≡ Ok raw
     → glyph_record tree header number (glyph_in index number) ≡ raw
 unfolding judged_glyph
 record_is tree header index number raw e = (judged_ok _ _ _ _ _ e).2
@@ -72,48 +80,51 @@ raw_whole whole tree header index number raw read e = at (slice_get index number
     at : (entry : Option Entry) → raw_at tree header index number entry ≡ Ok raw
         → IsWholeGlyph tree header index number raw
     at None f = absurd cc
-    at (Some entry) f = whole tree header index number raw read
-        (built_are_read tree header index number raw f)
+    at (Some entry) f = whole tree header index number raw read f
 
 -- ---- a glyph that was drawn
 
-flat_record_is : (index : List Entry) (name : List ℕ) (raw : GlyphIr) (flat : FlatGlyph)
-    → flat_of index name raw [] ≡ Ok flat → flat_record index raw [] ≡ flat
-unfolding flat_of
-flat_record_is index name raw flat e = (judged_ok (refusal_of FLAT name) None
-    (foremost (limit_failures [] (flat_record index raw []))) (flat_record index raw []) flat e).2
+module _ (index : List Entry) (raw : GlyphIr) (bases : List FlatGlyph) where
+  flat_record_is : (name : List ℕ) (flat : FlatGlyph) → flat_of index name raw bases ≡ Ok flat
+      → flat_record index raw bases ≡ flat
+  unfolding flat_of
+  flat_record_is name flat e = (judged_ok (refusal_of FLAT name) None
+      (foremost (limit_failures bases (flat_record index raw bases)))
+      (flat_record index raw bases) flat e).2
 
-flat_record_places : (index : List Entry) (raw : GlyphIr)
-    → (flat_record index raw []).places ≡ raw.places
-unfolding flat_record
-flat_record_places index raw = refl
+  flat_record_places : (flat_record index raw bases).places ≡ raw.places
+  unfolding flat_record
+  flat_record_places = refl
 
-flat_record_number : (index : List Entry) (raw : GlyphIr)
-    → (flat_record index raw []).number ≡ raw.number
-unfolding flat_record
-flat_record_number index raw = refl
+  flat_record_number : (flat_record index raw bases).number ≡ raw.number
+  unfolding flat_record
+  flat_record_number = refl
 
--- what is drawn of a glyph keeps its places and its number
-record IsFlatOf (index : List Entry) (raw : GlyphIr) (flat : FlatGlyph) : Type 0 where
-  places : flat.places ≡ raw.places
-  number : flat.number ≡ raw.number
-  name : List ℕ
-  drawn_so : flat_of index name raw [] ≡ Ok flat
+  flat_record_kept : (flat_record index raw bases).kept ≡ kept_of index raw
+  unfolding flat_record
+  flat_record_kept = refl
 
-flat_known : (raw : GlyphIr) (index : List Entry) (flat : FlatGlyph)
-    → flat_in raw index ≡ Ok flat → IsFlatOf index raw flat
-flat_known raw index flat e = at (slice_get index raw.number) e
-  where
-    at : (entry : Option Entry) → flat_at raw index entry ≡ Ok flat → IsFlatOf index raw flat
-    at None f = absurd cc
-    at (Some entry) f = record {
-      places = sym (ap (λ (g : FlatGlyph). g.places) (flat_record_is index entry.0 raw flat f))
-          ∙ flat_record_places index raw;
-      number = sym (ap (λ (g : FlatGlyph). g.number) (flat_record_is index entry.0 raw flat f))
-          ∙ flat_record_number index raw;
-      name = entry.0;
-      drawn_so = f;
-    }
+  -- what is drawn of a glyph keeps its places and its number
+  pub record IsFlatOf (flat : FlatGlyph) : Type 0 where
+    pub places : flat.places ≡ raw.places
+    pub number : flat.number ≡ raw.number
+    pub kept : flat.kept ≡ kept_of index raw
+    pub name : List ℕ
+    pub drawn_so : flat_of index name raw bases ≡ Ok flat
+
+  pub flat_known : (flat : FlatGlyph) → flat_in raw index bases ≡ Ok flat → IsFlatOf flat
+  flat_known flat e = at (slice_get index raw.number) e
+    where
+      at : (entry : Option Entry) → flat_at raw index bases entry ≡ Ok flat → IsFlatOf flat
+      at None f = absurd cc
+      at (Some entry) f =
+          let is = flat_record_is entry.0 flat f in record {
+            places = sym (ap (λ (g : FlatGlyph). g.places) is) ∙ flat_record_places;
+            number = sym (ap (λ (g : FlatGlyph). g.number) is) ∙ flat_record_number;
+            kept = sym (ap (λ (g : FlatGlyph). g.kept) is) ∙ flat_record_kept;
+            name = entry.0;
+            drawn_so = f;
+          }
 
 take_masters : (masters : List Master) (others : List (List F2Dot14))
     → take (length masters) (map (λ master. master.location) masters ++ others)
@@ -122,101 +133,143 @@ take_masters [] others = refl
 take_masters (master ∷ masters) others =
     ap (λ rest. master.location ∷ rest) (take_masters masters others)
 
--- a glyph that was read and drawn so
-pub record IsDrawnSo (tree : Tree) (header : Header) (index : List Entry) (number : ℕ)
-    (raw : GlyphIr) (flat : FlatGlyph) : Type 0 where
-  pub header_read : header_of tree ≡ Ok header
-  pub raw_made : raw_in tree header index number ≡ Ok raw
-  pub flat_made : flat_in raw index ≡ Ok flat
+-- what begins with the masters has as many axes as they
+axes_first : (masters : List Master) (places : List (List F2Dot14)) → 0 < length masters
+    → take (length masters) places ≡ map (λ master. master.location) masters
+    → axis_count places ≡ axis_count (map (λ master. master.location) masters)
+axes_first [] places some e = absurd (omega (arith, some))
+axes_first (master ∷ masters) [] some e = absurd cc
+axes_first (master ∷ masters) (place ∷ places) some e =
+    ap axis_count e
 
--- it stands at the masters first
-pub begins : ReadGlyphsAreWhole → (tree : Tree) (header : Header) (index : List Entry) (number : ℕ)
-    (raw : GlyphIr) (flat : FlatGlyph) → IsDrawnSo tree header index number raw flat
-    → BeginsWithMasters header flat
-begins whole tree header index number raw flat d =
-    let first = (raw_whole whole tree header index number raw d.header_read d.raw_made).masters in
-    ap (take (length header.masters))
-    ((flat_known raw index flat d.flat_made).places ∙ first.places)
-    ∙ take_masters header.masters first.others
+-- a source's header, of which glyphs are drawn
+module _ (laws : DrawingLaws) (tree : Tree) (header : Header) (index : List Entry)
+    (read : header_of tree ≡ Ok header) where
+  whole : (number : ℕ) (raw : GlyphIr) → raw_in tree header index number ≡ Ok raw
+      → IsWholeGlyph tree header index number raw
+  whole number raw made = raw_whole laws.glyphs tree header index number raw read made
+
+  some_masters : 0 < length header.masters
+  some_masters =
+      let origin = (laws.headers tree header read).origin in omega (arith, origin)
+
+  -- a glyph that is read stands at the masters first
+  raw_begins : (number : ℕ) (raw : GlyphIr) → raw_in tree header index number ≡ Ok raw
+      → take (length header.masters) raw.places ≡ master_places header
+  raw_begins number raw made =
+      let first = (whole number raw made).masters in
+      ap (take (length header.masters)) first.places ∙ take_masters header.masters first.others
+
+  -- and is drawn so, where its bases are
+  pub bases_fit : (number : ℕ) (raw : GlyphIr) (bases : List FlatGlyph)
+      → raw_in tree header index number ≡ Ok raw → AllByRecursion (IsDrawn header) bases
+      → AllByRecursion (IsBase raw.places) bases
+  bases_fit number raw [] made each = tt
+  bases_fit number raw (base ∷ bases) made each = (
+    record {
+      flat = each.0.flat;
+      axes = axes_first header.masters base.places some_masters each.0.places
+          ∙ sym (axes_first header.masters raw.places some_masters (raw_begins number raw made));
+    },
+    bases_fit number raw bases made each.1,
+  )
+
+  is_drawn : (number : ℕ) (raw : GlyphIr) (bases : List FlatGlyph) (flat : FlatGlyph)
+      → raw_in tree header index number ≡ Ok raw → flat_in raw index bases ≡ Ok flat
+      → AllByRecursion (IsDrawn header) bases → IsDrawn header flat
+  is_drawn number raw bases flat made drawn_so each =
+      let known = flat_known index raw bases flat drawn_so in
+      record {
+        flat = laws.drawn index known.name raw bases flat (whole number raw made).read
+            (all_by (IsBase raw.places) bases (bases_fit number raw bases made each))
+            known.drawn_so;
+        places = ap (take (length header.masters)) known.places ∙ raw_begins number raw made;
+      }
+
+  pub all_drawn : (source : List ℕ) (glyphs : List ℕ) (flats : List FlatGlyph)
+      → AllDrawn (parts source) tree header index glyphs flats
+      → AllByRecursion (IsDrawn header) flats
+  all_drawn source _ _ no_more = tt
+  all_drawn source _ _ (one_more glyph raw of_bases flat glyphs flats made below drawn_so rest) = (
+    is_drawn glyph raw of_bases flat made drawn_so
+        (all_drawn source (bases_in raw index) of_bases below),
+    all_drawn source glyphs flats rest,
+  )
+
+  pub one_drawn : (source : List ℕ) (glyph : ℕ) (flat : FlatGlyph)
+      → DrawnSo (parts source) tree header index glyph flat → IsDrawn header flat
+  one_drawn source glyph flat d = is_drawn glyph d.raw d.of_bases flat d.raw_made d.flat_made
+      (all_drawn source (bases_in d.raw index) d.of_bases d.bases_drawn)
 
 -- it is the glyph of its number
-pub drawn_number : (tree : Tree) (header : Header) (index : List Entry) (number : ℕ)
-    (raw : GlyphIr) (flat : FlatGlyph) → IsDrawnSo tree header index number raw flat
+pub drawn_number : (source : List ℕ) (tree : Tree) (header : Header) (index : List Entry)
+    (number : ℕ) (flat : FlatGlyph) → DrawnSo (parts source) tree header index number flat
     → (flat.number ≡ number) × (number < length index)
-drawn_number tree header index number raw flat d =
-    let known = raw_known tree header index number raw d.raw_made in
-    ((flat_known raw index flat d.flat_made).number ∙ known.number_is, known.within)
+drawn_number source tree header index number flat d =
+    let known = raw_known tree header index number d.raw d.raw_made in
+    ((flat_known index d.raw d.of_bases flat d.flat_made).number ∙ known.number_is, known.within)
 
--- and a flat glyph
-abbrev pub DrawnGlyphsAreFlat : Type 0
-DrawnGlyphsAreFlat = (index : List Entry) (name : List ℕ) (glyph : GlyphIr)
-    (bases : List FlatGlyph) (flat : FlatGlyph) → IsReadGlyph glyph
-    → All (IsBase glyph.places) bases → flat_of index name glyph bases ≡ Ok flat
-    → IsFlatGlyph flat
-
-pub is_flat : ReadGlyphsAreWhole → DrawnGlyphsAreFlat → (tree : Tree) (header : Header)
-    (index : List Entry) (number : ℕ) (raw : GlyphIr) (flat : FlatGlyph)
-    → IsDrawnSo tree header index number raw flat → IsFlatGlyph flat
-is_flat whole flat_law tree header index number raw flat d =
-    let drawn = flat_known raw index flat d.flat_made in
-    flat_law index drawn.name raw [] flat
-    (raw_whole whole tree header index number raw d.header_read d.raw_made).read
-    (All-nil (IsBase raw.places)) drawn.drawn_so
-
--- what is drawn was read first
-pub read_first : (tree : Tree) (header : Header) (index : List Entry) (number : ℕ)
-    (flat : FlatGlyph) → header_of tree ≡ Ok header
-    → (raw_in tree header index number >>= λ raw. flat_in raw index) ≡ Ok flat
-    → (raw : GlyphIr) × IsDrawnSo tree header index number raw flat
-read_first tree header index number flat read e = by (raw_in tree header index number) refl e
+-- a name of the index has a number
+found_number : (n : ℕ) (index : List Entry) (name : List ℕ)
+    → is_some (lookup (pointwise nat_eq name) index) ≡ true
+    → length (number_of (named_from n name index)) ≡ 1
+found_number n [] name e = absurd cc
+found_number n (entry ∷ index) name e =
+    by (pointwise nat_eq name entry.0) e (found_number (n + 1) index name)
   where
-    by : (r : Result GlyphIr Refusal) → raw_in tree header index number ≡ r
-        → (r >>= λ raw. flat_in raw index) ≡ Ok flat
-        → (raw : GlyphIr) × IsDrawnSo tree header index number raw flat
-    by (Ok raw) is f = (raw, record { header_read = read; raw_made = is; flat_made = f })
-    by (Err refusal) is f = absurd cc
+    by : (b : Bool) → is_some (cond b (Some entry.1) (lookup (pointwise nat_eq name) index)) ≡ true
+        → (is_some (lookup (pointwise nat_eq name) index) ≡ true
+        → length (number_of (named_from (n + 1) name index)) ≡ 1)
+        → length (number_of (if b then Some (n, entry) else named_from (n + 1) name index)) ≡ 1
+    by true f rest = refl
+    by false f rest = rest f
 
--- ---- the numbers of a font's glyphs are those of glyphs of the index
+-- one base for each component, since all of them are in the index
+shape_count : (index : List Entry) (shapes : List Shape)
+    → AllByRecursion (λ base. is_glyph index base ≡ true) (bases_of shapes)
+    → length (flat_map (shape_bases index) shapes) ≡ length (names_of shapes)
+shape_count index [] known = refl
+shape_count index (Path contour ∷ shapes) known = shape_count index shapes known
+shape_count index (Component base at scale quarters ∷ shapes) known =
+    let rest = shape_count index shapes known.1 in
+    let one = found_number 0 index base known.0 in
+    let joined = length-append (shape_bases index (Component base at scale quarters))
+    (flat_map (shape_bases index) shapes) in
+    omega (arith, rest, one, joined)
 
-others_within : (n : ℕ) (index : List Entry) (number : ℕ)
-    → In number (map (λ glyph. glyph.0) (others_from n index)) → number < n + length index
-others_within n [] number i = absurd i
-others_within n (entry ∷ index) number i =
-    chosen (is_other entry) (others_within (n + 1) index number) i
-  where
-    chosen : (b : Bool)
-        → (In number (map (λ (glyph : ℕ × Entry). glyph.0) (others_from (n + 1) index))
-        → number < n + 1 + length index)
-        → In number (map (λ (glyph : ℕ × Entry). glyph.0)
-        (if b then (n, entry) ∷ others_from (n + 1) index else others_from (n + 1) index))
-        → number < n + length (entry ∷ index)
-    chosen true rest h = elim h [
-      | inl e ↦ subst (λ m. m < n + length (entry ∷ index)) e (omega arith)
-      | inr j ↦ omega (arith, rest j)
-    ]
-    chosen false rest h = omega (arith, rest h)
+first_known : (layers : List LayerIr) (index : List Entry)
+    → All (λ layer. All (λ base. is_glyph index base ≡ true) (bases_of layer.shapes)) layers
+    → AllByRecursion (λ base. is_glyph index base ≡ true) (bases_of
+    (slice_index_or layers 0 (record { width = pos 0; shapes = []; anchors = [] })).shapes)
+first_known [] index known = tt
+first_known (layer ∷ layers) index known =
+    by_all (λ base. is_glyph index base ≡ true) (bases_of layer.shapes) (known 0 layer (omega arith))
 
-notdef_within : (n : ℕ) (index : List Entry) (number : ℕ)
-    → In number (number_of (notdef_from n index)) → number < n + length index
-notdef_within n [] number i = absurd i
-notdef_within n (entry ∷ index) number i =
-    chosen (is_notdef entry) (notdef_within (n + 1) index number) i
-  where
-    chosen : (b : Bool) → (In number (number_of (notdef_from (n + 1) index))
-        → number < n + 1 + length index)
-        → In number (number_of (if b then Some (n, entry) else notdef_from (n + 1) index))
-        → number < n + length (entry ∷ index)
-    chosen true rest h = elim h [
-      | inl e ↦ subst (λ m. m < n + length (entry ∷ index)) e (omega arith)
-      | inr j ↦ absurd j
-    ]
-    chosen false rest h = omega (arith, rest h)
+pub drawn_count : (source : List ℕ) (tree : Tree) (header : Header) (index : List Entry)
+    (glyphs : List ℕ) (flats : List FlatGlyph)
+    → AllDrawn (parts source) tree header index glyphs flats → length flats ≡ length glyphs
+drawn_count source tree header index _ _ no_more = refl
+drawn_count source tree header index _ _ (one_more glyph raw of_bases flat glyphs flats made below
+    so rest) = ap suc (drawn_count source tree header index glyphs flats rest)
 
-pub number_within : (index : List Entry) (number : ℕ) → In number (numbers_in index)
+pub has_bases : (source : List ℕ) (tree : Tree) (header : Header) (index : List Entry)
+    (number : ℕ) (raw : GlyphIr) (flats : List FlatGlyph)
+    → IsWholeGlyph tree header index number raw
+    → AllDrawn (parts source) tree header index (bases_in raw index) flats → HasBases raw flats
+has_bases source tree header index number raw flats whole drawn =
+    drawn_count source tree header index (bases_in raw index) flats drawn
+    ∙ shape_count index (first_shapes raw) (first_known raw.layers index whole.bases)
+
+-- ---- the numbers of glyphs are those of glyphs of the index
+
+within_from : (n : ℕ) (index : List Entry) (number : ℕ) → In number (numbers_from n index)
+    → number < n + length index
+within_from n [] number i = absurd i
+within_from n (entry ∷ index) number (inl e) =
+    subst (λ m. m < n + length (entry ∷ index)) e (omega arith)
+within_from n (entry ∷ index) number (inr j) =
+    let rest = within_from (n + 1) index number j in omega (arith, rest)
+
+pub number_within : (index : List Entry) (number : ℕ) → In number (all_in index)
     → number < length index
-number_within index number i =
-    elim (In-append_cases (number_of (notdef_from 0 index))
-    (map (λ glyph. glyph.0) (others_from 0 index)) number i) [
-      | inl j ↦ omega (arith, notdef_within 0 index number j)
-      | inr j ↦ omega (arith, others_within 0 index number j)
-    ]
+number_within index number i = let within = within_from 0 index number i in omega (arith, within)

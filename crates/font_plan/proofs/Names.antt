@@ -39,6 +39,23 @@ no_place p xs e = ap (λ n. cond (ltb n (length xs)) (Some n) None) (nowhere p x
     past true f = absurd cc
     past false f = refl
 
+-- and has one among names of which it is one
+found : {X : Type 0} (p : X → Bool) (xs : List X) → list_any p xs ≡ true
+    → ltb (prefix_len (λ x. not (p x)) xs) (length xs) ≡ true
+found p [] e = absurd cc
+found p (x ∷ xs) e = further (p x) e (found p xs)
+  where
+    further : (b : Bool) → (b || list_any p xs) ≡ true
+        → (list_any p xs ≡ true → ltb (prefix_len (λ y. not (p y)) xs) (length xs) ≡ true)
+        → ltb (if not b then 1 + prefix_len (λ y. not (p y)) xs else 0) (length (x ∷ xs)) ≡ true
+    further true f rest = grind (arith, nat_tests)
+    further false f rest = let within = rest f in grind (arith, nat_tests)
+
+pub has_place : {X : Type 0} (p : X → Bool) (xs : List X) → list_any p xs ≡ true
+    → is_some (position p xs) ≡ true
+has_place p xs e = ap (λ b. is_some (cond b (Some (prefix_len (λ x. not (p x)) xs)) None))
+    (found p xs e)
+
 -- ---- a name that stands before others of a list of different ones is none of those before it
 
 apart : (x : List ℕ) (names more : List (List ℕ)) (name : List ℕ)

@@ -1,10 +1,6 @@
 -- A source is accepted exactly where none of its parts fails, and else refused by the least
 -- failure.
-use Rattle.std.proofs.Common.{◌≡◌, ℕ, List, Ok, Err, inl, refl}
-use Rattle.std.specs.Prelude.{codes}
-use Rattle.font_ir.specs.declared.tag.Tag.{Tag}
-use Rattle.job_graph.specs.Members.{In}
-use Rattle.font_tables.specs.declared.tags.TheConstants.{TABLE_TAGS}
+use Rattle.std.specs.Prelude.{◌≡◌, ℕ, List, Ok, Err}
 use Rattle.refusal_codes.specs.declared.refusal.Refusal.{Refusal}
 use Rattle.font_graph.specs.Fails.{IsLeastFailure}
 use Rattle.font_graph.specs.Judged.{none_fails, unrefused_of_made, accepted_made, made_accepted}
@@ -16,13 +12,6 @@ use Rattle.font_plan.specs.Failing.{FailsBy}
 use Rattle.font_plan.specs.Font.{font_of}
 use Rattle.font_plan.specs.Jobs.{parts}
 use Rattle.font_graph.specs.PartFailures.{fails_by, by_fails}
-
--- the font has a table
-abbrev first_tag : Tag
-first_tag = record { 0 = codes "HVAR" }
-
-has_tag : In first_tag TABLE_TAGS
-has_tag = inl refl
 
 pub accepted_fails_not : (source font : List ℕ) → font_of source ≡ Ok font → (id : JobId)
     (r : Refusal) → FailsBy source id r → ⊥
@@ -59,10 +48,10 @@ least_of_parts source r l = record {
 pub least_refuses : (source : List ℕ) (r : Refusal) → font_of source ≡ Err r → IsRefusedBy source r
 unfolding font_of
 least_refuses source r e =
-    least_of_jobs source r ((verdict_fails (parts source) first_tag has_tag r).0 e)
+    least_of_jobs source r ((verdict_fails (parts source) r).0 e)
 
 pub refused_by_least : (source : List ℕ) (r : Refusal) → IsRefusedBy source r
     → font_of source ≡ Err r
 unfolding font_of
 refused_by_least source r l =
-    (verdict_fails (parts source) first_tag has_tag r).1 (least_of_parts source r l)
+    (verdict_fails (parts source) r).1 (least_of_parts source r l)

@@ -17,9 +17,11 @@ use Rattle.font_assembly.specs.Checksum.{total}
 use Rattle.font_assembly.specs.File.{entry_selector, directory_head, directory_entry}
 use Rattle.font_assembly.specs.File.{unadjusted_file, file}
 use Rattle.metrics_tables.specs.Tables.{head_table, hhea_table, maxp_table}
-use Rattle.font_graph.specs.Graph.{on, settle}
+use Rattle.job_graph.specs.Rounds.{limit}
+use Rattle.font_graph.specs.Descent.{ends_within}
+use Rattle.font_graph.specs.Graph.{on, settle, flat_within}
 use Rattle.font_graph.specs.Verdicts.{verdict}
-use Rattle.font_graph.specs.Direct.{direct}
+use Rattle.font_graph.specs.Direct.{direct, drawn_within}
 use Rattle.font_plan.specs.Direct.{direct_font}
 use Rattle.font_plan.specs.Font.{font_of}
 use Rattle.font_plan.specs.Jobs.{tree_of}
@@ -31,5 +33,5 @@ unfolding is_utf8 chars utf8_valid_len encode is_space is_word octal_value hex_v
     between in_word in_quoted in_bytes in_half step whole finish read_of header_on_literals
     index_on_literals glyphs_on_literals flat_record flat_of total entry_selector directory_head
     directory_entry unadjusted_file file head_table hhea_table maxp_table direct
-    direct_font on settle verdict tree_of font_of
+    direct_font drawn_within limit on settle ends_within flat_within verdict tree_of font_of
 font_on_literals = tt

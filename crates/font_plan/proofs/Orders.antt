@@ -51,7 +51,7 @@ some_there None is = absurd cc
 pub same_some : {A : Type 0} (a b : A) → Some a ≡ Some b → a ≡ b
 same_some a b e = cc
 
-all_some : {A : Type 0} (xs : List A) → all_of (map Some xs) ≡ Some xs
+pub all_some : {A : Type 0} (xs : List A) → all_of (map Some xs) ≡ Some xs
 all_some [] = refl
 all_some (x ∷ xs) = ap (option_and_then (λ rest. Some (x ∷ rest))) (all_some xs)
 
@@ -79,6 +79,28 @@ each_some {A} f (x ∷ xs) is = one (f x) refl (each_some f xs) is
       subst IsSome (sym e) refl,
       others (rest a (all_of (map f xs)) h),
     )
+
+pub each_value : {A B : Type 0} (f : B → Option A) (xs : List B) (values : List A)
+    → all_of (map f xs) ≡ Some values → map Some values ≡ map f xs
+each_value f [] values e =
+    let same : [] ≡ values = cc in ap (map Some) (sym same)
+each_value {A} f (x ∷ xs) values e = one (f x) refl (each_value f xs) e
+  where
+    rest : (a : A) (o : Option (List A)) → all_of (map f xs) ≡ o
+        → option_and_then (λ more. Some (a ∷ more)) o ≡ Some values
+        → ((more : List A) → all_of (map f xs) ≡ Some more → map Some more ≡ map f xs)
+        → map Some values ≡ Some a ∷ map f xs
+    rest a None is g others = absurd cc
+    rest a (Some more) is g others =
+        let same : a ∷ more ≡ values = cc in
+        ap (map Some) (sym same) ∙ ap (λ xs. Some a ∷ xs) (others more is)
+
+    one : (o : Option A) → f x ≡ o
+        → ((more : List A) → all_of (map f xs) ≡ Some more → map Some more ≡ map f xs)
+        → all_of (o ∷ map f xs) ≡ Some values → map Some values ≡ map f (x ∷ xs)
+    one None is others h = absurd cc
+    one (Some a) is others h =
+        rest a (all_of (map f xs)) refl h others ∙ ap (λ o. o ∷ map f xs) (sym is)
 
 -- ---- the numbers of an order
 

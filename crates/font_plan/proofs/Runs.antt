@@ -1,5 +1,5 @@
 -- What comes of a job by what its part answers, in the words of the graph.
-use Rattle.std.proofs.Common.{◌≡◌, ℕ, List, [], ◌∷◌, Option, Some, Result, Ok, Err}
+use Rattle.std.proofs.Common.{◌≡◌, ℕ, ◌&&◌, List, [], ◌∷◌, map, Option, Some, Result, Ok, Err}
 use Rattle.std.proofs.Common.{refl, sym, ap, ◌∙◌, subst}
 use Rattle.std.specs.Prelude.{Vec}
 use Rattle.std.specs.Option.{option_map}
@@ -23,8 +23,8 @@ use Rattle.font_tables.specs.Tags.{group_of}
 use Rattle.font_tables.specs.declared.tags.TableGroup.{TableGroup}
 use Rattle.font_tables.specs.declared.tags.TheConstants.{TABLE_TAGS}
 use Rattle.font_graph.specs.Parts.{Extra}
-use Rattle.font_graph.specs.Graph.{settle, outcome, of_index, of_glyph, of_order, after_index}
-use Rattle.font_graph.specs.Graph.{after_raw, after_order, spec_with}
+use Rattle.font_graph.specs.Graph.{settle, outcome, of_index, of_order, after_index, after_raw}
+use Rattle.font_graph.specs.Graph.{after_flat, after_order, parts_of, varied_of}
 use Rattle.font_graph.specs.Running as running
 use Rattle.font_graph.specs.Same.{same_id}
 use Rattle.font_graph.specs.declared.ids.JobId.{JobId}
@@ -32,10 +32,12 @@ use Rattle.font_graph.specs.declared.ids.JobId.TheVariants as job
 use Rattle.font_graph.specs.declared.items.Item.TheVariants as an
 use Rattle.character_codes.specs.CharacterCodes.{Entry}
 use Rattle.font_plan.specs.FontFile.{filed, present}
+use Rattle.font_plan.specs.Bases.{is_exported, bases_in}
 use Rattle.font_plan.specs.Jobs.{parts, tree_of, raw_in, flat_in, has_axes, simple_in}
+use Rattle.font_plan.specs.Jobs.{is_composite, composite_in}
 use Rattle.font_plan.specs.Jobs.{variations_in, measures_in, needs_in, table_with, table_in}
 use Rattle.font_plan.specs.Order.{numbers_in, order_or_refused, ordered}
-use Rattle.font_plan.specs.Reading.{PlanReads}
+use Rattle.font_plan.specs.Reading.{PlanReads, part_by, part_read, of_all}
 use Rattle.font_plan.specs.Settling.{AnItem, made_by, none}
 
 settled_so : {A : Type 0} (source : List ℕ) (item : A → AnItem) (adds : A → List (Spec JobId))
@@ -69,22 +71,26 @@ pub raw_comes : (source : List ℕ) (reads : PlanReads) (glyph : ℕ) (tree : Tr
     (index : List Entry) → running.tree_read (parts []) reads ≡ Some tree
     → running.header_read (parts []) reads ≡ Some header
     → running.index_read (parts []) reads ≡ Some index
-    → made_by an.Raw (λ raw. after_raw (parts []) same_id (has_axes header) glyph)
+    → made_by an.Raw (λ raw. after_raw (parts []) same_id
+    (has_axes header && is_exported index glyph) (bases_in raw index) glyph)
     (raw_in tree header index glyph) ≡ comes source (job.Raw glyph) reads
 raw_comes source reads glyph tree header index a b c =
     sym (running.raw_runs (parts source) glyph reads tree header index a b c
-    ∙ settled_so source an.Raw (λ raw. after_raw (parts []) same_id (has_axes header) glyph)
+    ∙ settled_so source an.Raw (λ raw. after_raw (parts []) same_id
+    (has_axes header && is_exported index glyph) (bases_in raw index) glyph)
     (raw_in tree header index glyph))
 
 pub flat_comes : (source : List ℕ) (reads : PlanReads) (glyph : ℕ) (raw : GlyphIr)
-    (index : List Entry) → running.raw_read (parts []) glyph reads ≡ Some raw
+    (index : List Entry) (bases : List FlatGlyph)
+    → running.raw_read (parts []) glyph reads ≡ Some raw
     → running.index_read (parts []) reads ≡ Some index
-    → made_by an.Flat (λ flat. spec_with (parts []) same_id (of_glyph (parts []) same_id) (job.Simple glyph) ∷ [])
-    (flat_in raw index) ≡ comes source (job.Flat glyph) reads
-flat_comes source reads glyph raw index a b =
-    sym (running.flat_runs (parts source) glyph reads raw index a b
-    ∙ settled_so source an.Flat (λ flat. spec_with (parts []) same_id (of_glyph (parts []) same_id) (job.Simple glyph) ∷ [])
-    (flat_in raw index))
+    → running.flats_read (parts []) (bases_in raw index) reads ≡ Some bases
+    → made_by an.Flat (λ flat. after_flat (parts []) same_id (is_exported index glyph)
+    (is_composite flat) glyph) (flat_in raw index bases) ≡ comes source (job.Flat glyph) reads
+flat_comes source reads glyph raw index bases a b c =
+    sym (running.flat_runs (parts source) glyph reads raw index bases a b c
+    ∙ settled_so source an.Flat (λ flat. after_flat (parts []) same_id (is_exported index glyph)
+    (is_composite flat) glyph) (flat_in raw index bases))
 
 pub simple_comes : (source : List ℕ) (reads : PlanReads) (glyph : ℕ) (header : Header)
     (flat : FlatGlyph) → running.header_read (parts []) reads ≡ Some header
@@ -94,18 +100,48 @@ simple_comes source reads glyph header flat a b =
     sym (running.simple_runs (parts source) glyph reads header flat a b
     ∙ settled_so source an.Simple none (Ok (simple_in header flat)))
 
+pub composite_comes : (source : List ℕ) (reads : PlanReads) (glyph : ℕ) (header : Header)
+    (order : Glyphs) (flat : FlatGlyph) → running.header_read (parts []) reads ≡ Some header
+    → running.order_read (parts []) reads ≡ Some order
+    → running.flat_read (parts []) glyph reads ≡ Some flat
+    → made_by an.Composite none (Ok (composite_in header order flat))
+    ≡ comes source (job.Composite glyph) reads
+composite_comes source reads glyph header order flat a b c =
+    sym (running.composite_runs (parts source) glyph reads header order flat a b c
+    ∙ settled_so source an.Composite none (Ok (composite_in header order flat)))
+
+-- the jobs of the data of glyphs, by what is read of them
+parts_are : (reads : PlanReads) (glyphs : List ℕ) (flats : List FlatGlyph)
+    → map Some flats ≡ map (λ glyph. running.flat_read (parts []) glyph reads) glyphs
+    → parts_of (parts []) same_id glyphs flats ≡ map (part_read reads) glyphs
+parts_are reads [] flats e = refl
+parts_are reads (glyph ∷ glyphs) [] e = absurd cc
+parts_are reads (glyph ∷ glyphs) (flat ∷ flats) e =
+    let first : Some flat ≡ running.flat_read (parts []) glyph reads = cc in
+    let rest : map Some flats ≡ map (λ glyph. running.flat_read (parts []) glyph reads) glyphs
+    = cc in
+    ap (λ id. id ∷ parts_of (parts []) same_id glyphs flats) (ap (λ o. part_by o glyph) first)
+    ∙ ap (λ ids. part_read reads glyph ∷ ids) (parts_are reads glyphs flats rest)
+
 pub order_comes : (source : List ℕ) (reads : PlanReads) (header : Header) (index : List Entry)
-    (flats : List FlatGlyph) → running.header_read (parts []) reads ≡ Some header
+    (glyphs : List ℕ) (outlines : List JobId) (flats : List FlatGlyph)
+    → running.header_read (parts []) reads ≡ Some header
     → running.index_read (parts []) reads ≡ Some index
     → running.flats_read (parts []) (numbers_in index) reads ≡ Some flats
+    → map Some flats ≡ map (λ glyph. running.flat_read (parts []) glyph reads) (numbers_in index)
+    → glyphs ≡ numbers_in index → outlines ≡ map (part_read reads) glyphs
     → made_by an.Order (λ order. after_order (parts []) same_id
-    (of_order (parts []) same_id header (numbers_in index)))
-    (order_or_refused index) ≡ comes source job.Order reads
-order_comes source reads header index flats a b c =
-    sym (running.order_runs (parts source) reads header index flats a b c
+    (of_all glyphs (varied_of (has_axes header) glyphs) outlines)) (order_or_refused index)
+    ≡ comes source job.Order reads
+order_comes source reads header index glyphs outlines flats a b c each are outlines_are =
+    let outlines_is : outlines ≡ parts_of (parts []) same_id (numbers_in index) flats
+    = outlines_are ∙ ap (map (part_read reads)) are
+    ∙ sym (parts_are reads (numbers_in index) flats each) in
+    (λ i. made_by an.Order (λ order. after_order (parts []) same_id
+    (of_all (are i) (varied_of (has_axes header) (are i)) (outlines_is i))) (order_or_refused index))
+    ∙ sym (running.order_runs (parts source) reads header index flats a b c
     ∙ settled_so source an.Order (λ order. after_order (parts []) same_id
-    (of_order (parts []) same_id header (numbers_in index)))
-    (order_or_refused index))
+    (of_order (parts []) same_id header (numbers_in index) flats)) (order_or_refused index))
 
 pub variations_come : (source : List ℕ) (reads : PlanReads) (glyph : ℕ) (header : Header)
     (index : List Entry) (flat : FlatGlyph) → running.header_read (parts []) reads ≡ Some header

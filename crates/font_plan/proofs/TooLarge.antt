@@ -8,6 +8,7 @@ use Rattle.refusal_codes.specs.declared.refusal.Refusal.{Refusal}
 use Rattle.plist_reader.specs.declared.tree.Tree.{Tree}
 use Rattle.plist_reader.specs.Refusals.{IsRefusal}
 use Rattle.plist_reader.specs.Reading.{read_of}
+use Rattle.job_graph.specs.Rounds.{limit}
 use Rattle.font_graph.specs.Graph.{on, settle}
 use Rattle.font_graph.specs.Parts.{Parts}
 use Rattle.font_graph.specs.Verdicts.{verdict}
@@ -34,10 +35,20 @@ parts_from text =
       tree = text;
       header = p.header;
       index = p.index;
+      all = p.all;
       numbers = p.numbers;
+      numbers_there = p.numbers_there;
+      is_exported = p.is_exported;
+      exported_are = p.exported_are;
       raw = p.raw;
+      bases = p.bases;
+      bases_there = p.bases_there;
       flat = p.flat;
+      endless = p.endless;
+      endless_last = p.endless_last;
+      is_composite = p.is_composite;
       simple = p.simple;
+      composite = p.composite;
       is_variable = p.is_variable;
       variations = p.variations;
       order = p.order;
@@ -51,7 +62,7 @@ parts_from text =
     }
 
 alone_refused : (r : Refusal) → verdict (parts_from (Err r)) ≡ Err r
-unfolding verdict on settle
+unfolding verdict on settle limit
 alone_refused r = refl
 
 pub text_refused : (source : List ℕ) (r : Refusal) → tree_of source ≡ Err r

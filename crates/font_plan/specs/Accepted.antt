@@ -16,11 +16,11 @@ use Rattle.glyphs_source.specs.IndexReading.{index_of}
 use Rattle.metrics_tables.specs.declared.measures.Measures.{Measures}
 use Rattle.character_codes.specs.CharacterCodes.{Entry}
 use Rattle.font_tables.specs.declared.tags.TheConstants.{TABLE_TAGS}
-use Rattle.font_graph.specs.Fonts.{AllMade, drawn, varying, table}
+use Rattle.font_graph.specs.Fonts.{AllMade, AllDrawn, part, varying, table}
 use Rattle.font_graph.specs.declared.ids.JobId.{JobId}
 use Rattle.font_plan.specs.Failing.{FailsBy}
 use Rattle.font_plan.specs.FontFile.{filed, present}
-use Rattle.font_plan.specs.Jobs.{parts, simple_in, variations_in, measures_in}
+use Rattle.font_plan.specs.Jobs.{parts, variations_in, measures_in}
 use Rattle.font_plan.specs.Order.{numbers_in, order_or_refused}
 
 pub record IsFontOf (source font : List ℕ) : Type 0 where
@@ -39,8 +39,10 @@ pub record IsFontOf (source font : List ℕ) : Type 0 where
   pub read : HasTree source tree
   pub header_read : header_of tree ≡ Ok header
   pub index_read : index_of tree ≡ Ok index
-  pub glyphs_drawn : AllMade (drawn (parts source) tree header index) (numbers_in index) glyphs
-  pub outlines_written : AllMade (λ glyph. Ok (simple_in header glyph)) glyphs outlines
+  -- each is drawn by its bases, and they by theirs
+  pub glyphs_drawn : AllDrawn (parts source) tree header index (numbers_in index) glyphs
+  -- each is written as a simple glyph, or as a composite of its bases
+  pub outlines_written : AllMade (part (parts source) header order) glyphs outlines
   pub glyphs_varied : AllMade (variations_in header index) (varying (parts source) header glyphs)
       variations
   pub glyphs_ordered : order_or_refused index ≡ Ok order

@@ -1,13 +1,16 @@
 -- What each job of a source makes: the parts of its graph, which are defined in the crates that
 -- read and write them. fontc's own; the tables are those of OpenType 1.9.
-use Rattle.std.specs.Prelude.{ℕ, Bool, not, List, [], length, nat_lt, slice_get}
+use Rattle.std.proofs.Common.{refl, subst}
+use Rattle.std.specs.Prelude.{◌≡◌, ℕ, Bool, not, List, [], length, nat_lt, nat_eq, slice_get}
 use Rattle.std.specs.Prelude.{Option, Some, None, Result, Ok, Err, if◌then◌else◌}
+use Rattle.std.specs.declared.cmp.Ordering.TheVariants.{Less}
 use Rattle.std.specs.Option.{option_map_or}
 use Rattle.std.specs.Str.{is_utf8}
 use Rattle.refusal_codes.specs.declared.refusal.Refusal.{Refusal}
 use Rattle.refusal_codes.specs.declared.rule.Rule.TheVariants.{MissingLayer, DeltaTooLarge}
 use Rattle.refusal_codes.specs.declared.rule.Rule.TheVariants.{TooManyRegions}
 use Rattle.refusal_codes.specs.First.{refusal_of}
+use Rattle.refusal_codes.specs.Order.{refusal_cmp}
 use Rattle.refusal_codes.specs.declared.job.TheConstants.{RAW, ADVANCES}
 use Rattle.refusal_codes.specs.declared.limits.TheConstants.{SOURCE_BYTES}
 use Rattle.plist_reader.specs.declared.tree.Tree.{Tree}
@@ -21,13 +24,16 @@ use Rattle.font_ir.specs.Notdef.{made_notdef_of}
 use Rattle.font_ir.specs.Outlines.{outline_at}
 use Rattle.glyphs_source.specs.HeaderReading.{header_of}
 use Rattle.glyphs_source.specs.IndexReading.{index_of}
-use Rattle.glyphs_layers.specs.GlyphReading.{built_glyph_of}
+use Rattle.glyphs_layers.specs.GlyphReading.{glyph_of, glyph_in}
+use Rattle.glyphs_layers.specs.GlyphRules.{glyph_failures}
 use Rattle.component_flatten.specs.Flattening.{flat_of}
 use Rattle.glyf_writer.specs.GlyphData.{simple_data}
+use Rattle.glyf_writer.specs.CompositeData.{composite_data}
 use Rattle.metrics_tables.specs.declared.measures.Measures.{Measures}
 use Rattle.metrics_tables.specs.declared.measures.MeasureError.{MeasureError}
 use Rattle.metrics_tables.specs.declared.measures.MeasureError.TheVariants as measure_errors
 use Rattle.metrics_tables.specs.Measuring.{measured_of}
+use Rattle.metrics_tables.specs.Nesting.{bases_of}
 use Rattle.metrics_tables.specs.Os2.{os2_table}
 use Rattle.character_codes.specs.CharacterCodes.{Entry, codes_of}
 use Rattle.font_tables.specs.Tags.{group_of}
@@ -39,6 +45,8 @@ use Rattle.font_tables.specs.declared.tags.TheConstants.{TABLE_TAGS}
 use Rattle.font_graph.specs.Parts.{Parts, Needs, Nothing, TheIndex, TheMeasures}
 use Rattle.font_graph.specs.Parts.{TheMeasuresAndIndex, TheOutlines, TheVariations, Extra}
 use Rattle.font_graph.specs.Parts.{nothing, with_index, with_measures, with_both, with_data}
+use Rattle.font_plan.specs.Bases.{all_in, numbers_there, is_exported, exported_are, bases_in}
+use Rattle.font_plan.specs.Bases.{bases_there, endless_in, raw_before}
 use Rattle.font_plan.specs.FontFile.{source_too_large, filed, present}
 use Rattle.font_plan.specs.Order.{numbers_in, order_or_refused, ordered, ordered_is, behind_made}
 
@@ -56,24 +64,45 @@ nowhere = Err (refusal_of RAW [] (record { rule = MissingLayer; place = 0 }))
 
 abbrev pub raw_at : Tree → Header → List Entry → ℕ → Option Entry → Result GlyphIr Refusal
 raw_at tree header index number None = nowhere
-raw_at tree header index number (Some entry) = built_glyph_of tree header index number
+raw_at tree header index number (Some entry) = glyph_of tree header index number
 
 abbrev pub raw_in : Tree → Header → List Entry → ℕ → Result GlyphIr Refusal
 raw_in tree header index number = raw_at tree header index number (slice_get index number)
 
--- a glyph without components has no bases
-abbrev pub flat_at : GlyphIr → List Entry → Option Entry → Result FlatGlyph Refusal
-flat_at glyph index None = nowhere
-flat_at glyph index (Some entry) = flat_of index entry.0 glyph []
+pub raw_last : (tree : Tree) (header : Header) (index : List Entry) (number : ℕ) (r : Refusal)
+    (other : GlyphIr) → raw_in tree header index number ≡ Err r
+    → refusal_cmp r (endless_in other index) ≡ Less
+raw_last tree header index number r other e = by (slice_get index number) e
+  where
+    by : (entry : Option Entry) → raw_at tree header index number entry ≡ Err r
+        → refusal_cmp r (endless_in other index) ≡ Less
+    by None f =
+        let same : refusal_of RAW [] (record { rule = MissingLayer; place = 0 }) ≡ r = cc in
+        subst (λ r. refusal_cmp r (endless_in other index) ≡ Less) same refl
+    by (Some entry) f = raw_before (glyph_failures tree header (glyph_in index number)) tree header
+        index number r other index f
 
-abbrev pub flat_in : GlyphIr → List Entry → Result FlatGlyph Refusal
-flat_in glyph index = flat_at glyph index (slice_get index glyph.number)
+abbrev pub flat_at : GlyphIr → List Entry → List FlatGlyph → Option Entry
+    → Result FlatGlyph Refusal
+flat_at glyph index bases None = nowhere
+flat_at glyph index bases (Some entry) = flat_of index entry.0 glyph bases
+
+abbrev pub flat_in : GlyphIr → List Entry → List FlatGlyph → Result FlatGlyph Refusal
+flat_in glyph index bases = flat_at glyph index bases (slice_get index glyph.number)
 
 abbrev pub has_axes : Header → Bool
 has_axes header = not (tables.has_no_axes header)
 
 abbrev pub simple_in : Header → FlatGlyph → List ℕ
 simple_in header glyph = simple_data (has_axes header) (outline_at header.origin glyph)
+
+-- a glyph that keeps components is written as a composite of them
+abbrev pub is_composite : FlatGlyph → Bool
+is_composite glyph = not (nat_eq (length glyph.kept) 0)
+
+abbrev pub composite_in : Header → Glyphs → FlatGlyph → List ℕ
+composite_in header order glyph =
+    composite_data header.origin glyph (bases_of order.names glyph)
 
 abbrev pub variations_at : Header → FlatGlyph → Option Entry → Result (List ℕ) Refusal
 variations_at header glyph None = nowhere
@@ -182,10 +211,20 @@ parts source = record {
   tree = tree_of source;
   header = header_of;
   index = index_of;
+  all = all_in;
   numbers = numbers_in;
+  numbers_there = numbers_there;
+  is_exported = is_exported;
+  exported_are = exported_are;
   raw = raw_in;
+  bases = bases_in;
+  bases_there = bases_there;
   flat = flat_in;
+  endless = endless_in;
+  endless_last = raw_last;
+  is_composite = is_composite;
   simple = λ header glyph. Ok (simple_in header glyph);
+  composite = λ header order glyph. Ok (composite_in header order glyph);
   is_variable = has_axes;
   variations = variations_in;
   order = λ header index glyphs. order_or_refused index;

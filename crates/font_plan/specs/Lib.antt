@@ -1,5 +1,6 @@
 pub mod Accepted
 pub mod Alone
+pub mod Bases
 pub mod Direct
 pub mod Drawn
 pub mod Failing

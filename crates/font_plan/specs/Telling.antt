@@ -4,8 +4,7 @@ use Rattle.std.specs.Prelude.{option_and_then}
 use Rattle.refusal_codes.specs.declared.refusal.Refusal.{Refusal}
 use Rattle.refusal_codes.specs.Gives.{◌>>=◌}
 use Rattle.access_context.specs.Plain.{done_value}
-use Rattle.font_graph.specs.Ended.{ended_value}
-use Rattle.font_graph.specs.Verdicts.{lesser}
+use Rattle.font_graph.specs.Verdicts.{ended_value, lesser}
 use Rattle.font_graph.specs.declared.ids.JobId.TheVariants as job
 use Rattle.font_graph.specs.declared.items.Item.TheVariants as an
 use Rattle.font_plan.specs.Font.{font_of}

@@ -11,27 +11,30 @@ ghost use Rattle.refusal_codes.specs.declared.limits.TheConstants.{TABLES};
 ghost use Rattle.refusal_codes.specs.declared.refusal.Refusal.{Refusal};
 ghost use Rattle.font_ir.specs.Headers.{IsHeader};
 ghost use Rattle.font_ir.specs.FlatGlyphs.{glyphs_of};
+ghost use Rattle.metrics_tables.specs.Nesting.{NoneLeadsToItself, bases_in};
 ghost use Rattle.metrics_tables.specs.Tables.{AreMeasures};
 ghost use Rattle.font_assembly.specs.File.{TagsRise, HasHead};
 ghost use Rattle.font_assembly.specs.Assembled as assembled;
-ghost use Rattle.font_graph.specs.Graph.{after_order, of_order};
+ghost use Rattle.font_graph.specs.Graph.{after_order, varied_of};
 ghost use Rattle.font_graph.specs.Same.{same_id};
 ghost use Rattle.font_graph.specs.declared.items.Item.TheVariants as an;
 ghost use Rattle.font_plan.specs.Drawn.{IsDrawn};
 ghost use Rattle.font_plan.specs.FontFile.{font_too_large, filed};
-ghost use Rattle.font_plan.specs.Jobs.{parts, measures_over, told_name, advance_refused};
-ghost use Rattle.font_plan.specs.Jobs.{too_many_regions};
+ghost use Rattle.font_plan.specs.Jobs.{parts, has_axes, measures_over, told_name};
+ghost use Rattle.font_plan.specs.Jobs.{advance_refused, too_many_regions};
 ghost use Rattle.font_plan.specs.Known.{IsIndex};
 ghost use Rattle.font_plan.specs.Order.{numbers_in, order_or_refused, too_many_glyphs};
+ghost use Rattle.font_plan.specs.Reading.{of_all};
 ghost use Rattle.font_plan.specs.Settling.{Comes, made_by, none};
 
 use crate::glyph_jobs::has_axes;
 use crate::items::Item;
 use crate::known::Known;
-use crate::order::{glyph_count, numbers_in, order_in};
+use crate::order::{glyph_count, order_in};
 use crate::outcomes::{PlanOutcome, made, made_last, refused};
 use crate::specs_of;
 use font_assembly::assemble;
+use font_graph::JobId;
 use font_ir::{FlatGlyph, GlyphOrder, Header, Tag};
 use glyphs_source::GlyphIndex;
 use metrics_tables::{MeasureError, Measures, measure};
@@ -46,23 +49,26 @@ use table_bytes::TableError;
 // ---- the order
 
 /// Orders the font's glyphs, and adds the jobs of what is measured, of the font and of its tables.
+/// `outlines` are the jobs of these glyphs' data in `glyf`.
 pub fn run_order(
     alloc: Global,
     header: &Header,
     index: &GlyphIndex,
+    glyphs: &[u32],
+    outlines: &[JobId],
 ) -> Result<PlanOutcome, NoMemory>
-    requires { IsIndex index.now }
+    requires index { IsIndex index.now }
+    requires glyphs { glyphs.now ≡ numbers_in index.now }
     ensures { Comes result (made_by an.Order (λ order. after_order (parts []) same_id
-        (of_order (parts []) same_id header.now (numbers_in index.now)))
+        (of_all glyphs.now (varied_of (has_axes header.now) glyphs.now) outlines.now))
         (order_or_refused index.now)) }
 {
-    let glyphs = numbers_in(alloc, index)?;
-    let count = glyph_count(index, glyphs.as_slice());
+    let count = glyph_count(index, glyphs);
     if count > GLYPHS as u64 {
         return Ok(refused(alloc, too_many_glyphs(alloc, count)));
     }
     let order = order_in(alloc, index)?;
-    let added = specs_of::after_order(alloc, glyphs.as_slice(), has_axes(header))?;
+    let added = specs_of::after_order(alloc, glyphs, has_axes(header), outlines)?;
     made(alloc, Item::Order(order), added)
 }
 
@@ -89,6 +95,7 @@ pub fn run_advances(
     requires header { IsHeader header.now }
     requires drawn { All (IsDrawn header.now) (glyphs_of glyphs.now) }
     requires order { length glyphs.now ≡ length order.now.names }
+    requires nesting { NoneLeadsToItself (bases_in order.now.names (glyphs_of glyphs.now)) }
     ensures { Comes result (made_by an.Advances none
         (measures_over header.now order.now.names (glyphs_of glyphs.now))) }
 {
@@ -109,6 +116,7 @@ fn measured(
     requires header { IsHeader header.now }
     requires drawn { All (IsDrawn header.now) (glyphs_of glyphs.now) }
     requires order { length glyphs.now ≡ length order.now.names }
+    requires nesting { NoneLeadsToItself (bases_in order.now.names (glyphs_of glyphs.now)) }
     ensures measures { Gives (λ measures. measures) result
         (measures_over header.now order.now.names (glyphs_of glyphs.now)) }
     ensures known { IfOk result AreMeasures }

@@ -7,22 +7,25 @@ ghost use Rattle.std.specs.Option.{option_map};
 ghost use Rattle.std.specs.Arc.{arc_value};
 ghost use Rattle.access_context.specs.Plain.{plain, done_value};
 ghost use Rattle.access_context.specs.Read.{plain_item};
+ghost use Rattle.font_ir.specs.FlatGlyphs.{IsFlatGlyph};
 ghost use Rattle.font_ir.specs.Headers.{IsHeader};
 ghost use Rattle.font_ir.specs.Notdef.{made_notdef_of};
 ghost use Rattle.font_assembly.specs.Assembled as assembled;
 ghost use Rattle.font_tables.specs.declared.tags.TheConstants.{TABLE_TAGS};
 ghost use Rattle.font_graph.specs.Graph.{as_data, data_in};
+ghost use Rattle.font_graph.specs.Running.{flat_read};
 ghost use Rattle.font_graph.specs.Same.{same_id};
 ghost use Rattle.font_plan.specs.Drawn.{IsDrawn};
 ghost use Rattle.font_plan.specs.Jobs.{parts, simple_in, parts_with, variations_with};
 ghost use Rattle.cmap_writer.specs.Cmap.{AreCodes};
 ghost use Rattle.character_codes.specs.CharacterCodes.{codes_of};
-ghost use Rattle.font_plan.specs.Known.{IsIndex, IsSimple};
+ghost use Rattle.font_plan.specs.Known.{IsIndex};
 ghost use Rattle.font_plan.specs.Order.{order_in};
 ghost use Rattle.font_plan.specs.Reading.{glyph_read, table_read, present_table};
-ghost use Rattle.font_plan.specs.Reading.{begins_with_made, data_at};
+ghost use Rattle.font_plan.specs.Reading.{begins_with_made, data_at, part_read};
 
-use crate::glyph_jobs::simple_data;
+use crate::bases::flat_at;
+use crate::glyph_jobs::{is_composite, simple_data};
 use crate::items::Item;
 use crate::reads::{PlanReads, flat_in, table_in};
 use access_context::Settled;
@@ -48,7 +51,7 @@ pub fn glyphs_in(
         order.now.numbers }
     ensures glyphs { IfOk result (λ glyphs. map (λ glyph. Some (arc_value glyph)) glyphs.items
         ≡ map (glyph_read header.now reads.now) order.now.numbers) }
-    ensures simple { IfOk result (λ glyphs. All (λ glyph. IsSimple (arc_value glyph))
+    ensures known { IfOk result (λ glyphs. All (λ glyph. IsFlatGlyph (arc_value glyph))
         glyphs.items) }
 {
     let numbers = order.numbers();
@@ -71,10 +74,10 @@ fn glyph_in(
     requires there { IsSome (glyph_read header.now reads.now number) }
     ensures glyph { IfOk result (λ glyph. glyph_read header.now reads.now number
         ≡ Some (arc_value glyph)) }
-    ensures simple { IfOk result (λ glyph. IsSimple (arc_value glyph)) }
+    ensures known { IfOk result (λ glyph. IsFlatGlyph (arc_value glyph)) }
 {
     match number {
-        Some(number) => Ok(Arc::try_clone(flat_in(reads, number).get().arc())?),
+        Some(number) => flat_at(number, reads),
         None => Ok(Arc::new(alloc, notdef(alloc, header)?)?),
     }
 }
@@ -84,9 +87,37 @@ fn notdef(alloc: Global, header: &Header) -> Result<FlatGlyph, NoMemory>
     requires { IsHeader header.now }
     ensures glyph { IfOk result (λ glyph. glyph_read header.now [] None ≡ Some glyph) }
     ensures drawn { IfOk result (IsDrawn header.now) }
-    ensures simple { IfOk result IsSimple }
+    ensures simple { IfOk result (λ glyph. glyph.kept ≡ []) }
 {
     made_notdef(alloc, header)
+}
+
+/// The jobs of the data of glyphs in `glyf`, by their contours.
+pub fn outline_jobs(
+    alloc: Global,
+    glyphs: &[u32],
+    reads: &PlanReads,
+) -> Result<Vec<JobId>, NoMemory>
+    requires { All (λ glyph. IsSome (flat_read (parts []) glyph reads.now)) glyphs.now }
+    ensures { IfOk result (λ jobs. jobs.items ≡ map (part_read reads.now) glyphs.now) }
+{
+    let mut jobs = Vec::with_capacity(alloc, glyphs.len())?;
+    for glyph in glyphs {
+        jobs.push(outline_job(*glyph, reads))?;
+    }
+    Ok(jobs)
+}
+
+/// The job of the data of a glyph in `glyf`, by its contours.
+fn outline_job(glyph: u32, reads: &PlanReads) -> JobId
+    requires { IsSome (flat_read (parts []) glyph reads.now) }
+    ensures { result ≡ part_read reads.now glyph }
+{
+    if is_composite(flat_in(reads, glyph).get().get()) {
+        JobId::Composite(glyph)
+    } else {
+        JobId::Simple(glyph)
+    }
 }
 
 /// The data of the font's glyphs in its order: what is read, behind that of a made `.notdef`.
@@ -195,7 +226,7 @@ fn data_of(settled: &Settled<Item>) -> Option<&SharedBytes>
 {
     match settled {
         Settled::Done(item) => match &**item {
-            Item::Simple(bytes) | Item::Variations(bytes) => Some(bytes),
+            Item::Simple(bytes) | Item::Composite(bytes) | Item::Variations(bytes) => Some(bytes),
             _ => None,
         },
         _ => None,

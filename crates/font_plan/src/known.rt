@@ -2,9 +2,11 @@
 
 ghost use Rattle.std.specs.Prelude.{◌≡◌};
 ghost use Rattle.plist_reader.specs.Tree.{IsTree};
+ghost use Rattle.font_ir.specs.FlatGlyphs.{IsFlatGlyph};
 ghost use Rattle.font_ir.specs.Headers.{IsHeader};
+ghost use Rattle.font_ir.specs.ReadGlyphs.{IsReadGlyph};
 ghost use Rattle.metrics_tables.specs.Tables.{AreMeasures};
-ghost use Rattle.font_plan.specs.Known.{IsIndex, IsRaw, IsSimple};
+ghost use Rattle.font_plan.specs.Known.{IsIndex};
 
 use font_ir::{FlatGlyph, GlyphIr, Header};
 use glyphs_source::GlyphIndex;
@@ -31,11 +33,11 @@ impl Fact for GlyphIndex {
 }
 
 impl Fact for GlyphIr {
-    ghost holds = { IsRaw };
+    ghost holds = { IsReadGlyph };
 }
 
 impl Fact for Shared<FlatGlyph> {
-    ghost holds = { IsSimple };
+    ghost holds = { IsFlatGlyph };
 }
 
 impl Fact for Measures {

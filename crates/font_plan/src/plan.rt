@@ -13,23 +13,27 @@ ghost use Rattle.font_graph.specs.declared.ids.JobId.TheVariants as job;
 ghost use Rattle.font_plan.specs.Jobs.{parts};
 ghost use Rattle.font_plan.specs.Settling.{Comes};
 
+use crate::bases::{bases_in, flats_in};
 use crate::font_jobs::table_comes;
-use crate::font_reads::{characters_in, glyphs_in, parts_in, tables_in, variations_in};
+use crate::font_reads::{
+    characters_in, glyphs_in, outline_jobs, parts_in, tables_in, variations_in,
+};
+use crate::glyph_jobs::drawing_laws;
 use crate::items::Item;
+use crate::order::numbers_in;
 use crate::outcomes::{PlanOutcome, blocked};
 use crate::reads::{
     PlanReads, flat_in, header_in, index_in, measures_in, order_in, raw_in, tree_in,
 };
 use crate::{font_jobs, glyph_jobs, source_jobs, specs_of};
 use access_context::Spec;
-use component_flatten::drawn_glyphs_are_flat;
 use font_graph::JobId;
 use font_ir::{Tag, made_notdef_is_flat};
 use font_tables::{
     TableGroup, code_table, group_of, metrics_table, os2_table, outline_table, plain_table,
     style_table, variations_table,
 };
-use glyphs_layers::read_glyphs_are_whole;
+use glyphs_source::entries_are_numbered;
 use job_graph::{Plan, Solved};
 use metrics_tables::measures_are_for_their_header;
 use refusal_codes::NoMemory;
@@ -120,12 +124,17 @@ impl FontPlan {
         ensures { Comes result
             ((plan (parts self.now) same_id).outcome (job.Flat glyph) reads.now) }
     {
+        drawing_laws();
         let raw = raw_in(reads, glyph).get();
         let index = index_in(reads).get();
-        glyph_jobs::run_flat(alloc, raw, index, glyph)
+        let numbers = bases_in(alloc, raw, index)?;
+        let glyphs = numbers.as_slice();
+        let flats = flats_in(alloc, glyphs, reads)?;
+        let bases = flats.as_slice();
+        glyph_jobs::run_flat(alloc, raw, index, bases, glyph)
     }
 
-    /// Writes the data of a glyph.
+    /// Writes the data of a simple glyph.
     fn run_simple(
         &self,
         alloc: Global,
@@ -137,10 +146,30 @@ impl FontPlan {
         ensures { Comes result
             ((plan (parts self.now) same_id).outcome (job.Simple glyph) reads.now) }
     {
-        read_glyphs_are_whole();
+        drawing_laws();
         let header = header_in(reads).get();
         let flat = flat_in(reads, glyph).get().get();
         glyph_jobs::run_simple(alloc, header, flat)
+    }
+
+    /// Writes the data of a composite.
+    fn run_composite(
+        &self,
+        alloc: Global,
+        glyph: u32,
+        reads: &PlanReads,
+    ) -> Result<PlanOutcome, NoMemory>
+        requires due { IsDue same_id (plan (parts self.now) same_id) (job.Composite glyph)
+            reads.now }
+        requires done { IsTrue (all_done reads.now) }
+        ensures { Comes result
+            ((plan (parts self.now) same_id).outcome (job.Composite glyph) reads.now) }
+    {
+        drawing_laws();
+        let header = header_in(reads).get();
+        let order = order_in(reads);
+        let flat = flat_in(reads, glyph).get().get();
+        glyph_jobs::run_composite(alloc, header, order, flat)
     }
 
     /// Writes how a glyph's points change over the design space.
@@ -169,7 +198,13 @@ impl FontPlan {
         ensures { Comes result
             ((plan (parts self.now) same_id).outcome job.Order reads.now) }
     {
-        font_jobs::run_order(alloc, header_in(reads).get(), index_in(reads).get())
+        let header = header_in(reads).get();
+        let index = index_in(reads).get();
+        let numbers = numbers_in(alloc, index)?;
+        let glyphs = numbers.as_slice();
+        let jobs = outline_jobs(alloc, glyphs, reads)?;
+        let outlines = jobs.as_slice();
+        font_jobs::run_order(alloc, header, index, glyphs, outlines)
     }
 
     /// Measures the font's glyphs.
@@ -179,7 +214,9 @@ impl FontPlan {
         ensures { Comes result
             ((plan (parts self.now) same_id).outcome job.Advances reads.now) }
     {
-        read_glyphs_are_whole();
+        drawing_laws();
+        entries_are_numbered();
+        made_notdef_is_flat();
         let header = header_in(reads).get();
         let order = order_in(reads);
         let glyphs = glyphs_in(alloc, header, order, reads)?;
@@ -278,8 +315,7 @@ impl FontPlan {
             ((plan (parts self.now) same_id).outcome (job.Table tag) reads.now) }
     {
         measures_are_for_their_header();
-        read_glyphs_are_whole();
-        drawn_glyphs_are_flat();
+        drawing_laws();
         made_notdef_is_flat();
         let header = header_in(reads).get();
         let measures = measures_in(reads).get();
@@ -357,14 +393,14 @@ impl Plan for FontPlan {
             JobId::Raw(glyph) => self.run_raw(alloc, glyph, reads),
             JobId::Flat(glyph) => self.run_flat(alloc, glyph, reads),
             JobId::Simple(glyph) => self.run_simple(alloc, glyph, reads),
+            JobId::Composite(glyph) => self.run_composite(alloc, glyph, reads),
             JobId::Variations(glyph) => self.run_variations(alloc, glyph, reads),
             JobId::Order => self.run_order(alloc, reads),
             JobId::Advances => self.run_advances(alloc, reads),
             JobId::Table(tag) => self.run_table(alloc, tag, reads),
             JobId::Font => self.run_font(alloc, reads),
             // No job adds these yet.
-            JobId::Composite(_)
-            | JobId::FeatureParse
+            JobId::FeatureParse
             | JobId::Kern
             | JobId::Marks
             | JobId::Rules

@@ -23,7 +23,8 @@ use crate::outcomes::{PlanOutcome, made, made_last, refused};
 use crate::specs_of;
 use font_ir::Header;
 use glyphs_source::{
-    GlyphIndex, exported_codes_are_distinct, glyph_index, header, notdef_is_exported,
+    GlyphIndex, entries_are_numbered, exported_codes_are_distinct, glyph_index, header,
+    notdef_is_exported,
 };
 use plain_lists::Text;
 use plist_reader::{Tree, read};
@@ -97,6 +98,7 @@ fn read_index(alloc: Global, tree: &Tree) -> Result<GlyphIndex, ReadError>
 {
     exported_codes_are_distinct();
     notdef_is_exported();
+    entries_are_numbered();
     glyph_index(alloc, tree)
 }
 

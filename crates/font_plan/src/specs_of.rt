@@ -4,11 +4,12 @@ ghost use Rattle.std.specs.Prelude.{◌≡◌, ◌++◌, [], map, OnOk, IfOk};
 ghost use Rattle.font_tables.specs.Tags.{group_of};
 ghost use Rattle.font_tables.specs.declared.tags.TheConstants.{TABLE_TAGS};
 ghost use Rattle.font_graph.specs.Kinds.{awaited_by};
-ghost use Rattle.font_graph.specs.Graph.{needed, varied_of, of_glyph, spec_with, after_index};
-ghost use Rattle.font_graph.specs.Graph.{after_raw, after_order, plan};
+ghost use Rattle.font_graph.specs.Graph.{needed, varied_of, of_glyph, of_bases, spec_with};
+ghost use Rattle.font_graph.specs.Graph.{after_index, after_raw, after_flat, after_order, plan};
 ghost use Rattle.font_graph.specs.Same.{same_id};
 ghost use Rattle.font_graph.specs.declared.ids.JobId.TheVariants as job;
 ghost use Rattle.font_plan.specs.Jobs.{parts, needs_in};
+ghost use Rattle.font_plan.specs.Reading.{exported_alone, of_outlines, of_all};
 
 use access_context::{Access, Spec};
 use font_graph::JobId;
@@ -50,16 +51,6 @@ fn push_flats(reads: &mut Vec<JobId>, glyphs: &[u32]) -> Result<(), NoMemory>
     Ok(())
 }
 
-/// Adds the data of the glyphs with these numbers.
-fn push_data(reads: &mut Vec<JobId>, glyphs: &[u32]) -> Result<(), NoMemory>
-    ensures { OnOk result (reads.new.items ≡ reads.old.items ++ map job.Simple glyphs.now) }
-{
-    for glyph in glyphs {
-        reads.push(JobId::Simple(*glyph))?;
-    }
-    Ok(())
-}
-
 /// Adds the variations of the glyphs with these numbers.
 fn push_variations(reads: &mut Vec<JobId>, glyphs: &[u32]) -> Result<(), NoMemory>
     ensures { OnOk result (reads.new.items ≡ reads.old.items ++ map job.Variations glyphs.now) }
@@ -74,11 +65,11 @@ fn push_variations(reads: &mut Vec<JobId>, glyphs: &[u32]) -> Result<(), NoMemor
 fn push_needed(
     reads: &mut Vec<JobId>,
     group: Option<TableGroup>,
-    glyphs: &[u32],
+    outlines: &[JobId],
     varied: &[u32],
 ) -> Result<(), NoMemory>
     ensures { OnOk result (reads.new.items ≡ reads.old.items
-        ++ needed (record { exported = glyphs.now; varied = varied.now }) (needs_in group)) }
+        ++ needed outlines.now varied.now (needs_in group)) }
 {
     match group {
         Some(TableGroup::Codes) => reads.push(JobId::Index)?,
@@ -87,7 +78,7 @@ fn push_needed(
             reads.push(JobId::Advances)?;
             reads.push(JobId::Index)?;
         }
-        Some(TableGroup::Outlines) => push_data(reads, glyphs)?,
+        Some(TableGroup::Outlines) => reads.extend_from_slice(outlines)?,
         Some(TableGroup::Variations) => push_variations(reads, varied)?,
         Some(TableGroup::Plain) | Some(TableGroup::Style) | None => {}
     }
@@ -97,7 +88,7 @@ fn push_needed(
 /// The job of the font's order.
 fn order(alloc: Global, glyphs: &[u32]) -> Result<Spec<JobId>, NoMemory>
     ensures { IfOk result (λ s. s ≡ spec_with (parts []) same_id
-        (record { exported = glyphs.now; varied = [] }) job.Order) }
+        (exported_alone glyphs.now) job.Order) }
 {
     let mut reads = Vec::from_slice(alloc, &[JobId::Header, JobId::Index])?;
     push_flats(&mut reads, glyphs)?;
@@ -107,7 +98,7 @@ fn order(alloc: Global, glyphs: &[u32]) -> Result<Spec<JobId>, NoMemory>
 /// The job that measures the glyphs.
 fn advances(alloc: Global, glyphs: &[u32]) -> Result<Spec<JobId>, NoMemory>
     ensures { IfOk result (λ s. s ≡ spec_with (parts []) same_id
-        (record { exported = glyphs.now; varied = [] }) job.Advances) }
+        (exported_alone glyphs.now) job.Advances) }
 {
     let mut reads = Vec::from_slice(alloc, &[JobId::Header, JobId::Order])?;
     push_flats(&mut reads, glyphs)?;
@@ -115,12 +106,17 @@ fn advances(alloc: Global, glyphs: &[u32]) -> Result<Spec<JobId>, NoMemory>
 }
 
 /// The job of a table.
-fn table(alloc: Global, glyphs: &[u32], varied: &[u32], tag: Tag) -> Result<Spec<JobId>, NoMemory>
+fn table(
+    alloc: Global,
+    outlines: &[JobId],
+    varied: &[u32],
+    tag: Tag,
+) -> Result<Spec<JobId>, NoMemory>
     ensures { IfOk result (λ s. s ≡ spec_with (parts []) same_id
-        (record { exported = glyphs.now; varied = varied.now }) (job.Table tag)) }
+        (of_outlines outlines.now varied.now) (job.Table tag)) }
 {
     let mut reads = Vec::from_slice(alloc, &[JobId::Header, JobId::Order])?;
-    push_needed(&mut reads, group_of(tag), glyphs, varied)?;
+    push_needed(&mut reads, group_of(tag), outlines, varied)?;
     Ok(spec(JobId::Table(tag), reads))
 }
 
@@ -148,16 +144,14 @@ pub fn raw(alloc: Global, glyph: u32) -> Result<Spec<JobId>, NoMemory>
     )
 }
 
-/// The job that draws a glyph.
-pub fn flat(alloc: Global, glyph: u32) -> Result<Spec<JobId>, NoMemory>
+/// The job that draws a glyph with these bases.
+pub fn flat(alloc: Global, bases: &[u32], glyph: u32) -> Result<Spec<JobId>, NoMemory>
     ensures { IfOk result (λ s. s ≡ spec_with (parts []) same_id
-        (of_glyph (parts []) same_id) (job.Flat glyph)) }
+        (of_bases (parts []) same_id bases.now) (job.Flat glyph)) }
 {
-    small(
-        alloc,
-        JobId::Flat(glyph),
-        &[JobId::Raw(glyph), JobId::Index],
-    )
+    let mut reads = Vec::from_slice(alloc, &[JobId::Raw(glyph), JobId::Index])?;
+    push_flats(&mut reads, bases)?;
+    Ok(spec(JobId::Flat(glyph), reads))
 }
 
 /// The job that writes a simple glyph's data.
@@ -169,6 +163,18 @@ pub fn simple(alloc: Global, glyph: u32) -> Result<Spec<JobId>, NoMemory>
         alloc,
         JobId::Simple(glyph),
         &[JobId::Header, JobId::Flat(glyph)],
+    )
+}
+
+/// The job that writes a composite's data.
+pub fn composite(alloc: Global, glyph: u32) -> Result<Spec<JobId>, NoMemory>
+    ensures { IfOk result (λ s. s ≡ spec_with (parts []) same_id
+        (of_glyph (parts []) same_id) (job.Composite glyph)) }
+{
+    small(
+        alloc,
+        JobId::Composite(glyph),
+        &[JobId::Header, JobId::Order, JobId::Flat(glyph)],
     )
 }
 
@@ -198,7 +204,7 @@ pub fn opening(alloc: Global) -> Result<Vec<Spec<JobId>>, NoMemory>
 /// The jobs that the index adds: those that read the exported glyphs, and the order's.
 pub fn after_index(alloc: Global, glyphs: &[u32]) -> Result<Vec<Spec<JobId>>, NoMemory>
     ensures { IfOk result (λ jobs. jobs.items ≡ after_index (parts []) same_id
-        (record { exported = glyphs.now; varied = [] })) }
+        (exported_alone glyphs.now)) }
 {
     let mut jobs = Vec::new(alloc);
     push_raws(alloc, &mut jobs, glyphs)?;
@@ -218,33 +224,64 @@ fn push_raws(alloc: Global, jobs: &mut Vec<Spec<JobId>>, glyphs: &[u32]) -> Resu
     Ok(())
 }
 
-/// The jobs that a glyph that is read adds: the one that draws it, and in a font with axes the one
-/// of its variations.
-pub fn after_raw(alloc: Global, varies: bool, glyph: u32) -> Result<Vec<Spec<JobId>>, NoMemory>
-    ensures { IfOk result (λ jobs. jobs.items ≡ after_raw (parts []) same_id varies glyph) }
+/// The jobs that a glyph that is read adds: the one that draws it, those that read its bases, and
+/// where it varies the one of its variations.
+pub fn after_raw(
+    alloc: Global,
+    varies: bool,
+    bases: &[u32],
+    glyph: u32,
+) -> Result<Vec<Spec<JobId>>, NoMemory>
+    ensures { IfOk result (λ jobs. jobs.items
+        ≡ after_raw (parts []) same_id varies bases.now glyph) }
 {
-    let mut jobs = Vec::with_capacity(alloc, 2)?;
-    jobs.push(flat(alloc, glyph)?)?;
+    let mut jobs = Vec::new(alloc);
+    jobs.push(flat(alloc, bases, glyph)?)?;
+    push_raws(alloc, &mut jobs, bases)?;
     if varies {
         jobs.push(variations(alloc, glyph)?)?;
     }
     Ok(jobs)
 }
 
-/// The jobs that the order adds: what measures the glyphs, the font, and its tables.
+/// The job that a glyph that is drawn adds where it goes into the font: that of its data.
+pub fn after_flat(
+    alloc: Global,
+    exported: bool,
+    composite: bool,
+    glyph: u32,
+) -> Result<Vec<Spec<JobId>>, NoMemory>
+    ensures { IfOk result (λ jobs. jobs.items
+        ≡ after_flat (parts []) same_id exported composite glyph) }
+{
+    let mut jobs = Vec::new(alloc);
+    if exported {
+        let data = if composite {
+            self::composite(alloc, glyph)?
+        } else {
+            simple(alloc, glyph)?
+        };
+        jobs.push(data)?;
+    }
+    Ok(jobs)
+}
+
+/// The jobs that the order adds: what measures the glyphs, the font, and its tables. `outlines`
+/// are the jobs of its glyphs' data in `glyf`.
 pub fn after_order(
     alloc: Global,
     glyphs: &[u32],
     varies: bool,
+    outlines: &[JobId],
 ) -> Result<Vec<Spec<JobId>>, NoMemory>
     ensures { IfOk result (λ jobs. jobs.items ≡ after_order (parts []) same_id
-        (record { exported = glyphs.now; varied = varied_of varies glyphs.now })) }
+        (of_all glyphs.now (varied_of varies glyphs.now) outlines.now)) }
 {
     let varied = if varies { glyphs } else { &[] };
     let mut jobs = Vec::new(alloc);
     jobs.push(advances(alloc, glyphs)?)?;
     jobs.push(font(alloc)?)?;
-    push_tables(alloc, &mut jobs, glyphs, varied)?;
+    push_tables(alloc, &mut jobs, outlines, varied)?;
     Ok(jobs)
 }
 
@@ -252,15 +289,15 @@ pub fn after_order(
 fn push_tables(
     alloc: Global,
     jobs: &mut Vec<Spec<JobId>>,
-    glyphs: &[u32],
+    outlines: &[JobId],
     varied: &[u32],
 ) -> Result<(), NoMemory>
     ensures { OnOk result (jobs.new.items ≡ jobs.old.items
         ++ map (λ tag. spec_with (parts []) same_id
-        (record { exported = glyphs.now; varied = varied.now }) (job.Table tag)) TABLE_TAGS) }
+        (of_outlines outlines.now varied.now) (job.Table tag)) TABLE_TAGS) }
 {
     for tag in TABLE_TAGS {
-        jobs.push(table(alloc, glyphs, varied, tag)?)?;
+        jobs.push(table(alloc, outlines, varied, tag)?)?;
     }
     Ok(())
 }

@@ -52,13 +52,21 @@ use Rattle.glyphs_layers.specs.GlyphRules.{glyph_failures}
 use Rattle.glyphs_layers.specs.Bases.{is_glyph, base_of, without_base, unknown_components}
 use Rattle.glyphs_layers.specs.Bases.{too_many_components}
 use Rattle.glyphs_layers.specs.GlyphReading.{name_in, glyph_in, shapes_failure, whole_failure}
-use Rattle.glyphs_layers.specs.GlyphReading.{glyph_record, judged_glyph, forms_of}
-use Rattle.glyphs_layers.specs.GlyphReading.{built_glyph_failures}
+use Rattle.glyphs_layers.specs.GlyphReading.{glyph_record, judged_glyph}
 use Rattle.glyphs_layers.specs.SourceGlyphs.{IsGlyphOf, masters_record, HasMastersLayers}
 use Rattle.glyphs_layers.specs.SourceGlyphs.{HasKnownBases, IsWholeGlyph}
-use Rattle.glyphs_layers.specs.BuiltLaws.{front_empty, back_empty}
 use Rattle.glyphs_layers.specs.MastersAlone.{location_of, own, none_own}
 use Rattle.glyphs_layers.proofs.FormLaws.{compared}
+
+-- ---- of two lists that are empty together each is
+
+front_empty : {X : Type 0} (xs ys : List X) → xs ++ ys ≡ [] → xs ≡ []
+front_empty [] ys e = refl
+front_empty (x ∷ xs) ys e = absurd cc
+
+back_empty : {X : Type 0} (xs ys : List X) → xs ++ ys ≡ [] → ys ≡ []
+back_empty [] ys e = e
+back_empty (x ∷ xs) ys e = absurd cc
 
 -- ---- failures that aren't there
 
@@ -451,14 +459,6 @@ module _ (t : Tree) (ranges : (kind : LayerKind) (t : Tree) (n : ℕ)
       (record_whole h index number (record_read h index number g is flat tells parts.1)
       (record_masters h number g (first_none (layers_failure t h g) others parts.1))
       (record_known h index number g parts.1))
-
--- what is noted of a glyph, with the forms that are told, is what its failures and they are
-pub built_first : (t : Tree) (h : Header) (g : ℕ)
-    → noted (noted None (glyph_failures t h g)) (flat_map (forms_of t) (source_layers t h g))
-    ≡ first_of (built_glyph_failures t h g)
-unfolding built_glyph_failures
-built_first t h g = sym (noted-append None (glyph_failures t h g)
-    (flat_map (forms_of t) (source_layers t h g)))
 
 -- ---- what calls answer
 

@@ -1,7 +1,7 @@
 -- What the layers of a glyph say, as the job of a glyph's layers answers it (Glyphs file format,
 -- version 3; the rules and their order are fontc's own). The local rules come first, at the least
 -- place; then the whole rules in their order.
-use Rattle.std.specs.Prelude.{ℕ, List, [], ◌++◌, length, map, flat_map, Option, Result, slice_get}
+use Rattle.std.specs.Prelude.{ℕ, List, [], length, map, flat_map, Option, Result, slice_get}
 use Rattle.std.specs.Option.{option_map_or}
 use Rattle.plist_reader.specs.declared.tree.Tree.{Tree}
 use Rattle.font_ir.specs.declared.header.Header.{Header}
@@ -12,7 +12,6 @@ use Rattle.refusal_codes.specs.First.{first_of, foremost, or_next, refusal_of, j
 use Rattle.refusal_codes.specs.declared.job.TheConstants.{RAW}
 use Rattle.source_values.specs.Values.{place_at}
 use Rattle.glyphs_source.specs.declared.entries.IndexEntry.{IndexEntry}
-use Rattle.unbuilt_forms.specs.Forms.{layer_forms}
 use Rattle.glyphs_layers.specs.declared.layers.SourceLayer.{SourceLayer}
 use Rattle.glyphs_layers.specs.SourceLayers.{source_layers}
 use Rattle.glyphs_layers.specs.GlyphRules.{glyph_failures}
@@ -65,17 +64,3 @@ judged_glyph local t header index number =
 abbrev pub glyph_of : Tree → Header → List (List ℕ × IndexEntry) → ℕ → Result GlyphIr Refusal
 glyph_of t header index number =
     judged_glyph (glyph_failures t header (glyph_in index number)) t header index number
-
--- ---- for a program that doesn't take components yet: those are told among the local rules
-
-abbrev pub forms_of : Tree → SourceLayer → List Failure
-forms_of t layer = layer_forms t layer.number
-
-unfoldable pub built_glyph_failures : Tree → Header → ℕ → List Failure
-built_glyph_failures t header glyph =
-    glyph_failures t header glyph ++ flat_map (forms_of t) (source_layers t header glyph)
-
-abbrev pub built_glyph_of : Tree → Header → List (List ℕ × IndexEntry) → ℕ
-    → Result GlyphIr Refusal
-built_glyph_of t header index number =
-    judged_glyph (built_glyph_failures t header (glyph_in index number)) t header index number

@@ -7,6 +7,5 @@ pub mod GlyphReading
 pub mod GlyphTables
 pub mod SourceGlyphs
 -- lemmas that the proofs of other crates need
-pub mod BuiltLaws
 pub mod MastersAlone
 pub mod OnLiterals

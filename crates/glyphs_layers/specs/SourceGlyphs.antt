@@ -10,7 +10,7 @@ use Rattle.font_ir.specs.declared.header.Header.{Header}
 use Rattle.font_ir.specs.declared.header.Master.{Master}
 use Rattle.font_ir.specs.declared.glyph.LayerIr.{LayerIr}
 use Rattle.font_ir.specs.declared.glyph.GlyphIr.{GlyphIr}
-use Rattle.font_ir.specs.ReadGlyphs.{IsReadGlyph, HasNoComponents}
+use Rattle.font_ir.specs.ReadGlyphs.{IsReadGlyph}
 use Rattle.glyphs_source.specs.declared.entries.IndexEntry.{IndexEntry}
 use Rattle.glyphs_source.specs.HeaderReading.{header_of}
 use Rattle.layer_shapes.specs.declared.kind.LayerKind.TheVariants as a
@@ -19,7 +19,7 @@ use Rattle.layer_shapes.specs.ReadLayers.{bases_of}
 use Rattle.glyphs_layers.specs.SourceLayers.{layer_numbers, layer_of}
 use Rattle.glyphs_layers.specs.GlyphPlaces.{places_of}
 use Rattle.glyphs_layers.specs.Bases.{is_glyph}
-use Rattle.glyphs_layers.specs.GlyphReading.{glyph_in, glyph_of, built_glyph_of}
+use Rattle.glyphs_layers.specs.GlyphReading.{glyph_in, glyph_of}
 
 -- the glyph that a source has under this number of its index
 abbrev pub IsGlyphOf : Tree → Header → List (List ℕ × IndexEntry) → ℕ → GlyphIr → Type 0
@@ -65,15 +65,3 @@ ReadGlyphsAreWhole =
     (t : Tree) (header : Header) (index : List (List ℕ × IndexEntry)) (number : ℕ)
     (glyph : GlyphIr) → header_of t ≡ Ok header → IsGlyphOf t header index number glyph
     → IsWholeGlyph t header index number glyph
-
--- a glyph of which no form is told that the program doesn't take yet is the one that is read
-abbrev pub BuiltGlyphsAreRead : Type 0
-BuiltGlyphsAreRead =
-    (t : Tree) (header : Header) (index : List (List ℕ × IndexEntry)) (number : ℕ)
-    (glyph : GlyphIr) → built_glyph_of t header index number ≡ Ok glyph
-    → IsGlyphOf t header index number glyph
-
-abbrev pub BuiltGlyphsHaveNoComponents : Type 0
-BuiltGlyphsHaveNoComponents =
-    (t : Tree) (header : Header) (index : List (List ℕ × IndexEntry)) (number : ℕ)
-    (glyph : GlyphIr) → built_glyph_of t header index number ≡ Ok glyph → HasNoComponents glyph

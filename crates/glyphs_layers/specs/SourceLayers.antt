@@ -1,8 +1,8 @@
 -- Which layers of a glyph are read (Glyphs file format, version 3). The layer of a master is the
 -- first one that names it by `layerId`. In a font with axes, a layer whose `attr` has `coordinates`
--- but no `axisRules`, and which names no master, is an intermediate layer: it lies at a place of its
--- own. All other layers are ignored. What `coordinates` and `axisRules` mean, and that a layer which
--- names a master is never an intermediate one, is fontc's own.
+-- but no `axisRules`, and which is the layer of no master, is an intermediate layer: it lies at a
+-- place of its own. All other layers are ignored. What `coordinates` and `axisRules` mean, and that
+-- a further layer that names a master can be an intermediate one, is fontc's own.
 use Rattle.std.specs.Prelude.{ℕ, Bool, not, ◌&&◌, ◌==◌, is_some, List, [], ◌∷◌, ◌++◌, length}
 use Rattle.std.specs.Prelude.{flat_map, codes, Option, option_and_then, if◌then◌else◌}
 use Rattle.std.specs.Option.{option_map_or}

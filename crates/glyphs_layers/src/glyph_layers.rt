@@ -1,6 +1,6 @@
 ghost use Rattle.std.specs.Prelude.{◌≡◌, ◌<◌, ◌++◌, length, map, flat_map, Ok, IfOk, OnOk};
 ghost use Rattle.font_ir.specs.Headers.{IsHeader};
-ghost use Rattle.font_ir.specs.ReadGlyphs.{IsReadGlyph, HasNoComponents};
+ghost use Rattle.font_ir.specs.ReadGlyphs.{IsReadGlyph};
 ghost use Rattle.refusal_codes.specs.First.{noted, judged, refusal_of, or_next};
 ghost use Rattle.refusal_codes.specs.declared.job.TheConstants.{RAW};
 ghost use Rattle.refusal_codes.specs.Gives.{Gives};
@@ -12,17 +12,14 @@ ghost use Rattle.glyphs_layers.specs.GlyphRules.{place_failures, source_failures
 ghost use Rattle.glyphs_layers.specs.GlyphPlaces.{places_of, layers_failure, places_failure};
 ghost use Rattle.glyphs_layers.specs.Forms.{record_of};
 ghost use Rattle.glyphs_layers.specs.GlyphReading.{glyph_in, name_in, shapes_failure, glyph_record};
-ghost use Rattle.glyphs_layers.specs.GlyphReading.{whole_failure, glyph_of, forms_of};
-ghost use Rattle.glyphs_layers.specs.GlyphReading.{built_glyph_failures, built_glyph_of};
-ghost use Rattle.glyphs_layers.specs.SourceGlyphs.{IsGlyphOf, HasMastersFirst, HasKnownBases};
+ghost use Rattle.glyphs_layers.specs.GlyphReading.{whole_failure, glyph_of};
+ghost use Rattle.glyphs_layers.specs.SourceGlyphs.{HasMastersFirst, HasKnownBases};
 
 use crate::bases::{crowded_layer, unknown_component};
 use crate::forms::incompatible;
 use crate::layers::{SourceLayer, source_layers};
 use crate::places::{layers_failure, places_failure, places_of};
-use crate::rule_laws::{
-    built_glyphs_are_read, built_glyphs_have_no_components, read_glyphs_are_whole,
-};
+use crate::rule_laws::read_glyphs_are_whole;
 use font_ir::{GlyphIr, Header, LayerIr, Name};
 use glyphs_source::{GlyphIndex, read_headers_are_whole};
 use layer_shapes::{LayerKind, read_layer};
@@ -32,7 +29,6 @@ use refusal_codes::{Failure, FirstFailure, ReadError, job};
 use source_axes::AxisCoordinate;
 use source_values::{Asked, Dictionary, Each, PlainText, optional, place_at};
 use std::alloc::{AllocError, Global};
-use unbuilt_forms::note_layer_forms;
 
 /// The layers of the glyph with this number in the index: one per master, and in a font with axes
 /// the intermediate ones, in the order of the file (Glyphs file format, version 3). What is read
@@ -78,56 +74,6 @@ pub fn raw_glyph(
     };
     let held = read_layers(alloc, tree, header, entry.node, &mut first)?;
     judge(alloc, tree, header, index, glyph, held, first.get())
-}
-
-/// The layers of the glyph with this number in the index, for a program that doesn't take all forms
-/// of a layer yet: those of `unbuilt_forms` are told among the rules of single values, each of a
-/// wrong shape. What is read has no components, and is what `raw_glyph` reads. All else is as in
-/// `raw_glyph`.
-pub fn built_glyph(
-    alloc: Global,
-    tree: &Tree,
-    header: &Header,
-    index: &GlyphIndex,
-    number: u32,
-) -> Result<GlyphIr, ReadError>
-    requires header { header_of tree.now ≡ Ok header.now }
-    requires index { index_of tree.now ≡ Ok index.now }
-    requires number { number < length index.now }
-    ensures record { Gives (λ glyph. glyph) result
-        (built_glyph_of tree.now header.now index.now number) }
-    ensures raw { IfOk result (IsGlyphOf tree.now header.now index.now number) }
-    ensures number { IfOk result (λ glyph. glyph.number ≡ number) }
-    ensures places { IfOk result (λ glyph. glyph.places
-        ≡ places_of tree.now header.now (glyph_in index.now number)) }
-    ensures read { IfOk result IsReadGlyph }
-    ensures masters { IfOk result (HasMastersFirst header.now) }
-    ensures bases { IfOk result (HasKnownBases index.now) }
-    ensures components { IfOk result HasNoComponents }
-{
-    read_headers_are_whole();
-    read_glyphs_are_whole();
-    built_glyphs_are_read();
-    built_glyphs_have_no_components();
-    let (name, entry) = index.at(number).unwrap();
-    let mut first = FirstFailure::new();
-    let glyph = Glyph {
-        number,
-        name,
-        node: entry.node,
-    };
-    let held = read_layers(alloc, tree, header, entry.node, &mut first)?;
-    note_forms(tree, held.layers.as_slice(), &mut first);
-    judge(alloc, tree, header, index, glyph, held, first.get())
-}
-
-/// Notes the forms of these layers that the program doesn't take yet.
-fn note_forms(tree: &Tree, layers: &[SourceLayer], first: &mut FirstFailure)
-    ensures { first.new ≡ noted first.old (flat_map (forms_of tree.now) layers.now) }
-{
-    for layer in layers {
-        note_layer_forms(tree, layer.number, first);
-    }
 }
 
 /// A glyph of the source: its number, its name and its dictionary.

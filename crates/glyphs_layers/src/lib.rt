@@ -8,8 +8,7 @@ mod layers;
 mod places;
 mod rule_laws;
 
-pub use glyph_layers::{built_glyph, raw_glyph};
+pub use glyph_layers::raw_glyph;
 pub use rule_laws::{
-    built_glyphs_are_read, built_glyphs_have_no_components, forms_are_compared,
-    glyph_rules_are_tabled, other_forms_are_refused, read_glyphs_are_whole,
+    forms_are_compared, glyph_rules_are_tabled, other_forms_are_refused, read_glyphs_are_whole,
 };

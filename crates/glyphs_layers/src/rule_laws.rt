@@ -1,7 +1,6 @@
 ghost use Rattle.glyphs_layers.specs.Forms.{FormsAreCompared, OtherFormsAreRefused};
 ghost use Rattle.glyphs_layers.specs.GlyphTables.{GlyphsAreTabled};
-ghost use Rattle.glyphs_layers.specs.SourceGlyphs.{ReadGlyphsAreWhole, BuiltGlyphsAreRead};
-ghost use Rattle.glyphs_layers.specs.SourceGlyphs.{BuiltGlyphsHaveNoComponents};
+ghost use Rattle.glyphs_layers.specs.SourceGlyphs.{ReadGlyphsAreWhole};
 
 use axis_space::first_repeat_is_the_first;
 use font_ir::made_notdef_is_flat;
@@ -37,14 +36,3 @@ pub fn read_glyphs_are_whole()
     made_notdef_is_flat();
     first_repeat_is_the_first();
 }
-
-/// What `built_glyph` reads of a tree is what `raw_glyph` reads of it. A law: the function does
-/// nothing.
-pub fn built_glyphs_are_read()
-    ensures { BuiltGlyphsAreRead }
-{}
-
-/// What `built_glyph` reads of a tree has no components. A law: the function does nothing.
-pub fn built_glyphs_have_no_components()
-    ensures { BuiltGlyphsHaveNoComponents }
-{}

@@ -1,12 +1,13 @@
--- The codes of an index that is read are distinct and those of characters, and its `.notdef` is
--- exported.
+-- The codes of an index that is read are distinct and those of characters, its entries are numbered
+-- by their places under different names, and its `.notdef` is exported.
 use Rattle.std.proofs.Common.{◌≡◌, ℕ, ◌+◌, Bool, true, false, cond, ◌&&◌, ◌||◌, not, List, []}
-use Rattle.std.proofs.Common.{◌∷◌, map, Option, Some, None, Ok, nat_le, refl}
-use Rattle.std.proofs.Common.{ap, subst, arith}
+use Rattle.std.proofs.Common.{◌∷◌, map, zero, suc, slice_get, nat_eq, Option, Some, None, Ok}
+use Rattle.std.proofs.Common.{nat_le, refl, ap, subst, arith}
 use Rattle.std.specs.Prelude.{codes}
 use Rattle.std.specs.Option.{option_map_or}
-use Rattle.std.specs.List.{All, AllByRecursion}
-use Rattle.std.specs.Cmp.Lexicographic.{bytes_decides}
+use Rattle.std.specs.List.{All, AllByRecursion, IsDistinct}
+use Rattle.std.specs.Map.{keys_of}
+use Rattle.std.specs.Cmp.Lexicographic.{pointwise, bytes_decides}
 use Rattle.std.proofs.lemmas.Bool.{and_parts}
 use Rattle.std.proofs.lemmas.Bool.Decides.{nat_tests}
 use Rattle.std.proofs.lemmas.List.Elements.{All-from_recursion}
@@ -25,7 +26,7 @@ use Rattle.glyphs_source.specs.IndexReading.{code_by, code_at, codes_by, codes_a
 use Rattle.glyphs_source.specs.IndexReading.{glyph_name, is_exported, entry_of, entries_from}
 use Rattle.glyphs_source.specs.IndexReading.{glyph_numbers, repeated_names, repeated_codes}
 use Rattle.glyphs_source.specs.IndexReading.{index_failures, index_of, IsCharacterCode, AreCoded}
-use Rattle.glyphs_source.specs.IndexReading.{IsNotdefExported}
+use Rattle.glyphs_source.specs.IndexReading.{AreNumbered, IsNotdefExported}
 use Rattle.glyphs_source.proofs.RepeatLaws.{index_without}
 
 -- ---- an index that is read has the entries of the glyphs
@@ -107,6 +108,27 @@ read_codes t index e = record {
   distinct = (index_without t index e).codes;
   within = all_read (λ entry. All IsCharacterCode entry.1.codes) glyph_coded t index e;
 }
+
+-- ---- numbers and names
+
+number_at : (t : Tree) (first : ℕ) (gs : List ℕ) (place : ℕ) (entry : List ℕ × IndexEntry)
+    → slice_get (entries_from t first gs) place ≡ Some entry → entry.1.number ≡ first + place
+unfolding entry_of
+number_at t first [] place entry e = absurd cc
+number_at t first (g ∷ gs) zero entry e =
+    let same : (glyph_name t g, entry_of t first g) ≡ entry = cc in
+    omega (arith, ap (λ (x : List ℕ × IndexEntry). x.1.number) same)
+number_at t first (g ∷ gs) (suc place) entry e =
+    omega (arith, number_at t (first + 1) gs place entry e)
+
+pub read_numbers : (t : Tree) (index : List (List ℕ × IndexEntry)) → index_of t ≡ Ok index
+    → AreNumbered index
+read_numbers t index e = subst AreNumbered (entries_read t index e)
+    (λ place entry there. omega (arith, number_at t 0 (glyph_numbers t) place entry there))
+
+pub read_distinct : (t : Tree) (index : List (List ℕ × IndexEntry)) → index_of t ≡ Ok index
+    → IsDistinct (pointwise nat_eq) (keys_of index)
+read_distinct t index e = (index_without t index e).names
 
 -- ---- `.notdef`
 

@@ -1,8 +1,10 @@
 pub mod Examples
 pub mod HeaderLaws
+pub mod HeaderWords
 pub mod IndexEntries
 pub mod IndexLaws
 pub mod IndexNames
+pub mod IndexShapes
 pub mod LocalRules
 pub mod RepeatLaws
 pub mod Repeating

@@ -39,11 +39,11 @@ index_by_rule t rule place =
 
 -- ---- in words
 
-is_not : (b : Bool) → b ≡ false → not b ≡ true
+pub is_not : (b : Bool) → b ≡ false → not b ≡ true
 is_not true e = absurd (true≢false e)
 is_not false e = refl
 
-isnt_not : (b : Bool) → not b ≡ true → b ≡ false
+pub isnt_not : (b : Bool) → not b ≡ true → b ≡ false
 isnt_not true e = absurd (true≢false (sym e))
 isnt_not false e = refl
 
@@ -123,7 +123,7 @@ module _ (t : Tree) (place : ℕ) where
   of_nameless p = inl (of_words t MissingKey place to_glyphs (has (codes "glyphname")) p)
 
 -- the header's own failures in words, and those of its design space beside them
-beside : {A B C : Type 0} → (A → B) → A ⊎ C → B ⊎ C
+pub beside : {A B C : Type 0} → (A → B) → A ⊎ C → B ⊎ C
 beside f (inl a) = inl (f a)
 beside f (inr c) = inr c
 

@@ -2,7 +2,7 @@
 -- (Glyphs file format, version 3; the rules are fontc's own). Their layers are not read here.
 use Rattle.std.specs.Prelude.{◌≡◌, ℕ, ◌+◌, ◌≤◌, Bool, true, false, not, ◌&&◌, ◌||◌, nat_eq, List}
 use Rattle.std.specs.Prelude.{[], ◌∷◌, ◌++◌, map, flat_map, Option, Some, None, Result, codes}
-use Rattle.std.specs.Prelude.{if◌then◌else◌}
+use Rattle.std.specs.Prelude.{slice_get, if◌then◌else◌}
 use Rattle.std.specs.Option.{option_map_or}
 use Rattle.std.specs.List.{All, IsDistinct, list_any}
 use Rattle.std.specs.Cmp.Lexicographic.{pointwise}
@@ -147,6 +147,11 @@ pub record IsCharacterCode (code : ℕ) : Type 0 where
 pub record AreCoded (index : List (List ℕ × IndexEntry)) : Type 0 where
   pub distinct : IsDistinct nat_eq (flat_map (λ entry. counting entry.1) index)
   pub within : All (λ entry. All IsCharacterCode entry.1.codes) index
+
+-- each entry's number is its place in the list
+abbrev pub AreNumbered : List (List ℕ × IndexEntry) → Type 0
+AreNumbered index = (number : ℕ) (entry : List ℕ × IndexEntry)
+    → slice_get index number ≡ Some entry → entry.1.number ≡ number
 
 -- each glyph named `.notdef` is exported
 abbrev pub IsNotdefExported : List (List ℕ × IndexEntry) → Type 0

@@ -2,20 +2,21 @@
 -- (Glyphs file format, version 3; the rules are fontc's own). They tell of each local rule where it
 -- fails: exactly at the values that a row of that rule reaches, and of which it doesn't hold. So
 -- they know no order, and no walk.
-use Rattle.std.specs.Prelude.{◌≡◌, ℕ, Bool, true, false, not, List, [], ◌∷◌, ◌++◌, codes, Some, ◌⊎◌, ◌↔◌}
+use Rattle.std.specs.Prelude.{◌≡◌, ℕ, Bool, true, not, List, [], ◌∷◌, ◌++◌, codes, Some, ◌⊎◌, ◌↔◌}
 use Rattle.plist_reader.specs.declared.tree.Tree.{Tree}
 use Rattle.refusal_codes.specs.declared.rule.Rule.{Rule}
 use Rattle.refusal_codes.specs.declared.rule.Rule.TheVariants.{WrongShape, MissingKey, WrongVersion}
 use Rattle.refusal_codes.specs.declared.rule.Rule.TheVariants.{NotWhole, OutOfRange}
 use Rattle.source_values.specs.declared.kinds.Range.TheVariants.{Any, Natural, Code}
-use Rattle.source_values.specs.Values.{place_at, is_list, is_dictionary}
+use Rattle.source_values.specs.Values.{place_at, items_at, pairs_at, is_list, is_dictionary}
 use Rattle.source_values.specs.Ways.{IsOneOf, Step, under, each_item, when, Reaches, Row}
-use Rattle.source_values.specs.Ways.{Fails, rows_of, here, behind, has}
+use Rattle.source_values.specs.Ways.{Fails, rows_of, behind, has}
 use Rattle.source_values.specs.Tables.{decimal_passes, whole_table, decimal_table, text_table}
 use Rattle.source_values.specs.Tables.{name_table, empty_list_table}
 use Rattle.source_values.specs.Tables.{empty_dictionary_table, required_table, optional_table}
 use Rattle.source_values.specs.Tables.{each_table, inside_table, has_fraction, is_outside}
-use Rattle.source_values.specs.Tables.{has_other_length}
+use Rattle.source_values.specs.Tables.{has_other_length, is_decimal_value, is_text_value}
+use Rattle.source_values.specs.Asking.{is_empty_list, is_empty_dictionary}
 use Rattle.plist_reader.specs.Tree.{find_in}
 use Rattle.refusal_codes.specs.declared.first.Failure.{Failure}
 use Rattle.source_axes.specs.AxisReading.{axes_failures}
@@ -158,11 +159,12 @@ MissingKeysOfTheIndex =
     → IsOneOf (index_failures t) (record { rule = MissingKey; place = place })
     ↔ IsInSource t to_glyphs (lacks (codes "glyphname")) place
 
--- a number of the header isn't whole exactly where the em or a part of the font's version has a
--- fraction, or where one of its design space has
+-- the way to the value of the font under a key
 abbrev pub to_top : List ℕ → List Step
 to_top key = when is_dictionary ∷ under key ∷ []
 
+-- a number of the header isn't whole exactly where the em or a part of the font's version has a
+-- fraction, or where one of its design space has
 abbrev pub FractionsOfTheHeader : Type 0
 FractionsOfTheHeader =
     (t : Tree) (place : ℕ)
@@ -172,8 +174,73 @@ FractionsOfTheHeader =
     ⊎ IsInSource t (to_top (codes "versionMinor")) has_fraction place))
     ⊎ FailsInDesign t (record { rule = NotWhole; place = place }))
 
--- the ways to the values of glyphs under a key, to the codes of glyphs that have a list of them,
--- and
+-- a value at this place, at the end of one of these ways from the source's, passes the test beside
+-- that way
+abbrev pub IsAtOneOf : Tree → List (List Step × (Tree → ℕ → Bool)) → ℕ → Type 0
+IsAtOneOf t [] place = ⊥
+IsAtOneOf t (one ∷ others) place = IsInSource t one.0 one.1 place ⊎ IsAtOneOf t others place
+
+-- values of other kinds
+abbrev pub is_no_dictionary : Tree → ℕ → Bool
+is_no_dictionary t n = not (is_dictionary t n)
+
+abbrev pub is_no_decimal : Tree → ℕ → Bool
+is_no_decimal t n = not (is_decimal_value t n)
+
+abbrev pub is_no_text : Tree → ℕ → Bool
+is_no_text t n = not (is_text_value t n)
+
+abbrev pub is_no_empty_list : Tree → ℕ → Bool
+is_no_empty_list t n = not (is_empty_list (items_at t n))
+
+abbrev pub is_no_empty_dictionary : Tree → ℕ → Bool
+is_no_empty_dictionary t n = not (is_empty_dictionary (pairs_at t n))
+
+-- the font is a dictionary, its versions and its em are decimals, its family's name is a text, and
+-- it has no feature code and no kerning
+abbrev pub wrong_shapes : List (List Step × (Tree → ℕ → Bool))
+wrong_shapes =
+    ([], is_no_dictionary)
+    ∷ (to_top (codes ".formatVersion"), is_no_decimal)
+    ∷ (to_top (codes "unitsPerEm"), is_no_decimal)
+    ∷ (to_top (codes "familyName"), is_no_text)
+    ∷ (to_top (codes "versionMajor"), is_no_decimal)
+    ∷ (to_top (codes "versionMinor"), is_no_decimal)
+    ∷ (to_top (codes "classes"), is_no_empty_list)
+    ∷ (to_top (codes "featurePrefixes"), is_no_empty_list)
+    ∷ (to_top (codes "features"), is_no_empty_list)
+    ∷ (to_top (codes "kerningLTR"), is_no_empty_dictionary)
+    ∷ []
+
+-- something of the header is of a wrong shape exactly where one of these values is, or where
+-- something of its design space is
+abbrev pub ShapesOfTheHeader : Type 0
+ShapesOfTheHeader =
+    (t : Tree) (place : ℕ)
+    → IsOneOf (header_failures t) (record { rule = WrongShape; place = place })
+    ↔ (IsAtOneOf t wrong_shapes place
+    ⊎ FailsInDesign t (record { rule = WrongShape; place = place }))
+
+-- the em is from 16 to 16384, the family's name has 1 to 255 bytes, and the parts of the font's
+-- version are at most 32767 and 999
+abbrev pub numbers_outside : List (List Step × (Tree → ℕ → Bool))
+numbers_outside =
+    (to_top (codes "unitsPerEm"), is_outside (Natural 16 16384))
+    ∷ (to_top (codes "familyName"), has_other_length)
+    ∷ (to_top (codes "versionMajor"), is_outside (Natural 0 32767))
+    ∷ (to_top (codes "versionMinor"), is_outside (Natural 0 999))
+    ∷ []
+
+-- something of the header is out of range exactly where one of these is, or where something of its
+-- design space is
+abbrev pub RangesOfTheHeader : Type 0
+RangesOfTheHeader =
+    (t : Tree) (place : ℕ)
+    → IsOneOf (header_failures t) (record { rule = OutOfRange; place = place })
+    ↔ (IsAtOneOf t numbers_outside place
+    ⊎ FailsInDesign t (record { rule = OutOfRange; place = place }))
+
+-- the ways to the values of glyphs under a key, to the codes of glyphs that have a list of them, and
 -- to the code of those that have no list
 abbrev pub to_glyph : List ℕ → List Step
 to_glyph key = to_glyphs ++ (under key ∷ [])
@@ -202,3 +269,29 @@ RangesOfTheIndex =
     ↔ (IsInSource t (to_glyph (codes "glyphname")) has_other_length place
     ⊎ (IsInSource t to_codes (is_outside Code) place
     ⊎ IsInSource t to_code (is_outside Code) place))
+
+-- the way to the items of the list of glyphs
+abbrev pub to_items : List Step
+to_items = to_top (codes "glyphs") ++ (each_item ∷ [])
+
+-- the font is a dictionary, its glyphs are a list of dictionaries, the name of each and those of its
+-- groups for kerning are texts, and its codes and its `export` are decimals
+abbrev pub wrong_shapes_of_index : List (List Step × (Tree → ℕ → Bool))
+wrong_shapes_of_index =
+    ([], is_no_dictionary)
+    ∷ (to_top (codes "glyphs"), is_no_list)
+    ∷ (to_items, is_no_dictionary)
+    ∷ (to_glyph (codes "glyphname"), is_no_text)
+    ∷ (to_codes, is_no_decimal)
+    ∷ (to_code, is_no_decimal)
+    ∷ (to_glyph (codes "export"), is_no_decimal)
+    ∷ (to_glyph (codes "kernLeft"), is_no_text)
+    ∷ (to_glyph (codes "kernRight"), is_no_text)
+    ∷ []
+
+-- something of the index is of a wrong shape exactly where one of these values is
+abbrev pub ShapesOfTheIndex : Type 0
+ShapesOfTheIndex =
+    (t : Tree) (place : ℕ)
+    → IsOneOf (index_failures t) (record { rule = WrongShape; place = place })
+    ↔ IsAtOneOf t wrong_shapes_of_index place

@@ -1,14 +1,17 @@
 //! What the definitions of the header and of the index say of each source. Each function is a law:
 //! it does nothing.
 
-ghost use Rattle.std.specs.Prelude.{◌≡◌, List, ℕ, Ok};
+ghost use Rattle.std.specs.Prelude.{◌≡◌, List, ℕ, nat_eq, Ok};
+ghost use Rattle.std.specs.List.{IsDistinct};
+ghost use Rattle.std.specs.Map.{keys_of};
+ghost use Rattle.std.specs.Cmp.Lexicographic.{pointwise};
 ghost use Rattle.plist_reader.specs.declared.tree.Tree.{Tree};
 ghost use Rattle.font_ir.specs.declared.header.Header.{Header};
 ghost use Rattle.font_ir.specs.Headers.{IsHeader};
 ghost use Rattle.glyphs_source.specs.declared.entries.IndexEntry.{IndexEntry};
 ghost use Rattle.glyphs_source.specs.HeaderReading.{header_of};
 ghost use Rattle.glyphs_source.specs.IndexReading.{index_of, AreNamed, AreCoded};
-ghost use Rattle.glyphs_source.specs.IndexReading.{IsNotdefExported};
+ghost use Rattle.glyphs_source.specs.IndexReading.{AreNumbered, IsNotdefExported};
 
 use axis_space::{first_repeat_is_the_first, first_unmapped_is_the_first};
 use source_axes::{sound_axes_are_read, sound_instances_are_read};
@@ -44,4 +47,13 @@ pub fn exported_codes_are_distinct()
 pub fn notdef_is_exported()
     ensures { (tree : Tree) (index : List (List ℕ × IndexEntry)) → index_of tree ≡ Ok index
         → IsNotdefExported index }
+{}
+
+/// Each entry of what `glyph_index` reads of a tree has its place in the list of glyphs as its
+/// number, and no two glyphs have the same name.
+pub fn entries_are_numbered()
+    ensures numbered { (tree : Tree) (index : List (List ℕ × IndexEntry)) → index_of tree ≡ Ok index
+        → AreNumbered index }
+    ensures named { (tree : Tree) (index : List (List ℕ × IndexEntry)) → index_of tree ≡ Ok index
+        → IsDistinct (pointwise nat_eq) (keys_of index) }
 {}

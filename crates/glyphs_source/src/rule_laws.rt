@@ -2,6 +2,8 @@ ghost use Rattle.glyphs_source.specs.SourceTables.{HeaderIsTabled, IndexIsTabled
 ghost use Rattle.glyphs_source.specs.SourceTables.{MissingKeysOfTheHeader, WrongVersions};
 ghost use Rattle.glyphs_source.specs.SourceTables.{MissingKeysOfTheIndex, FractionsOfTheHeader};
 ghost use Rattle.glyphs_source.specs.SourceTables.{FractionsOfTheIndex, RangesOfTheIndex};
+ghost use Rattle.glyphs_source.specs.SourceTables.{ShapesOfTheHeader, RangesOfTheHeader};
+ghost use Rattle.glyphs_source.specs.SourceTables.{ShapesOfTheIndex};
 
 use source_axes::{axis_rules_are_tabled, instance_rules_are_tabled};
 use source_masters::{
@@ -51,6 +53,21 @@ pub fn fractions_of_the_header_are_refused()
     ensures { FractionsOfTheHeader }
 {}
 
+/// Something of the header is of a wrong shape exactly where the font is no dictionary, one of its
+/// versions or its em no decimal, or its family's name no text, where it has feature code or
+/// kerning, or where something of its design space is of a wrong shape. A law: the function does
+/// nothing.
+pub fn shapes_of_the_header_are_asked()
+    ensures { ShapesOfTheHeader }
+{}
+
+/// Something of the header is out of range exactly where the em, the length of the family's name or
+/// a part of the font's version is, or where something of its design space is. A law: the function
+/// does nothing.
+pub fn ranges_of_the_header_are_kept()
+    ensures { RangesOfTheHeader }
+{}
+
 /// A number of the index isn't whole exactly where a code or the `export` of a glyph has a
 /// fraction.
 /// A law: the function does nothing.
@@ -62,4 +79,11 @@ pub fn fractions_of_the_index_are_refused()
 /// or where a whole number in place of a code is none. A law: the function does nothing.
 pub fn ranges_of_the_index_are_kept()
     ensures { RangesOfTheIndex }
+{}
+
+/// Something of the index is of a wrong shape exactly where the font is no dictionary, its glyphs are
+/// no list of dictionaries, the name of a glyph or of one of its groups for kerning is no text, or a
+/// code or an `export` no decimal. A law: the function does nothing.
+pub fn shapes_of_the_index_are_asked()
+    ensures { ShapesOfTheIndex }
 {}

@@ -1,7 +1,8 @@
 -- the events of a board that has ended tell all refusals
-use Rattle.std.proofs.Common.{◌≡◌, ℕ, List, inl, refl, true, ap, ◌∙◌, subst}
-use Rattle.std.specs.Prelude.{codes}
+use Rattle.std.proofs.Common.{◌≡◌, ℕ, List, Option, true, ap, ◌∙◌, subst}
+use Rattle.std.specs.Prelude.{IfOk}
 use Rattle.std.specs.List.{flat_map}
+use Rattle.refusal_codes.specs.declared.refusal.Refusal.{Refusal}
 use Rattle.job_graph.specs.declared.event.Event.{Event}
 use Rattle.job_graph.specs.declared.event.End.TheVariants as end
 use Rattle.job_graph.specs.Histories.{is_run, end_of}
@@ -23,6 +24,6 @@ returns c =
     → IsComplete same_id (plan (parts source) same_id) events) c.plan.ensures
     c.ended_history_is_complete.ensures in
     let complete = law board.workers board.events c.events.ensures.history.legal c.requires in
-    c.least_told.ensures
-    ∙ ap (λ events. least (flat_map (told (parts board.plan)) events)) c.events.ensures.events
-    ∙ ended_least (parts board.plan) board.events complete (record { 0 = codes "HVAR" }) (inl refl)
+    subst (λ (least_of : Option Refusal). IfOk c.least_told.result (λ found. found ≡ least_of))
+    (ap (λ events. least (flat_map (told (parts board.plan)) events)) c.events.ensures.events
+    ∙ ended_least (parts board.plan) board.events complete) c.least_told.ensures

@@ -1,6 +1,5 @@
 -- one event more
 use Rattle.std.proofs.Common.{sym, ap, ◌∙◌}
-use Rattle.std.specs.Prelude.{option_map}
 use Rattle.std.specs.List.{flat_map}
 use Rattle.font_graph.specs.Ended.{told}
 use Rattle.font_graph.specs.Kept.{kept_least, kept_is_least, kept_turn}
@@ -15,11 +14,10 @@ loop-event-init c = kept_is_least
 
 pub loop-event-preserved : goal.loop-event-preserved
 loop-event-preserved c =
-    let kept = option_map (λ r. r.now) c.loop-event.least in
-    kept_turn (told (parts c.args.board.now.plan)) c.args.events.now c.loop-event.event-index _ kept
-    (option_map (λ r. r.now) c.lesser-least.result)
+    kept_turn (told (parts c.args.board.now.plan)) c.args.events.now c.loop-event.event-index _
+    c.loop-event.least c.lesser-least.result
     (least (flat_map (told (parts c.args.board.now.plan)) c.args.events.now))
     c.loop-event-test.true
     (c.lesser-least.ensures
-    ∙ sym (kept_one kept (option_map (λ r. r.now) c.refusal_of_event.result))
-    ∙ ap (kept_least kept) c.refusal_of_event.ensures) c.loop-event.invariant
+    ∙ sym (kept_one c.loop-event.least c.in_ok-found.found)
+    ∙ ap (kept_least c.loop-event.least) c.in_ok-found.ensures) c.loop-event.invariant

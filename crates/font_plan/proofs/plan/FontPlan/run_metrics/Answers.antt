@@ -31,8 +31,7 @@ metrics_table-requires-clause-for_header c =
     c.requires.done) in
     let order = some_there (order_read (parts []) c.args.reads.now) found.order in
     let measures_is = c.measures_in.ensures ∙ ap Some (sym c.get-measures.ensures.value) in
-    measures_fit c.read_glyphs_are_whole.ensures c.drawn_glyphs_are_flat.ensures
-    c.measures_are_for_their_header.ensures c.args.self.now c.get-header.result.now order.0
+    measures_fit c.drawing_laws.ensures c.measures_are_for_their_header.ensures c.args.self.now c.get-header.result.now order.0
     c.get-measures.result.now (header_known c)
     (c.made_notdef_is_flat.ensures c.get-header.result.now (header_known c))
     (of_glyphs c.args.self.now c.args.tag c.args.reads.now found (Some groups.Metrics)

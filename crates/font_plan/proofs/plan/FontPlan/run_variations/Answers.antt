@@ -1,8 +1,8 @@
 -- what the job finds is what its part reads
 use Rattle.std.proofs.Common.{ap, sym, ◌∙◌, subst, Some}
+use Rattle.font_ir.specs.FlatGlyphs.{IsFlatGlyph}
 use Rattle.font_graph.specs.Running.{variations_finds}
 use Rattle.font_plan.specs.Jobs.{parts}
-use Rattle.font_plan.specs.Known.{IsSimple}
 use Rattle.font_plan.specs.Settling.{Comes}
 use Rattle.font_plan.proofs.Found.{flat_within}
 use Rattle.font_plan.proofs.Runs.{variations_come}
@@ -22,9 +22,7 @@ flat_in-requires c = (variations_finds (parts c.args.self.now) c.args.glyph c.ar
 
 pub run_variations-requires-clause-flat : goal.run_variations-requires-clause-flat
 run_variations-requires-clause-flat c =
-    let same = c.get-flat.ensures ∙ c.get.ensures.value in
-    let simple : IsSimple c.get-flat.result.now = subst IsSimple (sym same) c.get.ensures.holds in
-    simple.flat
+    subst IsFlatGlyph (sym (c.get-flat.ensures ∙ c.get.ensures.value)) c.get.ensures.holds
 
 pub run_variations-requires-clause-glyph : goal.run_variations-requires-clause-glyph
 run_variations-requires-clause-glyph c = flat_within c.args.self.now c.args.glyph c.args.reads.now
