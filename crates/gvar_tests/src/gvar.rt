@@ -34,17 +34,26 @@ fn shared_of(model: &Model) -> &[Region]
     &model.supports()[1..]
 }
 
-/// Whether these are the variation data of a glyph.
-fn is_data(alloc: Global, glyph: &FlatGlyph, expected: &[u8]) -> bool
-    requires { IsFlatGlyph glyph.now }
+/// Whether these are the variation data of a glyph, in a font whose masters have this model.
+fn is_data(alloc: Global, masters: &Model, glyph: &FlatGlyph, expected: &[u8]) -> bool
+    requires masters { AreGlyphPlaces masters.now }
+    requires flat { IsFlatGlyph glyph.now }
 {
     let Ok(model) = Model::new(alloc, glyph.places.as_slice()) else {
         return false;
     };
-    match glyph_variations(alloc, shared_of(&model), &model, glyph) {
+    match glyph_variations(alloc, shared_of(masters), &model, glyph) {
         Ok(data) => data.as_slice() == expected,
         Err(_) => false,
     }
+}
+
+/// The model of two masters, at the default and at the end of one axis.
+fn two_masters(alloc: Global) -> Result<Model, Fail>
+    ensures { IfOk result AreGlyphPlaces }
+{
+    let places = vec![in alloc; on_one_axis(alloc, 0)?, on_one_axis(alloc, 16_384)?]?;
+    Ok(Model::new(alloc, places.as_slice())?)
 }
 
 /// The first delta of a glyph that is too large, with its number.
@@ -72,7 +81,8 @@ fn a_triangle_that_grows_has_a_tuple_of_all_points(rt: HostRuntime) -> Result<()
     let tops = [Fixed(16_384_000), Fixed(17_039_360)];
     let glyph = moving_glyph(alloc, places, widths, tops.as_slice())?;
     let expected = hex::decode(alloc, GROWING)?;
-    assert!(rt; is_data(alloc, &glyph, expected.as_slice()));
+    let masters = two_masters(alloc)?;
+    assert!(rt; is_data(alloc, &masters, &glyph, expected.as_slice()));
     Ok(())
 }
 
@@ -83,7 +93,54 @@ fn a_triangle_that_stays_has_no_data(rt: HostRuntime) -> Result<(), Fail> {
     let widths = vec![in alloc; 500, 500]?;
     let tops = [Fixed(16_384_000), Fixed(16_384_000)];
     let glyph = moving_glyph(alloc, places, widths, tops.as_slice())?;
-    assert!(rt; is_data(alloc, &glyph, &[]));
+    let masters = two_masters(alloc)?;
+    assert!(rt; is_data(alloc, &masters, &glyph, &[]));
+    Ok(())
+}
+
+/// A tuple whose peak, half way, stands in the glyph: its flags are 0x8000 and 0x2000.
+const HALF_WAY: &str = "0001000a\
+    0008a0002000\
+    00000a8200148186\
+    0000";
+
+#[test]
+fn a_peak_that_no_master_has_stands_in_the_glyph(rt: HostRuntime) -> Result<(), Fail> {
+    let alloc = rt.alloc();
+    let places = vec![in alloc; on_one_axis(alloc, 0)?, on_one_axis(alloc, 8192)?]?;
+    let widths = vec![in alloc; 500, 520]?;
+    let tops = [Fixed(16_384_000), Fixed(17_039_360)];
+    let glyph = moving_glyph(alloc, places, widths, tops.as_slice())?;
+    let expected = hex::decode(alloc, HALF_WAY)?;
+    let masters = two_masters(alloc)?;
+    assert!(rt; is_data(alloc, &masters, &glyph, expected.as_slice()));
+    Ok(())
+}
+
+/// Two tuples with a start and an end: from 0 over a peak half way, which stands in the glyph, to
+/// the axis's end, and from half way to the shared peak. The deltas are 10 and 20 units, and then
+/// 30 and 30.
+const WITH_ENDS: &str = "00020016\
+    0008e000200000004000\
+    0008600020004000\
+    00000a8200148186\
+    00001e82001e8186\
+    0000";
+
+#[test]
+fn a_region_that_is_not_implied_has_start_and_end(rt: HostRuntime) -> Result<(), Fail> {
+    let alloc = rt.alloc();
+    let places = vec![in alloc;
+        on_one_axis(alloc, 0)?,
+        on_one_axis(alloc, 8192)?,
+        on_one_axis(alloc, 16_384)?,
+    ]?;
+    let widths = vec![in alloc; 500, 520, 530]?;
+    let tops = [Fixed(16_384_000), Fixed(17_039_360), Fixed(18_350_080)];
+    let glyph = moving_glyph(alloc, places, widths, tops.as_slice())?;
+    let expected = hex::decode(alloc, WITH_ENDS)?;
+    let masters = two_masters(alloc)?;
+    assert!(rt; is_data(alloc, &masters, &glyph, expected.as_slice()));
     Ok(())
 }
 

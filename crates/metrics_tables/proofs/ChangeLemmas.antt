@@ -1,6 +1,6 @@
 -- The regions of the masters, and the changes of glyphs one by one.
 use Rattle.std.proofs.Common.{◌≡◌, ◌≢◌, ℕ, ◌+◌, ◌<◌, ◌≤◌, false, List, []}
-use Rattle.std.proofs.Common.{◌∷◌, ◌++◌, length, map, get_or, take, drop, None, refl}
+use Rattle.std.proofs.Common.{◌∷◌, ◌++◌, length, map, get_or, take, drop, Option, None, Some, refl}
 use Rattle.std.proofs.Common.{◌-◌, sym, ap, ◌∙◌, subst, arith, ℤ, pos}
 use Rattle.std.proofs.lemmas.Int.{ints}
 use Rattle.std.proofs.lemmas.Grind.{get_or_after_one}
@@ -33,11 +33,14 @@ use Rattle.variation_model.specs.Places.{ordered}
 use Rattle.variation_model.specs.Scalar.{scalar_of}
 use Rattle.variation_model.specs.Supports.{supports_of}
 use Rattle.metrics_tables.specs.Changes.{Change, advance_deltas, changes_of}
-use Rattle.metrics_tables.specs.Changes.{is_there, large_from, or_large_in, same_region}
+use Rattle.metrics_tables.specs.Changes.{first_of, is_there, large_from, large_of, same_region}
 use Rattle.metrics_tables.specs.Changes.{with_changes, with_glyphs}
 use Rattle.metrics_tables.specs.RegionIndexes.{AllTold, AreTold, HasSides, stands_at, told_by}
 use Rattle.metrics_tables.specs.RegionIndexes.{with_regions}
+use Rattle.metrics_tables.specs.StaticLaws.{none_of}
+use Rattle.metrics_tables.specs.declared.changes.LargeDelta.{LargeDelta}
 use Rattle.metrics_tables.specs.declared.changes.PlacedDelta.{PlacedDelta}
+use Rattle.metrics_tables.proofs.LargeLemmas.{first_of-assoc, some_of}
 use Rattle.metrics_tables.proofs.RegionLemmas.{told_on, with_new, Told}
 use Rattle.metrics_tables.proofs.RowLemmas.{AreApart, IsApart, are_apart, not_same, rows_told}
 
@@ -165,11 +168,43 @@ module _ (glyphs : List (Arc FlatGlyph Global)) (gid : ℕ) (glyph : Arc FlatGly
       ∙ ap (λ (first : Arc FlatGlyph Global). first.value ∷ glyphs_of (drop (gid + 1) glyphs))
       (sym is)
 
+  abbrev behind : Option LargeDelta
+  behind = large_from (gid + 1) (glyphs_of (drop (gid + 1) glyphs))
+
   pub large_later : first_large 0 (advance_deltas glyph.value) ≡ None
       → large_from gid (glyphs_of (drop gid glyphs))
       ≡ large_from (gid + 1) (glyphs_of (drop (gid + 1) glyphs))
-  large_later e = ap (large_from gid) rest ∙ ap (λ large. or_large_in gid large
-      (large_from (gid + 1) (glyphs_of (drop (gid + 1) glyphs)))) e
+  large_later e = ap (large_from gid) rest ∙ ap (λ large. first_of large behind)
+      (none_of gid glyph.value e)
+
+  -- the glyph has a large delta
+  pub large_here : (at number : ℕ) (value told : ℤ) (first : LargeDelta)
+      → Some first ≡ first_of (Some (record { number = number; gid = gid; value = told }))
+      (large_from (gid + 1) (glyphs_of (drop (gid + 1) glyphs)))
+      → first_large 0 (advance_deltas glyph.value) ≡ Some (at, value)
+      → number ≡ glyph.value.number → told ≡ value
+      → large_from gid (glyphs_of (drop gid glyphs)) ≡ Some first
+  large_here at number value told first is e same_number same_value =
+      let same : LargeDelta = record { number = number; gid = gid; value = told } in
+      let is_same : record same {
+        number = glyph.value.number;
+        value = value;
+      } ≡ same = (λ i. record {
+        number = sym same_number i;
+        gid = gid;
+        value = sym same_value i;
+      }) in
+      ap (large_from gid) rest ∙ ap (λ large. first_of large behind)
+      (some_of gid glyph.value at value e ∙ ap Some is_same) ∙ sym is
+
+  -- of an earlier one and this glyph's, if it has one, the first in the source
+  pub large_more : (found first : LargeDelta)
+      → Some first ≡ first_of (Some found) (large_of gid glyph.value)
+      → first_of (Some first) (large_from (gid + 1) (glyphs_of (drop (gid + 1) glyphs)))
+      ≡ first_of (Some found) (large_from gid (glyphs_of (drop gid glyphs)))
+  large_more found first is = ap (λ large. first_of large behind) is
+      ∙ first_of-assoc (Some found) (large_of gid glyph.value) behind
+      ∙ ap (λ all. first_of (Some found) (large_from gid all)) (sym rest)
 
   -- what is told of the glyphs so far, and of one more
   pub all_told_more : (before after : List Region) (all : List (List PlacedDelta))

@@ -7,6 +7,7 @@ mod RegionSides
 mod MeasureLaws
 pub mod RegionLemmas
 pub mod RowLemmas
+pub mod LargeLemmas
 pub mod ChangeLemmas
 pub mod Examples
 pub mod NameLemmas

@@ -1,5 +1,5 @@
 -- What is measured is for its header.
-use Rattle.std.proofs.Common.{◌≡◌, ℕ, ◌≤◌, Bool, true, false, ℤ, List, [], ◌∷◌, length, map, Option}
+use Rattle.std.proofs.Common.{◌≡◌, ℕ, ◌≤◌, Bool, true, false, List, [], ◌∷◌, length, map, Option}
 use Rattle.std.proofs.Common.{None, Some, nat_lt, refl, sym, subst, ◌∙◌, arith}
 use Rattle.std.proofs.lemmas.Bool.Decides.{nat_tests}
 use Rattle.std.proofs.lemmas.List.{length-map}
@@ -12,6 +12,7 @@ use Rattle.font_ir.specs.Headers.{IsHeader}
 use Rattle.font_ir.specs.declared.glyph.FlatGlyph.{FlatGlyph}
 use Rattle.font_ir.specs.declared.header.Header.{Header}
 use Rattle.font_ir.specs.declared.variation.Region.{Region}
+use Rattle.metrics_tables.specs.declared.changes.LargeDelta.{LargeDelta}
 use Rattle.metrics_tables.specs.declared.measures.Measures.{Measures}
 use Rattle.metrics_tables.specs.declared.measures.MeasureError.TheVariants as measure_errors
 use Rattle.metrics_tables.specs.Changes.{BeginsWithMasters, regions_of, row_over, delta_at}
@@ -21,7 +22,7 @@ use Rattle.metrics_tables.specs.Measuring.{font_measures, measured_of, measured_
 use Rattle.metrics_tables.proofs.RegionSides.{sides-regions_of}
 
 -- measures are given where there are not too many regions
-given : (large : Option (ℕ × ℤ)) (regions : ℕ) (defined measures : Measures)
+given : (large : Option LargeDelta) (regions : ℕ) (defined measures : Measures)
     → measured_unless large regions defined ≡ Ok measures
     → (regions ≤ REGIONS) × (defined ≡ measures)
 given (Some large) regions defined measures e = absurd (cc)

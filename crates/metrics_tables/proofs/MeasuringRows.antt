@@ -130,9 +130,22 @@ cornered = glyph (on_axes (pos 0) (pos 0) ∷ on_axes (pos 16384) (pos 0)
     ∷ on_axes (pos 0) (pos 16384) ∷ on_axes (pos 16384) (pos 16384) ∷ [])
     (pos 0 ∷ pos 32767 ∷ pos 32767 ∷ pos 0 ∷ [])
 
-too_much : large_from 0 (letter ∷ cornered ∷ []) ≡ Some (1, negsuc 65533)
+too_much : large_from 0 (letter ∷ cornered ∷ [])
+    ≡ Some (record { number = 0; gid = 1; value = negsuc 65533 })
 unfolding supports_of deltas_of order_of
 too_much = refl
+
+-- of two the one that is told stands first in the source, though it comes later in the font
+abbrev later_notdef : FlatGlyph
+later_notdef = record cornered {
+  number = 1;
+  widths = pos 1 ∷ pos 32767 ∷ pos 32767 ∷ pos 0 ∷ [];
+}
+
+first_told : large_from 0 (later_notdef ∷ cornered ∷ [])
+    ≡ Some (record { number = 0; gid = 1; value = negsuc 65533 })
+unfolding supports_of deltas_of order_of
+first_told = refl
 
 none_too_much : large_from 0 (letter ∷ bent ∷ []) ≡ None
 unfolding supports_of deltas_of order_of

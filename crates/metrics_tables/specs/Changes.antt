@@ -1,10 +1,11 @@
--- How the advance widths of a font's glyphs change over its design space: the regions in which one
--- changes, and each glyph's deltas there (OpenType 1.9, "HVAR"). Which regions a font has, and
--- their order, are fontc's own.
-use Rattle.std.specs.Prelude.{◌≡◌, ℕ, ◌+◌, Bool, not, if◌then◌else◌, List, [], ◌∷◌, ◌++◌, length}
-use Rattle.std.specs.Prelude.{map}
+-- How the advance widths of a font's glyphs change over its design space: the masters' regions behind
+-- the first and the others in which one changes, and each glyph's deltas there (OpenType 1.9,
+-- "HVAR"). Which regions a font has, and their order, are fontc's own.
+use Rattle.std.specs.Prelude.{◌≡◌, ℕ, ◌+◌, nat_lt, Bool, not, if◌then◌else◌, List, [], ◌∷◌, ◌++◌}
+use Rattle.std.specs.Prelude.{length, map}
 use Rattle.std.specs.Prelude.{drop, take, filter, ℤ, pos, ◌*ℤ◌, Option, None, Some}
 use Rattle.std.specs.List.{flat_map, fold, list_any, zip}
+use Rattle.std.specs.Option.{option_map}
 use Rattle.std.specs.Ordering.{int_eq}
 use Rattle.std.specs.Cmp.Lexicographic.{pointwise}
 use Rattle.fixed_math.specs.declared.F2Dot14.{F2Dot14}
@@ -14,6 +15,7 @@ use Rattle.font_ir.specs.declared.glyph.FlatGlyph.{FlatGlyph}
 use Rattle.font_ir.specs.declared.variation.Region.{Region}
 use Rattle.variation_model.specs.Supports.{supports_of}
 use Rattle.variation_model.specs.Deltas.{deltas_of, first_large}
+use Rattle.metrics_tables.specs.declared.changes.LargeDelta.{LargeDelta}
 
 -- the masters' locations, in their order
 abbrev pub master_places : Header → List (List F2Dot14)
@@ -86,13 +88,24 @@ row_over regions changes = map (delta_at changes) regions
 
 -- ---- what can't be stored
 
--- the first delta that an int16 doesn't hold, with the number of its glyph; the first of them has
--- this number
-abbrev pub or_large_in : ℕ → Option (ℕ × ℤ) → Option (ℕ × ℤ) → Option (ℕ × ℤ)
-or_large_in gid None others = others
-or_large_in gid (Some large) others = Some (gid, large.1)
+-- the first delta that an int16 doesn't hold, of a glyph that has this number in the font
+abbrev pub large_of : ℕ → FlatGlyph → Option LargeDelta
+large_of gid glyph =
+    option_map (λ large. record { number = glyph.number; gid = gid; value = large.1 })
+    (first_large 0 (advance_deltas glyph))
 
-abbrev pub large_from : ℕ → List FlatGlyph → Option (ℕ × ℤ)
+-- of two of them that of the glyph that stands first in the source, and the first one where their
+-- glyphs have the same place there
+abbrev pub first_in_source : LargeDelta → LargeDelta → LargeDelta
+first_in_source large other = if nat_lt other.number large.number then other else large
+
+abbrev pub first_of : Option LargeDelta → Option LargeDelta → Option LargeDelta
+first_of None others = others
+first_of (Some large) None = Some large
+first_of (Some large) (Some other) = Some (first_in_source large other)
+
+-- that of the glyph that stands first in the source, of glyphs of which the first one has this
+-- number in the font
+abbrev pub large_from : ℕ → List FlatGlyph → Option LargeDelta
 large_from gid [] = None
-large_from gid (glyph ∷ glyphs) =
-    or_large_in gid (first_large 0 (advance_deltas glyph)) (large_from (gid + 1) glyphs)
+large_from gid (glyph ∷ glyphs) = first_of (large_of gid glyph) (large_from (gid + 1) glyphs)

@@ -11,7 +11,8 @@ use Rattle.region_store.specs.Written.{store_bytes}
 use Rattle.metrics_tables.specs.declared.measures.Measures.{Measures}
 use Rattle.metrics_tables.specs.Tables.{version_1}
 
--- the glyphs' rows over the regions in which some advance width changes
+-- the glyphs' rows over the masters' regions behind the first and the others in which some advance
+-- width changes
 abbrev pub advance_store : Header → Measures → Store
 advance_store header measures = record {
   axes = length header.axes;

@@ -9,6 +9,7 @@ use Rattle.font_ir.specs.FlatGlyphs.{IsFlatGlyph}
 use Rattle.font_ir.specs.Outlines.{contours_at, points_at, bounds_of}
 use Rattle.font_ir.specs.declared.header.Header.{Header}
 use Rattle.font_ir.specs.declared.glyph.FlatGlyph.{FlatGlyph}
+use Rattle.metrics_tables.specs.declared.changes.LargeDelta.{LargeDelta}
 use Rattle.metrics_tables.specs.declared.measures.Measures.{Measures}
 use Rattle.metrics_tables.specs.declared.measures.Maxima.{Maxima}
 use Rattle.metrics_tables.specs.declared.measures.MeasureError.{MeasureError}
@@ -69,8 +70,8 @@ font_measures header names glyphs = record {
 }
 
 -- a delta that can't be stored comes before too many regions
-abbrev pub measured_unless : Option (ℕ × ℤ) → ℕ → Measures → Result Measures MeasureError
-measured_unless (Some large) regions measures = Err (measure_errors.TooLarge large.0 large.1)
+abbrev pub measured_unless : Option LargeDelta → ℕ → Measures → Result Measures MeasureError
+measured_unless (Some large) regions measures = Err (measure_errors.TooLarge large.gid large.value)
 measured_unless None regions measures =
     if nat_lt REGIONS regions then Err (measure_errors.Regions regions) else Ok measures
 

@@ -14,6 +14,7 @@ use Rattle.variation_model.specs.declared.errors.DeltaError.TheVariants as delta
 use Rattle.metrics_tables.specs.Changes.{Change, advance_deltas, changes_of, is_change, large_from, numbers_of}
 use Rattle.metrics_tables.specs.Changes.{regions_of, row_over, with_changes, with_glyphs}
 use Rattle.metrics_tables.specs.Changes.{with_region}
+use Rattle.metrics_tables.specs.declared.changes.LargeDelta.{LargeDelta}
 use Rattle.metrics_tables.specs.declared.changes.PlacedDelta.{PlacedDelta}
 use Rattle.metrics_tables.specs.declared.measures.MeasureError.{MeasureError}
 use Rattle.metrics_tables.specs.declared.measures.MeasureError.TheVariants as measure_errors
@@ -71,6 +72,11 @@ GivesChanges (Err (delta_errors.TooLarge at value)) before after glyph =
     first_large 0 (advance_deltas glyph) ≡ Some (at, value)
 GivesChanges (Err delta_errors.NoMemory) before after glyph = Unit {0}
 
+-- a large delta of this value, of the glyph that has this number in the font
+abbrev pub IsLarge : ℕ → ℤ → Option LargeDelta → Type 0
+IsLarge gid value large =
+    (number : ℕ) × (large ≡ Some (record { number = number; gid = gid; value = value }))
+
 -- those of all glyphs
 abbrev pub GivesAllChanges : Result (Vec (List PlacedDelta) Global) MeasureError → List Region
     → List Region → List FlatGlyph → Type 0
@@ -78,7 +84,7 @@ GivesAllChanges (Ok all) before after glyphs =
     (after ≡ with_glyphs before glyphs) × AllTold after all.items (map changes_of glyphs)
     × (large_from 0 glyphs ≡ None)
 GivesAllChanges (Err (measure_errors.TooLarge gid value)) before after glyphs =
-    large_from 0 glyphs ≡ Some (gid, value)
+    IsLarge gid value (large_from 0 glyphs)
 GivesAllChanges (Err (measure_errors.Regions n)) before after glyphs = ⊥
 GivesAllChanges (Err measure_errors.NoMemory) before after glyphs = Unit {0}
 
@@ -107,7 +113,7 @@ abbrev pub GivesRows : Result (Vec Region Global × Vec (List ℤ) Global) Measu
     → List FlatGlyph → Type 0
 GivesRows (Ok answer) header glyphs = AreRows header glyphs answer.0.items answer.1.items
 GivesRows (Err (measure_errors.TooLarge gid value)) header glyphs =
-    large_from 0 glyphs ≡ Some (gid, value)
+    IsLarge gid value (large_from 0 glyphs)
 GivesRows (Err (measure_errors.Regions n)) header glyphs =
     (large_from 0 glyphs ≡ None) × (n ≡ length (regions_of header glyphs)) × (REGIONS < n)
 GivesRows (Err measure_errors.NoMemory) header glyphs = Unit {0}

@@ -1,14 +1,14 @@
 -- A font of one master, without axes and without components, has no regions, no deltas and no
 -- nesting. For the proofs of other crates alone.
 use Rattle.std.proofs.Common.{◌≡◌, ℕ, zero, suc, ◌+◌, ◌<◌, ℤ, pos, ◌≤ℤ◌, List, []}
-use Rattle.std.proofs.Common.{◌∷◌, length, map, drop, None, Some, refl}
+use Rattle.std.proofs.Common.{◌∷◌, length, map, drop, Option, None, Some, refl}
 use Rattle.std.proofs.Common.{ap, ◌∙◌, arith, true, Bool}
 use Rattle.std.proofs.lemmas.Int.{ints}
 use Rattle.std.proofs.lemmas.List.Elements.{recursion_from_All}
 use Rattle.std.specs.Prelude.{if◌then◌else◌, nat_eq, ◌*ℤ◌, ◌-ℤ◌, Ok}
 use Rattle.std.specs.List.{All, AllByRecursion, Contains, flat_map}
 use Rattle.std.specs.List.{range_with_len}
-use Rattle.std.specs.Option.{option_to_list}
+use Rattle.std.specs.Option.{option_map, option_to_list}
 use Rattle.fixed_math.specs.FloorLaws.{half_up_exact}
 use Rattle.fixed_math.specs.FixedPoint.{half_up}
 use Rattle.fixed_math.specs.declared.F2Dot14.{F2Dot14}
@@ -24,13 +24,14 @@ use Rattle.font_ir.specs.declared.variation.Region.{Region}
 use Rattle.variation_model.specs.Places.{order_of}
 use Rattle.variation_model.specs.Supports.{supports_of}
 use Rattle.variation_model.specs.Deltas.{deltas_of, first_large, is_storable}
+use Rattle.metrics_tables.specs.declared.changes.LargeDelta.{LargeDelta}
 use Rattle.metrics_tables.specs.Comparisons.{greatest_count}
 use Rattle.metrics_tables.specs.Nesting.{bases_of, bases_in, bases_at, depth_within, depth_of}
 use Rattle.metrics_tables.specs.Nesting.{NoneLeadsToItself}
 use Rattle.metrics_tables.specs.Changes.{master_places, advance_deltas, changes_of, in_16_16}
 use Rattle.metrics_tables.specs.Changes.{changes_over}
-use Rattle.metrics_tables.specs.Changes.{large_from, or_large_in, row_over, regions_of, with_glyphs}
-use Rattle.metrics_tables.specs.Changes.{with_changes}
+use Rattle.metrics_tables.specs.Changes.{first_of, large_from, large_of, row_over, regions_of}
+use Rattle.metrics_tables.specs.Changes.{with_changes, with_glyphs}
 use Rattle.metrics_tables.specs.Measuring as measuring
 use Rattle.metrics_tables.specs.Measuring.{HasMastersPlaces, IsStatic, measured_of, measures_of}
 use Rattle.metrics_tables.specs.Measuring.{font_measures, maxima_of, simple_maxima}
@@ -193,12 +194,19 @@ no_large glyph flat e =
     ap (first_large 0) same
     ∙ ap (λ (b : Bool). if b then None else Some (0, one.0)) (fits one.0 one.2 one.3)
 
+-- a glyph without a large delta
+pub none_of : (gid : ℕ) (glyph : FlatGlyph) → first_large 0 (advance_deltas glyph) ≡ None
+    → large_of gid glyph ≡ None
+none_of gid glyph e =
+    ap (λ (large : Option (ℕ × ℤ)). option_map (λ (l : ℕ × ℤ). let told : LargeDelta
+    = record { number = glyph.number; gid = gid; value = l.1 } in told) large) e
+
 none_large : (gid : ℕ) (glyphs : List FlatGlyph) → AllByRecursion IsFlatGlyph glyphs
     → AllByRecursion (λ glyph. glyph.places ≡ alone) glyphs → large_from gid glyphs ≡ None
 none_large gid [] flat places = refl
 none_large gid (glyph ∷ glyphs) flat places =
-    ap (λ large. or_large_in gid large (large_from (gid + 1) glyphs))
-    (no_large glyph flat.0 places.0) ∙ none_large (gid + 1) glyphs flat.1 places.1
+    ap (λ large. first_of large (large_from (gid + 1) glyphs))
+    (none_of gid glyph (no_large glyph flat.0 places.0)) ∙ none_large (gid + 1) glyphs flat.1 places.1
 
 no_more : (glyphs : List FlatGlyph) → AllByRecursion (λ glyph. glyph.places ≡ alone) glyphs
     → with_glyphs [] glyphs ≡ []

@@ -14,7 +14,8 @@ use table_bytes::push_uint32;
 const HEAD_SIZE: u32 = 20;
 
 /// The table `HVAR` (OpenType 1.9, "HVAR"): the changes of each glyph's advance width, in font
-/// units, over the regions in which some advance width changes.
+/// units, over the masters' regions behind the first and the others in which some advance width
+/// changes.
 ///
 /// # Errors
 ///

@@ -1,14 +1,16 @@
 //! How the advance widths of a font's glyphs change over its design space.
 
-ghost use Rattle.std.specs.Prelude.{◌≡◌, ◌<◌, ◌≤◌, length, map, take, drop, pos, replicate};
-ghost use Rattle.std.specs.Prelude.{IfOk, OnOk};
+ghost use Rattle.std.specs.Prelude.{◌≡◌, ◌+◌, ◌<◌, ◌≤◌, length, map, take, drop, pos, replicate};
+ghost use Rattle.std.specs.Prelude.{Some, IfOk, OnOk};
 ghost use Rattle.std.specs.List.{All};
 ghost use Rattle.font_ir.specs.FlatGlyphs.{glyphs_of, IsFlatGlyph};
 ghost use Rattle.font_ir.specs.Headers.{IsHeader};
 ghost use Rattle.font_ir.specs.Places.{axis_count};
+ghost use Rattle.variation_model.specs.Deltas.{GivesDeltas};
 ghost use Rattle.variation_model.specs.Supports.{supports_of};
 ghost use Rattle.metrics_tables.specs.Changes as spec;
-ghost use Rattle.metrics_tables.specs.Changes.{BeginsWithMasters, in_16_16, with_changes};
+ghost use Rattle.metrics_tables.specs.Changes.{BeginsWithMasters, advance_deltas, first_of};
+ghost use Rattle.metrics_tables.specs.Changes.{in_16_16, large_from, large_of, with_changes};
 ghost use Rattle.metrics_tables.specs.RegionIndexes.{AreTold, GivesAllChanges, GivesChanges};
 ghost use Rattle.metrics_tables.specs.RegionIndexes.{GivesRows, HasSides, IsIndexed, IsWithin};
 ghost use Rattle.metrics_tables.specs.RegionIndexes.{changes_at, IsToldOneMore, row_by, row_with};
@@ -30,6 +32,16 @@ pub struct PlacedDelta {
     pub delta: i16,
 }
 
+/// A glyph's first delta that an `i16` doesn't hold.
+#[derive(Clone, Copy)]
+pub struct LargeDelta {
+    /// The glyph's place in the source's list of glyphs.
+    pub number: u32,
+    /// The glyph's number in the font.
+    pub gid: u16,
+    pub value: i64,
+}
+
 /// A glyph's advance widths in 16.16.
 fn widths_of(alloc: Global, glyph: &FlatGlyph) -> Result<Vec<Fixed>, NoMemory>
     requires { IsFlatGlyph glyph.now }
@@ -41,6 +53,17 @@ fn widths_of(alloc: Global, glyph: &FlatGlyph) -> Result<Vec<Fixed>, NoMemory>
         widths.push(Fixed(*width * 65536))?;
     }
     Ok(widths)
+}
+
+/// The deltas of a glyph's advance width, by the model of its places.
+fn deltas_by(alloc: Global, model: &Model, glyph: &FlatGlyph) -> Result<Vec<i16>, DeltaError>
+    requires model { model.now ≡ glyph.now.places }
+    requires flat { IsFlatGlyph glyph.now }
+    ensures deltas { GivesDeltas result (advance_deltas glyph.now) }
+    ensures as_many { IfOk result (λ deltas. length deltas.items ≡ length model.now) }
+{
+    let widths = widths_of(alloc, glyph)?;
+    model.deltas(alloc, widths.as_slice())
 }
 
 /// The changes at supports at which the delta isn't zero, whose regions are put into the index.
@@ -108,8 +131,7 @@ fn changes_by(
     ensures changes { GivesChanges result index.old.regions.items index.new.regions.items
         glyph.now }
 {
-    let widths = widths_of(alloc, glyph)?;
-    let deltas = model.deltas(alloc, widths.as_slice())?;
+    let deltas = deltas_by(alloc, model, glyph)?;
     let supports = model.supports();
     Ok(add_changes(alloc, index, &supports[1..], &deltas.as_slice()[1..])?)
 }
@@ -138,6 +160,60 @@ fn changes_of(
     changes_by(alloc, index, &model, glyph)
 }
 
+/// A glyph's first delta that an `i16` doesn't hold.
+fn large_of(alloc: Global, gid: u16, glyph: &FlatGlyph) -> Result<Option<LargeDelta>, NoMemory>
+    requires { IsFlatGlyph glyph.now }
+    ensures { IfOk result (λ large. large ≡ large_of gid glyph.now) }
+{
+    let model = Model::new(alloc, glyph.places.as_slice())?;
+    match deltas_by(alloc, &model, glyph) {
+        Ok(_) => Ok(None),
+        Err(DeltaError::TooLarge { at: _, value }) => Ok(Some(LargeDelta {
+            number: glyph.number,
+            gid,
+            value,
+        })),
+        Err(DeltaError::NoMemory) => Err(NoMemory),
+    }
+}
+
+/// Of a large delta and that of a glyph behind it, the one whose glyph stands first in the source.
+#[tactic(auto, using(crate::proofs::LargeLemmas::stays, crate::proofs::LargeLemmas::gives_way))]
+fn first_of_two(
+    alloc: Global,
+    found: LargeDelta,
+    gid: u16,
+    glyph: &FlatGlyph,
+) -> Result<LargeDelta, NoMemory>
+    requires { IsFlatGlyph glyph.now }
+    ensures { IfOk result (λ first. Some first ≡ first_of (Some found) (large_of gid glyph.now)) }
+{
+    if found.number <= glyph.number {
+        return Ok(found);
+    }
+    Ok(large_of(alloc, gid, glyph)?.unwrap_or(found))
+}
+
+/// Of a large delta and those of the glyphs behind it, the one whose glyph stands first in the
+/// source.
+fn first_in_source(
+    alloc: Global,
+    glyphs: &[Arc<FlatGlyph>],
+    found: LargeDelta,
+) -> Result<LargeDelta, NoMemory>
+    requires few { length glyphs.now ≤ 65535 }
+    requires there { found.gid < length glyphs.now }
+    requires flat { All (λ glyph. IsFlatGlyph glyph.value) glyphs.now }
+    ensures { IfOk result (λ first. Some first ≡ first_of (Some found)
+        (large_from (found.gid + 1) (glyphs_of (drop (found.gid + 1) glyphs.now)))) }
+{
+    let mut first = found;
+    for gid in found.gid + 1..glyphs.len() as u16 {
+        first = first_of_two(alloc, first, gid, &glyphs[usize::from(gid)])?;
+    }
+    Ok(first)
+}
+
 /// The changes of each glyph. Their regions are put into the index.
 fn all_changes(
     alloc: Global,
@@ -162,7 +238,12 @@ fn all_changes(
         match changes_of(alloc, index, masters, glyph) {
             Ok(changes) => all.push(Sequence::from_vec(changes))?,
             Err(DeltaError::TooLarge { at: _, value }) => {
-                let gid = gid as u16;
+                let found = LargeDelta {
+                    number: glyph.number,
+                    gid: gid as u16,
+                    value,
+                };
+                let LargeDelta { gid, value, .. } = first_in_source(alloc, glyphs, found)?;
                 return Err(MeasureError::TooLarge { gid, value });
             }
             Err(DeltaError::NoMemory) => return Err(MeasureError::NoMemory),
@@ -244,7 +325,8 @@ fn masters_model(alloc: Global, header: &Header) -> Result<Model, NoMemory>
     Model::new(alloc, places.as_slice())
 }
 
-/// The regions in which advance widths change, and each glyph's row of deltas over them.
+/// The masters' regions behind the first and the others in which advance widths change, and each
+/// glyph's row of deltas over them.
 pub fn regions_and_rows(
     alloc: Global,
     header: &Header,

@@ -30,7 +30,8 @@ pub struct Measures {
     /// xMin, yMin, xMax and yMax at the default master, in font units, of each glyph that has a
     /// point.
     pub bounds: Sequence<Option<[i16; 4]>>,
-    /// The regions of the design space in which some advance width changes.
+    /// The masters' regions behind the first, and the others of the design space in which some
+    /// advance width changes.
     pub regions: Sequence<Region>,
     /// The changes of each glyph's advance width, one per region.
     pub rows: Sequence<Sequence<i16>>,
@@ -40,7 +41,8 @@ pub struct Measures {
 /// Why the glyphs of a font could not be measured.
 #[derive(Debug, Drop, Error)]
 pub enum MeasureError {
-    /// An advance width changes by more than an i16 holds.
+    /// An advance width changes by more than an i16 holds: of such glyphs that of the one that
+    /// stands first in the source.
     #[error("the advance width of glyph {gid} changes by {value}, which is too much")]
     TooLarge { gid: u16, value: i64 },
     /// There are more than 1,024 regions.

@@ -201,9 +201,10 @@ fn measures_at(
 ///
 /// # Errors
 ///
-/// `TooLarge` exactly where a glyph's advance width has a delta outside an `i16`: the first such of
-/// the first glyph. `Regions` exactly where there are more than 1,024 regions and no such delta.
-/// `NoMemory` where memory runs out.
+/// `TooLarge` exactly where a glyph's advance width has a delta outside an `i16`: of such glyphs the
+/// one that stands first in the source, with its first such delta in the order of the model of its
+/// places. `Regions` exactly where there are more than 1,024 regions and no such delta. `NoMemory`
+/// where memory runs out.
 pub fn measure(
     alloc: Global,
     header: &Header,

@@ -24,4 +24,6 @@ mod offset_trees;
 #[cfg(test)]
 mod points_left_out;
 #[cfg(test)]
+mod tables_by_tag;
+#[cfg(test)]
 mod variation_stores;

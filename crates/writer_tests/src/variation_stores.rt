@@ -4,7 +4,7 @@ ghost use Rattle.region_store.specs.Stores.{IsStore};
 
 use fixed_math::F2Dot14;
 use plain_lists::Sequence;
-use region_store::{Region, StoreBuilder, StoreError, plain_store};
+use region_store::{Region, StoreBuilder, StoreError, plain_store, store_bytes};
 use std::alloc::{AllocError, Global};
 use std::test::Fail;
 use table_tree::{Node, layout};
@@ -56,6 +56,21 @@ fn is_plain_store(
     }
 }
 
+/// Whether the bytes of the store of these rows as they are are these.
+fn are_store_bytes(
+    alloc: Global,
+    regions: &[Region],
+    rows: &[Sequence<i16>],
+    expected: &[u8],
+) -> bool
+    requires { IsStore (record { axes = 1; regions = regions.now; rows = rows.now }) }
+{
+    match store_bytes(alloc, 1, regions, rows) {
+        Ok(bytes) => bytes.as_slice() == expected,
+        Err(_) => false,
+    }
+}
+
 /// The inner index of a row of one delta that is added, or the number of rows of a store that is
 /// full.
 fn added(builder: &mut StoreBuilder, alloc: Global, delta: i16) -> Option<Result<u16, u32>>
@@ -101,6 +116,14 @@ fn a_plain_store_keeps_equal_rows(rt: HostRuntime) -> Result<(), Fail> {
     let expected = hex::decode(rt.alloc(), TWO_ROWS)?;
     assert!(rt;
         is_plain_store(
+            rt.alloc(),
+            regions.as_slice(),
+            different.as_slice(),
+            expected.as_slice()
+        )
+    );
+    assert!(rt;
+        are_store_bytes(
             rt.alloc(),
             regions.as_slice(),
             different.as_slice(),

@@ -1,0 +1,5 @@
+//! Tests of the tables of what changes in the whole font, over the public calls of their writers.
+#![tactic(auto)]
+
+#[cfg(test)]
+mod metrics_that_change;
