@@ -2,11 +2,11 @@ ghost use Rattle.std.specs.Prelude.{◌≡◌, ◌<◌, length, Ok};
 ghost use Rattle.glyphs_source.specs.HeaderReading.{header_of};
 ghost use Rattle.glyphs_source.specs.IndexReading.{index_of};
 
-use component_flatten::flatten;
+use component_flatten::{component_count, flatten};
 use fixed_math::Fixed;
 use fixtures::SOURCE;
 use font_ir::{DrawnPoint, FlatGlyph, Header};
-use glyphs_layers::built_glyph;
+use glyphs_layers::raw_glyph;
 use glyphs_source::{GlyphIndex, glyph_index, header};
 use plist_reader::{Tree, read};
 use refusal_codes::ReadError;
@@ -24,7 +24,10 @@ fn first_drawn(
     requires index { index_of tree.now ≡ Ok index.now }
     requires number { 0 < length index.now }
 {
-    let glyph = built_glyph(alloc, tree, header, index, 0)?;
+    let glyph = raw_glyph(alloc, tree, header, index, 0)?;
+    if component_count(&glyph) != 0 {
+        return Err(ReadError::NoMemory);
+    }
     flatten(alloc, &glyph, index, &[])
 }
 
@@ -39,7 +42,8 @@ fn has_corners(glyph: &FlatGlyph, corners: &[(i32, i32)]) -> bool {
     }
 }
 
-fn are_corners(points: &[DrawnPoint], corners: &[(i32, i32)]) -> bool {
+/// Whether points are these, in 16.16, all on the curve.
+pub fn are_corners(points: &[DrawnPoint], corners: &[(i32, i32)]) -> bool {
     if points.len() != corners.len() {
         return false;
     }

@@ -1,5 +1,5 @@
 use font_ir::GlyphIr;
-use glyphs_layers::{built_glyph, raw_glyph};
+use glyphs_layers::raw_glyph;
 use glyphs_source::{glyph_index, header};
 use plist_reader::read;
 use refusal_codes::ReadError;
@@ -30,15 +30,8 @@ fn between(alloc: Global, coordinates: &str) -> Result<String, AllocError> {
     )
 }
 
-/// Which of the two calls reads a glyph: that which takes components, or that which refuses them.
-#[derive(Clone, Copy)]
-enum Taken {
-    All,
-    NoComponents,
-}
-
 /// The glyph of a source with these layers.
-fn glyph_of(alloc: Global, layers: &str, taken: Taken) -> Result<GlyphIr, ReadError> {
+fn glyph_of(alloc: Global, layers: &str) -> Result<GlyphIr, ReadError> {
     let source = format!(in alloc; "{HEAD}{layers}{TAIL}")?;
     if source.len() > 67_108_864 {
         return Err(ReadError::NoMemory);
@@ -49,20 +42,12 @@ fn glyph_of(alloc: Global, layers: &str, taken: Taken) -> Result<GlyphIr, ReadEr
     if index.is_empty() {
         return Err(ReadError::NoMemory);
     }
-    match taken {
-        Taken::All => raw_glyph(alloc, &tree, &header, &index, 0),
-        Taken::NoComponents => built_glyph(alloc, &tree, &header, &index, 0),
-    }
+    raw_glyph(alloc, &tree, &header, &index, 0)
 }
 
 /// What the console shows of the refusal of a glyph with these layers, nothing where it is read.
 fn told(alloc: Global, layers: &str) -> Result<String, Fail> {
-    told_where(alloc, layers, Taken::All)
-}
-
-/// The same of one of the two calls.
-fn told_where(alloc: Global, layers: &str, taken: Taken) -> Result<String, Fail> {
-    match glyph_of(alloc, layers, taken) {
+    match glyph_of(alloc, layers) {
         Ok(_) => Ok(String::new(alloc)),
         Err(ReadError::Refused(refusal)) => Ok(refusal.text(alloc)?),
         Err(ReadError::NoMemory) => Err("no memory".into()),
@@ -87,15 +72,11 @@ fn has_places(glyph: &GlyphIr, expected: &[(i16, i32)]) -> bool {
 #[test]
 fn layers_lie_at_the_masters_and_between_them(rt: HostRuntime) -> Result<(), Fail> {
     let alloc = rt.alloc();
-    let glyph = glyph_of(
-        alloc,
-        format!(in alloc; "{FIRST},{SECOND}")?.as_str(),
-        Taken::All,
-    )?;
+    let glyph = glyph_of(alloc, format!(in alloc; "{FIRST},{SECOND}")?.as_str())?;
     assert!(rt; glyph.masters == 2 && has_places(&glyph, [(0, 500), (16384, 520)].as_slice()));
     let between = between(alloc, "(550)")?;
     let layers = format!(in alloc; "{between},{SECOND},{FIRST}")?;
-    let glyph = glyph_of(alloc, layers.as_str(), Taken::All)?;
+    let glyph = glyph_of(alloc, layers.as_str())?;
     let expected = [(0, 500), (16384, 520), (8192, 512)];
     assert!(rt; glyph.masters == 2 && has_places(&glyph, expected.as_slice()));
     Ok(())
@@ -169,59 +150,52 @@ fn each_rule_on_layers_is_told_at_its_place(rt: HostRuntime) -> Result<(), Fail>
     Ok(())
 }
 
-/// A layer of a master with a quadratic curve and an anchor.
-fn curved_layer(alloc: Global, id: &str) -> Result<String, AllocError> {
-    format!(in alloc;
-        "{{anchors = ({{name = top;pos = (250,700);}});layerId = {id};\
-        shapes = ({{closed = 1;nodes = ((0,0,l),(500,0,o),(250,700,qs));}});width = 500;}}"
-    )
-}
-
+/// The shapes of a first layer, each of which fails a local rule.
 #[test]
-fn a_program_without_components_reads_all_else(rt: HostRuntime) -> Result<(), Fail> {
+fn each_local_rule_of_a_glyph_is_told_at_its_place(rt: HostRuntime) -> Result<(), Fail> {
     let alloc = rt.alloc();
-    let curved = (curved_layer(alloc, "m1")?, curved_layer(alloc, "m2")?);
-    let component = (
-        masters_layer(alloc, "m1", "{ref = A;}")?,
-        masters_layer(alloc, "m2", "{ref = A;}")?,
-    );
-    let path = "{closed = 1;nodes = ((0,0,l));ref = A;}";
-    let named = (
-        masters_layer(alloc, "m1", path)?,
-        masters_layer(alloc, "m2", path)?,
-    );
-    let between = between(alloc, "(550)")?;
-    let drawn = "{attr = {coordinates = (550);};layerId = x;shapes = ({ref = A;});width = 512;}";
-    for layers in [
-        format!(in alloc; "{FIRST},{SECOND},{between}")?,
-        format!(in alloc; "{},{}", curved.0, curved.1)?,
-        format!(in alloc; "{},{}", named.0, named.1)?,
+    for (shapes, expected) in [
+        ("A", "S1 WrongShape Raw A at 208"),
+        ("{nodes = ((0,0));}", "S1 WrongShape Raw A at 218"),
+        ("{closed = 1;}", "S2 MissingKey Raw A at 208"),
+        ("{nodes = ((0,0.5,l));}", "S4 NotWhole Raw A at 221"),
+        ("{ref = A;scale = (16.5,1);}", "S5 OutOfRange Raw A at 226"),
+        ("{nodes = ((0,0,c));}", "G2 CubicNode Raw A at 218"),
+        ("{nodes = ((0,0,cs));}", "G2 CubicNode Raw A at 218"),
+        (
+            "{closed = 0;nodes = ((0,0,l));}",
+            "G3 OpenContour Raw A at 208",
+        ),
+        (
+            "{angle = 45;ref = A;}",
+            "G7 UnsupportedTransform Raw A at 208",
+        ),
+        (
+            "{ref = A;slant = (0,0.5);}",
+            "G7 UnsupportedTransform Raw A at 208",
+        ),
+        (
+            "{piece = {};ref = A;}",
+            "G7 UnsupportedTransform Raw A at 208",
+        ),
+        (
+            "{nodes = ((16384,0,l));}",
+            "G8 CoordinateTooLarge Raw A at 219",
+        ),
+        (
+            "{pos = (0,-16383.5);ref = A;}",
+            "G8 CoordinateTooLarge Raw A at 218",
+        ),
     ] {
-        let built = glyph_of(alloc, layers.as_str(), Taken::NoComponents)?;
-        assert!(rt; built == glyph_of(alloc, layers.as_str(), Taken::All)?);
-    }
-    for (layers, expected) in [
-        (
-            format!(in alloc; "{},{}", component.0, component.1)?,
-            "S1 WrongShape Raw A at 208",
-        ),
-        (
-            format!(in alloc; "{FIRST},{SECOND},{drawn}")?,
-            "S1 WrongShape Raw A at 423",
-        ),
-        (
-            format!(in alloc; "{FIRST},{between}")?,
-            "G1 MissingLayer Raw A at 159",
-        ),
-    ] {
-        assert!(rt; told_where(alloc, layers.as_str(), Taken::NoComponents)?.as_str() == expected);
+        let layer = masters_layer(alloc, "m1", shapes)?;
+        assert!(rt; told(alloc, layer.as_str())?.as_str() == expected);
     }
     Ok(())
 }
 
-/// A glyph's layers with so many intermediate ones, at 401 and on.
-fn many_layers(alloc: Global, count: u32) -> Result<String, AllocError> {
-    let mut layers = format!(in alloc; "{FIRST},{SECOND}")?;
+/// Layers, and behind them so many intermediate ones, at 401 and on.
+fn many_layers(alloc: Global, before: &str, count: u32) -> Result<String, AllocError> {
+    let mut layers = String::from_str(alloc, before)?;
     for i in 0..count {
         let between = between(alloc, format!(in alloc; "({})", 401 + i % 200)?.as_str())?;
         write!(&mut layers, ",{between}")?;
@@ -229,30 +203,74 @@ fn many_layers(alloc: Global, count: u32) -> Result<String, AllocError> {
     Ok(layers)
 }
 
-/// A layer of a master with so many components.
-fn many_components(alloc: Global, id: &str, count: u32) -> Result<String, AllocError> {
+/// A layer of a master with so many components of this glyph.
+fn many_components(alloc: Global, id: &str, base: &str, count: u32) -> Result<String, AllocError> {
     let mut shapes = String::new(alloc);
     for _ in 0..count {
-        shapes.push_str("{ref = A;},")?;
+        write!(&mut shapes, "{{ref = {base};}},")?;
     }
-    shapes.push_str("{ref = A;}")?;
     masters_layer(alloc, id, shapes.as_str())
 }
 
 #[test]
 fn a_glyph_has_at_most_64_layers_and_a_layer_256_components(rt: HostRuntime) -> Result<(), Fail> {
     let alloc = rt.alloc();
-    assert!(rt;
-        told(alloc, many_layers(alloc, 62)?.as_str())?
-            .as_str()
-            .is_empty()
-    );
-    let expected = "G15 TooManyLayers Raw A at 159";
-    assert!(rt; told(alloc, many_layers(alloc, 63)?.as_str())?.as_str() == expected);
-    for (count, expected) in [(255, ""), (256, "G11 TooManyComponents Raw A at 184")] {
-        let first = many_components(alloc, "m1", count)?;
-        let second = many_components(alloc, "m2", count)?;
+    let masters = format!(in alloc; "{FIRST},{SECOND}")?;
+    for (count, expected) in [(62, ""), (63, "G15 TooManyLayers Raw A at 159")] {
+        let layers = many_layers(alloc, masters.as_str(), count)?;
+        assert!(rt; told(alloc, layers.as_str())?.as_str() == expected);
+    }
+    for (base, count, expected) in [
+        ("A", 256, ""),
+        ("A", 257, "G11 TooManyComponents Raw A at 184"),
+        ("B", 257, "G5 UnknownComponent Raw A at 208"),
+    ] {
+        let first = many_components(alloc, "m1", base, count)?;
+        let second = many_components(alloc, "m2", base, count)?;
         let layers = format!(in alloc; "{first},{second}")?;
+        assert!(rt; told(alloc, layers.as_str())?.as_str() == expected);
+    }
+    Ok(())
+}
+
+#[test]
+fn of_two_whole_rules_of_a_glyph_the_first_is_told(rt: HostRuntime) -> Result<(), Fail> {
+    let alloc = rt.alloc();
+    let beyond = between(alloc, "(800)")?;
+    let again = between(alloc, "(400)")?;
+    let short = "{attr = {coordinates = (550);};layerId = x;\
+        shapes = ({closed = 1;nodes = ((0,0,l),(258,700,l));});width = 512;}";
+    let unknown = masters_layer(alloc, "m1", "{ref = B;}")?;
+    for (layers, expected) in [
+        (
+            format!(in alloc; "{FIRST},{beyond}")?,
+            "G1 MissingLayer Raw A at 159",
+        ),
+        (
+            format!(in alloc; "{FIRST},{SECOND},{again},{beyond}")?,
+            "G13 LayerPlace Raw A at 515",
+        ),
+        (
+            many_layers(
+                alloc,
+                format!(in alloc; "{FIRST},{SECOND},{again}")?.as_str(),
+                62,
+            )?,
+            "G14 SameLayerPlace Raw A at 370",
+        ),
+        (
+            many_layers(
+                alloc,
+                format!(in alloc; "{FIRST},{SECOND},{short}")?.as_str(),
+                62,
+            )?,
+            "G15 TooManyLayers Raw A at 159",
+        ),
+        (
+            format!(in alloc; "{unknown},{SECOND}")?,
+            "G4 Incompatible Raw A at 234",
+        ),
+    ] {
         assert!(rt; told(alloc, layers.as_str())?.as_str() == expected);
     }
     Ok(())
