@@ -100,7 +100,7 @@ fn a_refused_source_leaves_the_output(rt: HostRuntime) -> Result<(), Fail> {
 
 #[test]
 fn other_words_are_no_command(rt: HostRuntime) -> Result<(), Fail> {
-    let words: [&[&str]; 7] = [
+    let words: [&[&str]; 10] = [
         &[],
         &["build", "in"],
         &["build", "in", "-out"],
@@ -108,6 +108,9 @@ fn other_words_are_no_command(rt: HostRuntime) -> Result<(), Fail> {
         &["inspect", "point", "in", "1", "0"],
         &["inspect", "point", "in", "65536", "0", "none"],
         &["inspect", "point", "in", "1", "0", "1,"],
+        &["sample", "7", "0", "out"],
+        &["sample", "4294967296", "1", "out"],
+        &["sample", "7", "1", "out", "--source", "--source"],
     ];
     for given in words {
         assert!(rt; is_usage(rt.alloc(), given)?);
@@ -215,5 +218,53 @@ fn a_fault_is_told_by_its_kind_and_place(rt: HostRuntime) -> Result<(), Fail> {
     let (report, console) = inspected(rt.alloc(), "7", "0,16384")?;
     assert!(rt; report.status.code() == 3);
     assert!(rt; console.held() == b"fontc: bad font: CoordCount at 0\n".as_slice());
+    Ok(())
+}
+
+/// What the sample of one glyph with the seed 7 reports, by these words, and what the console took.
+fn sampled(
+    alloc: Global,
+    files: &mut MemFiles,
+    words: &[&str],
+) -> Result<(Report, MemConsole), Fail> {
+    let words = owned(alloc, words)?;
+    let mut console = MemConsole::with_room(alloc, 100)?;
+    let report = run_alone(alloc, words.as_slice(), files, &mut console);
+    Ok((report, console))
+}
+
+#[test]
+fn the_text_of_a_sample_is_reported_without_a_board(rt: HostRuntime) -> Result<(), Fail> {
+    let mut files = files_with(rt.alloc(), SOURCE)?;
+    let words = ["sample", "7", "1", "out", "--source"];
+    let (report, console) = sampled(rt.alloc(), &mut files, words.as_slice())?;
+    assert!(rt; report.status.code() == 0 && report.board.is_none());
+    assert!(rt; console.held() == b"sample 7 1: 441 bytes, 0 jobs\n".as_slice());
+    assert!(rt; matches!(files.held("out"), Some(text) if text.len() == 441));
+    Ok(())
+}
+
+/// Whether a report has a board of so many events, over what these files hold in `out`.
+fn has_board(report: &Report, files: &MemFiles, events: usize) -> bool {
+    match &report.board {
+        Some(board) => board.events().len() == events
+            && files.held("out") == Some(board.plan().source()),
+        None => false,
+    }
+}
+
+#[test]
+fn the_font_of_a_sample_is_reported_with_the_board_of_its_text(
+    rt: HostRuntime,
+) -> Result<(), Fail> {
+    let mut files = files_with(rt.alloc(), SOURCE)?;
+    let words = ["sample", "7", "1", "out"];
+    let (report, console) = sampled(rt.alloc(), &mut files, words.as_slice())?;
+    assert!(rt; report.status.code() == 0);
+    assert!(rt; console.held() == b"sample 7 1: 1084 bytes, 26 jobs\n".as_slice());
+    let mut texts = files_with(rt.alloc(), SOURCE)?;
+    let words = ["sample", "7", "1", "out", "--source"];
+    sampled(rt.alloc(), &mut texts, words.as_slice())?;
+    assert!(rt; has_board(&report, &texts, 52));
     Ok(())
 }

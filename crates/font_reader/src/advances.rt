@@ -13,7 +13,7 @@ use fixed_math::F2Dot14;
 impl FontView<'_> {
     /// The advance of a glyph at a place of the design space, in 16.16: that of `hmtx`, with the
     /// value of the glyph's row in `HVAR` where that table is there (OpenType 1.9, "hmtx" and
-    /// "HVAR"). A glyph after the last metric has the advance of that metric.
+    /// "HVAR"). A glyph after the last metric has the advance of that metric. It takes no memory.
     ///
     /// # Errors
     ///

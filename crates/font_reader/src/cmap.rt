@@ -16,7 +16,7 @@ impl FontView<'_> {
     ///
     /// In format 12 the first group that has the code decides, and in format 4 the first segment
     /// that ends at the code or after it. It is 0 where no segment or group has the code, where
-    /// there is neither subtable, and for a code above 65535 without format 12.
+    /// there is neither subtable, and for a code above 65535 without format 12. It takes no memory.
     ///
     /// # Errors
     ///

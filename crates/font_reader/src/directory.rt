@@ -48,7 +48,7 @@ pub struct FontView<'a> {
 
 impl FontView<'_> {
     /// The font of a file with these bytes (OpenType 1.9, "OpenType Font File", "Table
-    /// Directory").
+    /// Directory"). It takes no memory: the font borrows the bytes.
     ///
     /// # Errors
     ///

@@ -43,6 +43,8 @@ impl FaultKind {
 /// Why a font can't be read: the first fault on the way to what is asked for.
 #[derive(Clone, Copy, Debug, PartialEq, Eq)]
 pub struct FontFault {
+    /// Where: a byte of the file, from 0 on, or the number that the kind says.
     pub place: u64,
+    /// What is wrong there.
     pub kind: FaultKind,
 }

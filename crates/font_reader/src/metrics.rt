@@ -12,23 +12,29 @@ use crate::stores::store_value;
 use crate::versions::{axes_for, expect_u16, expect_u32, required};
 use fixed_math::F2Dot14;
 
-/// A metric of a whole font (OpenType 1.9, "OS/2").
+/// A metric of a whole font (OpenType 1.9, "OS/2" and "MVAR", "Value tags").
 #[derive(Clone, Copy, Debug, PartialEq, Eq)]
 pub enum Metric {
+    /// `sCapHeight`, which varies with the tag `cpht`.
     CapHeight,
+    /// `sTypoAscender`, which varies with the tag `hasc`.
     Ascender,
+    /// `sTypoDescender`, which varies with the tag `hdsc`.
     Descender,
+    /// `sxHeight`, which varies with the tag `xhgt`.
     XHeight,
 }
 
 impl FontView<'_> {
     /// A metric of the font at a place of the design space, in 16.16: the field of `OS/2`, with the
-    /// value of its row where `MVAR` has one (OpenType 1.9, "OS/2" and "MVAR").
+    /// value of its row where `MVAR` has one (OpenType 1.9, "OS/2" and "MVAR"). It takes no memory.
     ///
     /// # Errors
     ///
     /// `CoordCount` at the number of axes, where there are more or fewer coordinates; `NoTable` at
-    /// 7, where there is no `OS/2`; then the first fault on the way, in `OS/2` and `MVAR`.
+    /// 7, where there is no `OS/2`; then the first fault on the way, in `OS/2` and `MVAR`:
+    /// `OutOfTable` at a field that isn't within its table, `BadFormat` at a version, the size of
+    /// the records, a count or a number of a region that isn't one that is read.
     pub fn metric_at(&self, metric: Metric, at: &[F2Dot14]) -> Result<i64, FontFault>
         ensures { result ≡ metric_at self.now.bytes.now metric at.now }
     {

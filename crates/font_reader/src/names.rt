@@ -18,7 +18,8 @@ pub struct Span {
 
 impl FontView<'_> {
     /// The name of a glyph (OpenType 1.9, "post", version 2.0): `.notdef` for the number 0, and for
-    /// a number from 258 on the one of the names that stand in the table.
+    /// a number from 258 on the one of the names that stand in the table, as its bytes there. It
+    /// takes no memory.
     ///
     /// # Errors
     ///

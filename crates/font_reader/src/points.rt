@@ -19,7 +19,7 @@ use crate::tuples::{Offset, known, point_offset};
 use crate::versions::{axes_for, glyph_among, required};
 use fixed_math::F2Dot14;
 
-/// A point in 16.16.
+/// A point in 16.16: 65536 stands for one font unit.
 #[derive(Clone, Copy, Debug, PartialEq, Eq)]
 pub struct Point {
     pub x: i64,
@@ -43,14 +43,18 @@ impl FontView<'_> {
     /// stand the four phantom points, of which the second is at the advance.
     ///
     /// It takes time for the glyph's data and for those of its tuples. It takes no memory: it works
-    /// in the room.
+    /// in the room, which has at least as many points as `room_for` says. Where that is a fault,
+    /// any room does. Afterwards the room is as large as before, and what it holds doesn't matter.
     ///
     /// # Errors
     ///
     /// `CoordCount` at the number of axes, where there are more or fewer coordinates; `NoPoint` at
     /// a glyph that isn't there; then the first fault on the way, in `head`, `loca` and `glyf`,
     /// with `NoPoint` at a point that isn't there once its number of points is known, and at last
-    /// in `hhea`, `hmtx` and `gvar`.
+    /// in `hhea` and `hmtx`, for the second phantom point alone, and in `gvar`. In each table that
+    /// is `OutOfTable` at a field that isn't within it, or `BadFormat` at a version, a format, a
+    /// flag or a count that isn't one of those that are read, or at the number of a shared peak or
+    /// of a point that isn't there.
     pub fn point_at(
         &self,
         gid: u16,

@@ -4,7 +4,8 @@ ghost use Rattle.font_reader.specs.Rooms.{IsRoomOf};
 use refusal_codes::NoMemory;
 use std::alloc::Global;
 
-/// Where the points of a glyph are kept while one of them is found.
+/// Where the points of a glyph are kept while one of them is found. One room serves for one glyph
+/// after another, as long as it has as many points as each needs.
 #[derive(Drop)]
 pub struct Room {
     pub(crate) xs: Vec<i32>,

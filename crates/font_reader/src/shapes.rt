@@ -25,7 +25,8 @@ pub enum Shape {
 
 impl FontView<'_> {
     /// How many points a glyph has, or how many components, with the four phantom points
-    /// (OpenType 1.9, "loca" and "glyf").
+    /// (OpenType 1.9, "loca" and "glyf"): the points that a room needs for `point_at`. It takes no
+    /// memory.
     ///
     /// # Errors
     ///

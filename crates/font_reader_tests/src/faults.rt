@@ -1,21 +1,14 @@
-use crate::fonts::{COMPOSITE, FORMS, TRIANGLE};
+use crate::fonts::{COMPOSITE, FORMS, TRIANGLE, changed};
 use fixed_math::F2Dot14;
-use font_reader::FaultKind::{BadFormat, CoordCount, NoPoint, NoTable, NotSfnt, OutOfTable};
+use font_reader::FaultKind::{
+    BadFormat, CoordCount, NoPoint, NoTable, NotSfnt, OutOfTable, TooLarge,
+};
 use font_reader::{FaultKind, FontFault, FontView, Metric, Point, Room};
 use std::alloc::Global;
 use std::test::Fail;
 
 /// One half, as a place of the design space.
 const HALF: [F2Dot14; 1] = [F2Dot14(8192)];
-
-/// The bytes of a font, of which one is changed.
-fn changed(alloc: Global, font: &str, at: usize, byte: u8) -> Result<Vec<u8>, Fail> {
-    let mut bytes = hex::decode(alloc, font)?;
-    if at < bytes.len() {
-        bytes[at] = byte;
-    }
-    Ok(bytes)
-}
 
 /// A fault of this kind at this place.
 fn fault(kind: FaultKind, place: u64) -> Option<FontFault> {
@@ -136,6 +129,55 @@ fn what_a_point_needs_not_is_not_read(rt: HostRuntime) -> Result<(), Fail> {
         assert!(rt; read == Ok(Point { x, y: 0 }));
     }
     Ok(())
+}
+
+#[test]
+fn each_fault_of_a_room_is_at_its_field(rt: HostRuntime) -> Result<(), Fail> {
+    // The version of maxp, one glyph, the version of head, short offsets, a place outside of glyf,
+    // contours below -1, and too many of them.
+    let rows = [
+        (741, 2, BadFormat, 740),
+        (745, 1, NoPoint, 1),
+        (629, 2, BadFormat, 628),
+        (679, 0, BadFormat, 678),
+        (732, 1, OutOfTable, 16777724),
+        (508, 255, BadFormat, 508),
+        (509, 255, OutOfTable, 556),
+    ];
+    for row in rows {
+        let (at, byte, kind, place) = row;
+        let bytes = changed(rt.alloc(), FORMS, at, byte)?;
+        if let Ok(font) = FontView::of(bytes.as_slice()) {
+            assert!(rt; font.room_for(1).err() == fault(kind, place));
+        } else {
+            assert!(rt; false);
+        }
+    }
+    // A flag needs no room.
+    let bytes = changed(rt.alloc(), FORMS, 524, 137)?;
+    if let Ok(font) = FontView::of(bytes.as_slice()) {
+        assert!(rt; font.room_for(1) == Ok(11) && font.room_for(0) == Ok(4));
+    } else {
+        assert!(rt; false);
+    }
+    Ok(())
+}
+
+#[test]
+fn each_kind_of_fault_has_its_name(rt: HostRuntime) {
+    let rows = [
+        (NotSfnt, "NotSfnt"),
+        (NoTable, "NoTable"),
+        (OutOfTable, "OutOfTable"),
+        (BadFormat, "BadFormat"),
+        (NoPoint, "NoPoint"),
+        (CoordCount, "CoordCount"),
+        (TooLarge, "TooLarge"),
+    ];
+    for row in rows {
+        let (kind, name) = row;
+        assert!(rt; kind.name() == name);
+    }
 }
 
 #[test]
@@ -270,7 +312,8 @@ fn each_fault_of_a_name_is_at_its_field(rt: HostRuntime) -> Result<(), Fail> {
 
 #[test]
 fn each_fault_of_a_metric_is_at_its_field(rt: HostRuntime) -> Result<(), Fail> {
-    // No OS/2, its version; MVAR: its version, the size of its records, the format of its store.
+    // No OS/2, its version; MVAR: its version, the size of its records, the format of its store;
+    // no axes; OS/2 cut off in the field, and a store behind the end of MVAR.
     let rows = [
         (44, 88, NoTable, 7),
         (325, 3, BadFormat, 324),
@@ -278,6 +321,8 @@ fn each_fault_of_a_metric_is_at_its_field(rt: HostRuntime) -> Result<(), Fail> {
         (279, 9, BadFormat, 278),
         (293, 2, BadFormat, 292),
         (76, 88, CoordCount, 0),
+        (59, 87, OutOfTable, 410),
+        (283, 255, OutOfTable, 527),
     ];
     for row in rows {
         let (at, byte, kind, place) = row;

@@ -8,4 +8,6 @@ mod faults;
 #[cfg(test)]
 mod fonts;
 #[cfg(test)]
+mod large;
+#[cfg(test)]
 mod outlines;

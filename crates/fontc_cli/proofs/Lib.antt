@@ -1,5 +1,7 @@
 pub mod AskedLaws
 pub mod BoardLaws
+pub mod CommandRows
 pub mod Ends
 pub mod Inspections
 pub mod Rows
+pub mod Samples

@@ -4,7 +4,7 @@ use Rattle.std.specs.Prelude.{codes}
 use Rattle.std.specs.Fmt.{digits}
 use Rattle.font_reader.specs.declared.faults.FaultKind.TheVariants.{NotSfnt}
 use Rattle.refusal_codes.specs.declared.rule.Rule.TheVariants.{CubicNode, UnexpectedEnd}
-use Rattle.fontc_cli.specs.Lines.{lines_of, wrote, point_line}
+use Rattle.fontc_cli.specs.Lines.{lines_of, wrote, sample_line, point_line}
 use Rattle.fontc_cli.specs.declared.status.Status.TheVariants.{Done, Usage, Refused, BadFont}
 use Rattle.fontc_cli.specs.declared.status.Status.TheVariants.{ReadFault, WriteFault, ConsoleFault}
 use Rattle.fontc_cli.specs.declared.status.Status.TheVariants.{NoMemory}
@@ -18,8 +18,20 @@ unfolding digits
 the_triangle_unsaid = refl
 
 no_command : lines_of [] Usage ≡ codes "usage: fontc build IN OUT" ++ 10
-    ∷ codes "usage: fontc inspect point FONT GID INDEX COORDS" ++ 10 ∷ []
+    ∷ codes "usage: fontc inspect point FONT GID INDEX COORDS" ++ 10
+    ∷ codes "usage: fontc sample SEED GLYPHS OUT [--source]" ++ 10 ∷ []
 no_command = refl
+
+-- a sample's font, and a sample's text
+a_sample : lines_of (sample_line 7 1 1084 26) Done ≡ codes "sample 7 1: 1084 bytes, 26 jobs"
+    ++ 10 ∷ []
+unfolding digits
+a_sample = refl
+
+a_sample_text : lines_of (sample_line 7 1 441 0) Done ≡ codes "sample 7 1: 441 bytes, 0 jobs"
+    ++ 10 ∷ []
+unfolding digits
+a_sample_text = refl
 
 a_cubic_node : lines_of [] (Refused (record {
   stratum = 1;

@@ -1,8 +1,10 @@
 pub mod Asked
 pub mod Boards
 pub mod Commands
+pub mod Compiled
 pub mod Inspected
 pub mod Lines
 pub mod Runs
+pub mod Sampled
 pub mod Statuses
 pub mod Words

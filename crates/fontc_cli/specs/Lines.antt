@@ -21,10 +21,24 @@ wrote count = codes "wrote " ++ decimal count ++ line (codes " bytes")
 abbrev pub point_line : Point → List ℕ
 point_line point = signed_decimal point.x ++ codes " " ++ line (signed_decimal point.y)
 
+-- the line of what a sample has written: so many bytes, which so many jobs made
+abbrev pub sample_line : ℕ → ℕ → ℕ → ℕ → List ℕ
+sample_line seed glyphs count jobs =
+    codes "sample "
+    ++ decimal seed
+    ++ codes " "
+    ++ decimal glyphs
+    ++ codes ": "
+    ++ decimal count
+    ++ codes " bytes, "
+    ++ decimal jobs
+    ++ line (codes " jobs")
+
 -- a line for each command
 abbrev pub usage : List ℕ
 usage = line (codes "usage: fontc build IN OUT")
     ++ line (codes "usage: fontc inspect point FONT GID INDEX COORDS")
+    ++ line (codes "usage: fontc sample SEED GLYPHS OUT [--source]")
 
 -- The lines of a status, by what a run prints that is done. Those of `ConsoleFault` are the lines
 -- of `Done`, which the console failed.

@@ -9,9 +9,11 @@ use Rattle.refusal_codes.specs.declared.refusal.Refusal.{Refusal}
 use Rattle.font_plan.specs.Font.{font_of}
 use Rattle.font_reader.specs.declared.faults.FontFault.{FontFault}
 use Rattle.font_reader.specs.declared.points.Point.{Point}
-use Rattle.fontc_cli.specs.Commands.{Build, Inspect, Command, building, inspecting}
+use Rattle.fontc_cli.specs.Commands.{Build, Inspect, Sample, Command, building, inspecting}
+use Rattle.fontc_cli.specs.Commands.{sampling}
 use Rattle.fontc_cli.specs.Inspected.{inspected}
-use Rattle.fontc_cli.specs.Lines.{lines_of, wrote, point_line}
+use Rattle.fontc_cli.specs.Lines.{lines_of, wrote, point_line, sample_line}
+use Rattle.fontc_cli.specs.Sampled.{IsSampled, IsSampleRefused, IsSampleMakeable}
 use Rattle.fontc_cli.specs.declared.status.Status.{Status}
 use Rattle.fontc_cli.specs.declared.status.Status.TheVariants.{Done, Usage, Refused, BadFont}
 use Rattle.fontc_cli.specs.declared.status.Status.TheVariants.{ReadFault, WriteFault, ConsoleFault}
@@ -56,26 +58,22 @@ abbrev pub IsAccepted : Holding → Type 0
 IsAccepted source = (bytes : List ℕ) × (font : List ℕ) × (told_bytes source ≡ Some bytes)
     × (font_of bytes ≡ Ok font)
 
--- The output holds exactly the font of what the source's path held, and every other path is as
--- before. No read and no write of files has failed.
-pub record IsBuilt (command : Build) (font : List ℕ) (old new : Outside) : Type 0 where
-  pub font_is : HoldsFontOf (old.holds command.source) font
-  pub output : Leaves (replaced_by font (old.holds command.output)) (new.holds command.output)
-  pub others : LeavesOthers command.output old.holds new.holds
+-- This path holds exactly these bytes, and every other path is as before. No read and no write of
+-- files has failed.
+pub record IsWritten (path bytes : List ℕ) (old new : Outside) : Type 0 where
+  pub written : Leaves (replaced_by bytes (old.holds path)) (new.holds path)
+  pub others : LeavesOthers path old.holds new.holds
   pub reads : NoneRises old.failed_reads new.failed_reads
   pub writes : NoneRises old.failed_writes new.failed_writes
 
--- A write of the output has failed: it is as before, or holds first bytes of the font that was to
--- be written. Every other path is as before, and no read has failed.
-pub record IsPartlyBuilt (command : Build) (old new : Outside) : Type 0 where
-  pub font : List ℕ
-  pub font_is : HoldsFontOf (old.holds command.source) font
-  pub output : Leaves (old.holds command.output) (new.holds command.output)
-      ⊎ ((n : ℕ) × Leaves (replaced_by (take n font) (old.holds command.output))
-      (new.holds command.output))
-  pub others : LeavesOthers command.output old.holds new.holds
+-- A write of this path has failed: it is as before, or holds first bytes of these, which were to be
+-- written. Every other path is as before, and no read has failed.
+pub record IsPartlyWritten (path bytes : List ℕ) (old new : Outside) : Type 0 where
+  pub begun : Leaves (old.holds path) (new.holds path)
+      ⊎ ((n : ℕ) × Leaves (replaced_by (take n bytes) (old.holds path)) (new.holds path))
+  pub others : LeavesOthers path old.holds new.holds
   pub reads : NoneRises old.failed_reads new.failed_reads
-  pub writes : HasRisen (old.failed_writes command.output) (new.failed_writes command.output)
+  pub writes : HasRisen (old.failed_writes path) (new.failed_writes path)
 
 -- A read of this path has failed, and no write. No path has changed.
 pub record IsUnread (path : List ℕ) (old new : Outside) : Type 0 where
@@ -94,16 +92,22 @@ pub record LeavesFiles (old new : Outside) : Type 0 where
 abbrev pub BuildEnds : Build → Status → Outside → Outside → Type 0
 BuildEnds command Usage old new = ⊥
 BuildEnds command (BadFont fault) old new = ⊥
-BuildEnds command Done old new = (font : List ℕ) × IsBuilt command font old new
+BuildEnds command Done old new = (font : List ℕ)
+    × HoldsFontOf (old.holds command.source) font
+    × IsWritten command.output font old new
     × PrintsAll (lines_of (wrote (length font)) Done) old.console new.console
-BuildEnds command ConsoleFault old new = (font : List ℕ) × IsBuilt command font old new
+BuildEnds command ConsoleFault old new = (font : List ℕ)
+    × HoldsFontOf (old.holds command.source) font
+    × IsWritten command.output font old new
     × PrintsPart (lines_of (wrote (length font)) ConsoleFault) old.console new.console
 BuildEnds command (Refused r) old new = LeavesFiles old new
     × IsRefused (old.holds command.source) r
     × Prints (lines_of [] (Refused r)) old.console new.console
 BuildEnds command ReadFault old new = IsUnread command.source old new
     × Prints (lines_of [] ReadFault) old.console new.console
-BuildEnds command WriteFault old new = IsPartlyBuilt command old new
+BuildEnds command WriteFault old new = (font : List ℕ)
+    × HoldsFontOf (old.holds command.source) font
+    × IsPartlyWritten command.output font old new
     × Prints (lines_of [] WriteFault) old.console new.console
 BuildEnds command NoMemory old new = LeavesFiles old new × (new.console ≡ old.console)
 
@@ -141,6 +145,31 @@ InspectEnds command ReadFault old new = IsUnread command.font old new
     × Prints (lines_of [] ReadFault) old.console new.console
 InspectEnds command NoMemory old new = LeavesFiles old new × (new.console ≡ old.console)
 
+-- the line of a sample of which so many bytes are written, which so many jobs made
+abbrev pub told_of : Sample → List ℕ → ℕ → List ℕ
+told_of command bytes jobs = sample_line command.seed command.glyphs (length bytes) jobs
+
+-- What each status of a sample says: when it comes, what it leaves, and what the console took.
+-- Nothing is read, so no read fails.
+abbrev pub SampleEnds : Sample → Status → Outside → Outside → Type 0
+SampleEnds command Usage old new = ⊥
+SampleEnds command (BadFont fault) old new = ⊥
+SampleEnds command ReadFault old new = ⊥
+SampleEnds command Done old new = (bytes : List ℕ) × (jobs : ℕ) × IsSampled command bytes jobs
+    × IsWritten command.output bytes old new
+    × PrintsAll (lines_of (told_of command bytes jobs) Done) old.console new.console
+SampleEnds command ConsoleFault old new = (bytes : List ℕ) × (jobs : ℕ)
+    × IsSampled command bytes jobs
+    × IsWritten command.output bytes old new
+    × PrintsPart (lines_of (told_of command bytes jobs) ConsoleFault) old.console new.console
+SampleEnds command WriteFault old new = (bytes : List ℕ) × (jobs : ℕ)
+    × IsSampled command bytes jobs
+    × IsPartlyWritten command.output bytes old new
+    × Prints (lines_of [] WriteFault) old.console new.console
+SampleEnds command (Refused r) old new = LeavesFiles old new × IsSampleRefused command r
+    × Prints (lines_of [] (Refused r)) old.console new.console
+SampleEnds command NoMemory old new = LeavesFiles old new × (new.console ≡ old.console)
+
 -- words that are no command are `Usage`, and leave all files as before
 abbrev pub UsageEnds : Status → Outside → Outside → Type 0
 UsageEnds Usage old new = LeavesFiles old new × Prints (lines_of [] Usage) old.console new.console
@@ -157,10 +186,12 @@ abbrev pub RunEnds : Option Command → Status → Outside → Outside → Type 
 RunEnds None status old new = UsageEnds status old new
 RunEnds (Some (building command)) status old new = BuildEnds command status old new
 RunEnds (Some (inspecting command)) status old new = InspectEnds command status old new
+RunEnds (Some (sampling command)) status old new = SampleEnds command status old new
 
 -- A build whose source is accepted, and of which no read, no write and no print fails, gives its
 -- font, or memory runs out. An inspection of a font that can be read, of which no read and no print
--- fails, gives its point, or memory runs out.
+-- fails, gives its point, or memory runs out. A sample whose text is to be written, or accepted, of
+-- which no write and no print fails, is written, or memory runs out.
 abbrev pub IsComplete : Option Command → Status → Outside → Outside → Type 0
 IsComplete None status old new = Unit {0}
 IsComplete (Some (inspecting command)) status old new =
@@ -174,6 +205,26 @@ IsComplete (Some (building command)) status old new =
     → (HasRisen (old.failed_writes command.output) (new.failed_writes command.output) → ⊥)
     → (HasRisen old.console.failures new.console.failures → ⊥)
     → (status ≡ Done) ⊎ (status ≡ NoMemory)
+IsComplete (Some (sampling command)) status old new =
+    IsSampleMakeable command
+    → (HasRisen (old.failed_writes command.output) (new.failed_writes command.output) → ⊥)
+    → (HasRisen old.console.failures new.console.failures → ⊥)
+    → (status ≡ Done) ⊎ (status ≡ NoMemory)
+
+-- bytes are written to a path, and then a line is printed that tells of them, or memory runs out
+-- before either
+abbrev pub WritingEnds : List ℕ → List ℕ → List ℕ → Status → Outside → Outside → Type 0
+WritingEnds path bytes told Done old new = IsWritten path bytes old new
+    × PrintsAll (lines_of told Done) old.console new.console
+WritingEnds path bytes told ConsoleFault old new = IsWritten path bytes old new
+    × PrintsPart (lines_of told ConsoleFault) old.console new.console
+WritingEnds path bytes told WriteFault old new = IsPartlyWritten path bytes old new
+    × Prints (lines_of told WriteFault) old.console new.console
+WritingEnds path bytes told NoMemory old new = LeavesFiles old new × (new.console ≡ old.console)
+WritingEnds path bytes told Usage old new = ⊥
+WritingEnds path bytes told (Refused r) old new = ⊥
+WritingEnds path bytes told (BadFont fault) old new = ⊥
+WritingEnds path bytes told ReadFault old new = ⊥
 
 -- a refusal is printed, or memory runs out before anything is
 abbrev pub IsTold : Refusal → Status → Printed → Printed → Type 0

@@ -1,8 +1,10 @@
 -- A command without where its words lie in memory.
-use Rattle.fontc_cli.specs.Commands.{Build, Inspect, building, inspecting, place_of}
-use Rattle.fontc_cli.specs.Commands.{Command as SeenCommand}
+use Rattle.std.specs.Prelude.{◌≤◌}
+use Rattle.fontc_cli.specs.Commands.{Build, Inspect, Sample, building, inspecting, sampling}
+use Rattle.fontc_cli.specs.Commands.{place_of, Command as SeenCommand}
 use Rattle.fontc_cli.specs.declared.command.BuildCommand.{BuildCommand}
 use Rattle.fontc_cli.specs.declared.command.InspectCommand.{InspectCommand}
+use Rattle.fontc_cli.specs.declared.command.SampleCommand.{SampleCommand}
 use Rattle.fontc_cli.specs.declared.command.Command.{Command}
 use Rattle.fontc_cli.specs.declared.command.Command.TheVariants as commands
 
@@ -17,6 +19,24 @@ shown_inspect command = record {
   place = place_of command.place.now;
 }
 
+abbrev pub shown_sample : SampleCommand → Sample
+shown_sample command = record {
+  seed = command.seed;
+  glyphs = command.glyphs;
+  output = command.output.now;
+  writes_text = command.writes_text;
+}
+
 abbrev pub shown_command : Command → SeenCommand
 shown_command (commands.Build command) = building (shown command)
 shown_command (commands.Inspect command) = inspecting (shown_inspect command)
+shown_command (commands.Sample command) = sampling (shown_sample command)
+
+-- a sample has a glyph or more, and not more than can be made
+abbrev pub IsMakeable : SampleCommand → Type 0
+IsMakeable command = (1 ≤ command.glyphs) × (command.glyphs ≤ 60000)
+
+abbrev pub IsRunnable : Command → Type 0
+IsRunnable (commands.Build command) = Unit {0}
+IsRunnable (commands.Inspect command) = Unit {0}
+IsRunnable (commands.Sample command) = IsMakeable command

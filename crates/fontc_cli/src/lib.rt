@@ -5,8 +5,10 @@ mod command;
 mod inspect;
 mod lines;
 mod runs;
+mod sample;
 mod status;
 mod words;
+mod writing;
 
 pub use runs::{run, run_alone, run_program};
 pub use status::{Report, Status};

@@ -1,8 +1,8 @@
-ghost use Rattle.std.specs.Prelude.{◌≡◌, [], ◌∷◌, ◌++◌, Err, IfOk};
-ghost use Rattle.std.specs.Fmt.{signed_decimal};
+ghost use Rattle.std.specs.Prelude.{◌≡◌, [], ◌∷◌, ◌++◌, Err, IfOk, OnOk};
+ghost use Rattle.std.specs.Fmt.{decimal, signed_decimal};
 ghost use Rattle.std.specs.String.{string_bytes};
 ghost use Rattle.whole_files.specs.Printing.{printed, Prints};
-ghost use Rattle.fontc_cli.specs.Lines.{lines_of, wrote, point_line};
+ghost use Rattle.fontc_cli.specs.Lines.{lines_of, wrote, sample_line, point_line};
 ghost use Rattle.fontc_cli.specs.Runs.{IsTold, IsPointTold};
 ghost use Rattle.fontc_cli.specs.declared.status.Status.TheVariants as statuses;
 
@@ -16,7 +16,8 @@ use whole_files::print_whole;
 /// What is printed where the words are no command.
 pub const USAGE: &str = concat!(
     "usage: fontc build IN OUT\n",
-    "usage: fontc inspect point FONT GID INDEX COORDS\n"
+    "usage: fontc inspect point FONT GID INDEX COORDS\n",
+    "usage: fontc sample SEED GLYPHS OUT [--source]\n"
 );
 
 /// What is printed where a read failed.
@@ -30,6 +31,33 @@ pub fn wrote_line(alloc: Global, count: usize) -> Result<String, AllocError>
     ensures { IfOk result (λ line. string_bytes line ≡ wrote count) }
 {
     format!(in alloc; "wrote {count} bytes\n")
+}
+
+/// What is printed where so many bytes of a sample were written, which so many jobs made.
+pub fn sample_line(
+    alloc: Global,
+    seed: u32,
+    glyphs: u32,
+    count: usize,
+    jobs: usize,
+) -> Result<String, AllocError>
+    ensures { IfOk result (λ line. string_bytes line ≡ sample_line seed glyphs count jobs) }
+{
+    let mut line = String::from_str(alloc, "sample ")?;
+    push_number(&mut line, seed as usize, " ")?;
+    push_number(&mut line, glyphs as usize, ": ")?;
+    push_number(&mut line, count, " bytes, ")?;
+    push_number(&mut line, jobs, " jobs\n")?;
+    Ok(line)
+}
+
+/// Adds a number, and a text behind it.
+fn push_number(line: &mut String, number: usize, behind: &str) -> Result<(), AllocError>
+    ensures { OnOk result (string_bytes line.new
+        ≡ string_bytes line.old ++ decimal number ++ behind.now) }
+{
+    write!(line, "{number}")?;
+    line.push_str(behind)
 }
 
 /// What is printed of a point.

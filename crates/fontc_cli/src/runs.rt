@@ -3,29 +3,33 @@ ghost use Rattle.std.specs.String.{string_bytes};
 ghost use Rattle.outside_io.specs.Files.{told_bytes};
 ghost use Rattle.whole_files.specs.Requests.{Since};
 ghost use Rattle.refusal_codes.specs.declared.limits.TheConstants.{SOURCE_BYTES};
-ghost use Rattle.fontc_cli.specs.Boards.{HasBoard, HasBuildBoard, MayBegin};
+ghost use Rattle.fontc_cli.specs.Boards.{HasBoard, HasBuildBoard};
 ghost use Rattle.fontc_cli.specs.Asked.{WritingAsks, BuildAsks, RunAsks};
 ghost use Rattle.fontc_cli.specs.Commands.{command_of};
-ghost use Rattle.fontc_cli.specs.Runs.{BuildEnds, RunEnds, IsComplete, HoldsFontOf, Between};
+ghost use Rattle.fontc_cli.specs.Lines.{wrote};
+ghost use Rattle.fontc_cli.specs.Runs.{BuildEnds, RunEnds, IsComplete, WritingEnds, Between};
 ghost use Rattle.fontc_cli.specs.Statuses.{ExitsBy};
-ghost use Rattle.fontc_cli.specs.Words.{shown, shown_command};
+ghost use Rattle.fontc_cli.specs.Words.{shown, shown_command, IsRunnable};
 
 use crate::command::{BuildCommand, Command, read_command};
 use crate::inspect::inspect;
-use crate::lines::{READ_FAULT, USAGE, WRITE_FAULT, refuse, tell, wrote_line};
+use crate::lines::{READ_FAULT, USAGE, refuse, tell, wrote_line};
+use crate::sample::sample;
 use crate::status::{Report, Status};
+use crate::writing::write_and_tell;
 use font_plan::{compile_one, source_too_large};
 use outside_io::{Console, Files, Gate};
 use refusal_codes::CompileError;
 use refusal_codes::limits::SOURCE_BYTES;
 use std::alloc::Global;
 use std::process::ExitCode;
-use whole_files::{ReadWholeError, print_whole, read_whole, write_whole};
+use whole_files::{ReadWholeError, read_whole};
 
 /// Runs the command that the words are, over these files and this console.
 ///
-/// The words are those behind the program's name: `build IN OUT`, or
-/// `inspect point FONT GID INDEX COORDS`. The report says how the run ended.
+/// The words are those behind the program's name: `build IN OUT`,
+/// `inspect point FONT GID INDEX COORDS` or `sample SEED GLYPHS OUT`, with `--source` anywhere
+/// behind `sample`. The report says how the run ended.
 ///
 /// Of a build: the font of what IN held stands in OUT; or the words are no command, the source is
 /// refused, a read of IN or a write of OUT failed, or memory ran out. Files are asked for reads of
@@ -35,6 +39,10 @@ use whole_files::{ReadWholeError, print_whole, read_whole, write_whole};
 /// Of an inspection: the point INDEX of the glyph GID of the font that FONT holds, at the place
 /// COORDS of the design space, was read; or the font, or what is asked of it, is at fault, a read
 /// of FONT failed, or memory ran out. Nothing is written.
+///
+/// Of a sample: OUT holds the font of the text that is drawn from SEED for GLYPHS glyphs, or with
+/// `--source` that text; or the text is refused, a write of OUT failed, or memory ran out. Nothing
+/// is read, and OUT is begun as that of a build is.
 ///
 /// The console takes one line, which says the same, and of a point its coordinates in 16.16; of
 /// words that are no command it takes a line for each command, and where memory ran out none. A
@@ -143,6 +151,7 @@ fn run_command<F: Files, C: Console>(
     files: &mut F,
     console: &mut C,
 ) -> Report
+    requires { IsRunnable command }
     ensures ends { Between (RunEnds (Some (shown_command command.entry)) result.status)
         F.holds F.failed_reads F.failed_writes C.took C.failed_writes files.old files.new
         console.old console.new }
@@ -155,6 +164,7 @@ fn run_command<F: Files, C: Console>(
     match command {
         Command::Build(command) => build(alloc, command, files, console),
         Command::Inspect(command) => Report::of(inspect(alloc, command, files, console)),
+        Command::Sample(command) => sample(alloc, command, files, console),
     }
 }
 
@@ -207,7 +217,8 @@ fn build_source<F: Files, C: Console>(
 {
     match compile_one(alloc, source) {
         Ok(built) => {
-            let status = write_font(alloc, command, files, console, built.font.as_slice());
+            let font = built.font.as_slice();
+            let status = write_font(alloc, command.output, files, console, font);
             Report::with_board(status, built.board)
         }
         Err(CompileError::Refused(refusal)) => Report::of(refuse(alloc, console, refusal)),
@@ -215,33 +226,21 @@ fn build_source<F: Files, C: Console>(
     }
 }
 
-/// Writes the font of a source that was read, once the line that tells of it stands in memory too.
+/// Writes the font of a source, once the line that tells of it stands in memory too.
 fn write_font<F: Files, C: Console>(
     alloc: Global,
-    command: BuildCommand<'_>,
+    output: &str,
     files: &mut F,
     console: &mut C,
     font: &[u8],
 ) -> Status
-    requires { HoldsFontOf (F.holds files.old command.source.now) font.now }
-    ensures ends { Between (BuildEnds (shown command.entry) result) F.holds F.failed_reads
-        F.failed_writes C.took C.failed_writes files.old files.new console.old console.new }
-    ensures begun { MayBegin result font.now (F.holds files.old (shown command.entry).output)
-        (F.holds files.new (shown command.entry).output) }
-    ensures asked { Since (WritingAsks command.entry.output.now result)
-        (F.calls files.old) (F.calls files.new) }
+    ensures ends { Between (WritingEnds output.now font.now (wrote (length font.now)) result)
+        F.holds F.failed_reads F.failed_writes C.took C.failed_writes files.old files.new
+        console.old console.new }
+    ensures asked { Since (WritingAsks output.now result) (F.calls files.old) (F.calls files.new) }
 {
-    let Ok(line) = wrote_line(alloc, font.len()) else {
-        return Status::NoMemory;
-    };
-    match write_whole(files, command.output, font) {
-        Ok(()) => match print_whole(console, line.as_bytes()) {
-            Ok(()) => Status::Done,
-            Err(_) => Status::ConsoleFault,
-        },
-        Err(_) => {
-            tell(console, WRITE_FAULT);
-            Status::WriteFault
-        }
+    match wrote_line(alloc, font.len()) {
+        Ok(line) => write_and_tell(files, console, output, font, line.as_str()),
+        Err(_) => Status::NoMemory,
     }
 }

@@ -12,7 +12,8 @@ use std::process::ExitCode;
 /// How a run ended.
 #[derive(Debug, Drop)]
 pub enum Status {
-    /// The font was written, or the point read, and the console took the line that says so.
+    /// The font or the sample was written, or the point read, and the console took the line that
+    /// says so.
     Done,
     /// The words are no command.
     Usage,
@@ -22,9 +23,10 @@ pub enum Status {
     BadFont(FontFault),
     /// The source could not be read, or the font that was to be inspected.
     ReadFault,
-    /// The font could not be written.
+    /// The font or the sample could not be written.
     WriteFault,
-    /// The font was written, or the point read, and the console failed the line that says so.
+    /// The font or the sample was written, or the point read, and the console failed the line that
+    /// says so.
     ConsoleFault,
     /// Memory ran out.
     NoMemory,

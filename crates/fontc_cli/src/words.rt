@@ -1,8 +1,8 @@
-ghost use Rattle.std.specs.Prelude.{◌≡◌, ◌+◌, ◌-◌, ◌*◌, ◌≤◌, min, map, IfOk};
+ghost use Rattle.std.specs.Prelude.{◌≡◌, ◌+◌, ◌-◌, ◌*◌, ◌≤◌, min, map, IfOk, IfSome};
 ghost use Rattle.std.specs.List.{list_all};
 ghost use Rattle.source_values.specs.Decimals.{are_digits, digits_value};
-ghost use Rattle.fontc_cli.specs.Commands.{coordinate_of, is_number, is_place, number_of};
-ghost use Rattle.fontc_cli.specs.Commands.{pieces_of, place_of};
+ghost use Rattle.fontc_cli.specs.Commands.{coordinate_of, glyphs_of, is_number, is_place};
+ghost use Rattle.fontc_cli.specs.Commands.{number_between, number_of, pieces_of, place_of, seed_of};
 
 use fixed_math::F2Dot14;
 use refusal_codes::NoMemory;
@@ -12,16 +12,46 @@ use std::alloc::{AllocError, Global};
 const NO_COORDINATES: &str = "none";
 
 /// The number to which greater ones are cut: it is above each that a command takes.
-const CUT_AT: u32 = 65536;
+const CUT_AT: u64 = 4_294_967_296;
+
+/// The greatest number of glyphs of a sample.
+const MOST_GLYPHS: u32 = 60_000;
 
 /// The number of 1 to 10 digits that a word spells, where it is at most 65535.
-#[tactic(auto, unfolding(crate::specs::Commands::number_of))]
 pub fn number(word: &str) -> Option<u16>
     ensures { result ≡ number_of word.now }
 {
+    u16::try_from(number_between(word, 0, 65535)?).ok()
+}
+
+/// The seed that a word spells: a number of 1 to 10 digits, at most 4294967295.
+pub fn seed(word: &str) -> Option<u32>
+    ensures { result ≡ seed_of word.now }
+{
+    number_between(word, 0, u32::MAX)
+}
+
+/// The number of a sample's glyphs that a word spells: one of 1 to 10 digits, from 1 to 60,000.
+pub fn glyph_count(word: &str) -> Option<u32>
+    ensures number { result ≡ glyphs_of word.now }
+    ensures within { IfSome result (λ count. (1 ≤ count) × (count ≤ 60000)) }
+{
+    number_between(word, 1, MOST_GLYPHS)
+}
+
+/// The number of 1 to 10 digits that a word spells, where it lies between these two.
+#[tactic(auto, unfolding(crate::specs::Commands::number_between))]
+fn number_between(word: &str, least: u32, greatest: u32) -> Option<u32>
+    ensures number { result ≡ number_between least greatest word.now }
+    ensures within { IfSome result (λ number. (least ≤ number) × (number ≤ greatest)) }
+{
     let digits = word.as_bytes();
-    if are_digits(digits) && digits.len() <= 10 {
-        u16::try_from(value_of(digits)).ok()
+    if !are_digits(digits) || digits.len() > 10 {
+        return None;
+    }
+    let number = u32::try_from(value_of(digits)).ok()?;
+    if least <= number && number <= greatest {
+        Some(number)
     } else {
         None
     }
@@ -37,10 +67,10 @@ fn are_digits(word: &[u8]) -> bool
 
 /// The number that digits spell, cut.
 #[tactic(auto, unfolding(source_values::specs::Decimals::digits_value))]
-fn value_of(digits: &[u8]) -> u32
-    ensures { result ≡ min (digits_value digits.now) 65536 }
+fn value_of(digits: &[u8]) -> u64
+    ensures { result ≡ min (digits_value digits.now) 4294967296 }
 {
-    let mut value: u32 = 0;
+    let mut value: u64 = 0;
     for digit in digits {
         value = with_digit(value, *digit);
     }
@@ -48,11 +78,11 @@ fn value_of(digits: &[u8]) -> u32
 }
 
 /// A number with one more digit, cut.
-fn with_digit(value: u32, digit: u8) -> u32
-    requires { value ≤ 65536 }
-    ensures { result ≡ min (10 * value + (digit - 48)) 65536 }
+fn with_digit(value: u64, digit: u8) -> u64
+    requires { value ≤ 4294967296 }
+    ensures { result ≡ min (10 * value + (digit - 48)) 4294967296 }
 {
-    (10 * value + u32::from(digit.saturating_sub(b'0'))).min(CUT_AT)
+    (10 * value + u64::from(digit.saturating_sub(b'0'))).min(CUT_AT)
 }
 
 /// Whether a word spells a place of the design space: numbers joined by commas, or `none`.

@@ -1,7 +1,8 @@
-ghost use Rattle.std.specs.Prelude.{◌≡◌, ◌<◌, ◌≤◌, ◌+◌, ◌++◌, ◌∷◌, [], codes, IfOk, OnOk};
+ghost use Rattle.std.specs.Prelude.{◌≡◌, ◌<◌, ◌≤◌, ◌+◌, ◌++◌, ◌∷◌, [], codes, length, IfOk, OnOk};
 ghost use Rattle.std.specs.Prelude.{if◌then◌else◌};
 ghost use Rattle.std.specs.Fmt.{decimal};
 ghost use Rattle.std.specs.String.{string_bytes};
+ghost use Rattle.refusal_codes.specs.declared.limits.TheConstants.{SOURCE_BYTES};
 ghost use Rattle.sample_maker.specs.Glyphs.{IsSmallShape, IsSmallPair};
 ghost use Rattle.sample_maker.specs.SampleText.{glyph_name, pair_text, node_text, rectangle_text};
 ghost use Rattle.sample_maker.specs.SampleText.{component_text, first_shape, second_shape};
@@ -19,11 +20,12 @@ use std::alloc::{AllocError, Global};
 /// The text of the sample with this seed and so many glyphs, 1 to 60,000: a Glyphs source (Glyphs
 /// file format, version 3) of two masters on the axis of weights. Which glyphs it has is fontc's
 /// own: rectangles and components, drawn by a linear congruential generator, so that two calls
-/// with the same numbers give the same text everywhere.
+/// with the same numbers give the same text everywhere. No such text is too long for a source.
 pub fn sample(alloc: Global, seed: u32, glyphs: u32) -> Result<Vec<u8>, NoMemory>
     requires some { 1 ≤ glyphs }
     requires few { glyphs ≤ 60000 }
-    ensures { IfOk result (λ text. text.items ≡ sample_text seed glyphs) }
+    ensures text { IfOk result (λ text. text.items ≡ sample_text seed glyphs) }
+    ensures short { IfOk result (λ text. length text.items ≤ SOURCE_BYTES) }
 {
     let text = whole_text(alloc, seed, glyphs as u16)?;
     Ok(text.into_bytes())

@@ -4,4 +4,4 @@ use Rattle.fontc_cli.proofs.words.value_of.Given as goal
 
 abbrev pub invariant-loop-digit : goal.invariant-loop-digit
 invariant-loop-digit l = l.value ≡ min (fold (λ n d. 10 * n + (d - 48)) 0
-    (take l.digit-index l.digits)) 65536
+    (take l.digit-index l.digits)) 4294967296
