@@ -1,6 +1,7 @@
 use crate::ending::Left;
+use crate::runs::run_in_memory;
 use crate::source::Source;
-use anyhow::{Context, Result, bail};
+use anyhow::{Context, Result, bail, ensure};
 use std::alloc::Global;
 
 /// The words of a row that names none.
@@ -100,6 +101,7 @@ impl<'a> Row<'a> {
             "new" => self.replace(alloc, rest)?,
             "put" => self.put(alloc, rest)?,
             "cut" => self.source.cut(rest.parse::<usize>()?),
+            "built" => self.build(alloc)?,
             _ => bail!("no line of a row begins with {word}"),
         }
         Ok(())
@@ -130,6 +132,14 @@ impl<'a> Row<'a> {
     fn put(&mut self, alloc: Global, rest: &str) -> Result<()> {
         let (place, digits) = counted(rest)?;
         self.source.put_hex(alloc, place as usize, digits)
+    }
+
+    /// Puts the font that the source so far makes in its place.
+    fn build(&mut self, alloc: Global) -> Result<()> {
+        let ended = run_in_memory(alloc, self)?;
+        ensure!(ended.status == 0, "the source makes no font");
+        self.source = Source::of(ended.output);
+        Ok(())
     }
 
     fn replace(&mut self, alloc: Global, new: &str) -> Result<()> {

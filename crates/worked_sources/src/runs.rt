@@ -62,7 +62,7 @@ fn difference(rt: &HostRuntime, row: &Row<'_>, ended: &Ended) -> Result<Option<S
 }
 
 /// Runs a row over files in memory, of which `in` holds its source and `out` something else.
-fn run_in_memory(alloc: Global, row: &Row<'_>) -> Result<Ended> {
+pub fn run_in_memory(alloc: Global, row: &Row<'_>) -> Result<Ended> {
     let mut files = memory_of(alloc, row)?;
     let (status, printed) = run_words(alloc, row, &mut files)?;
     let output = Vec::from_slice(alloc, files.held("out").unwrap_or(&[]))?;

@@ -16,6 +16,11 @@ impl Source {
         }
     }
 
+    /// A source of these bytes.
+    pub fn of(bytes: Vec<u8>) -> Source {
+        Source { bytes }
+    }
+
     pub fn as_slice(&self) -> &[u8] {
         self.bytes.as_slice()
     }
