@@ -12,7 +12,7 @@ const BEFORE: &[u8] = b"as before";
 
 /// Files with this source in `in` and something in `out`, whose calls handle at most 100 bytes.
 fn files_with(alloc: Global, source: &[u8]) -> Result<MemFiles, Fail> {
-    let mut files = MemFiles::with_room(alloc, 2, 1000)?;
+    let mut files = MemFiles::with_room(alloc, 2, 2000)?;
     files.put(alloc, "in", source)?;
     files.put(alloc, "out", BEFORE)?;
     files.step(100);
