@@ -57,7 +57,7 @@ pub record IsReadGlyph (glyph : GlyphIr) : Type 0 where
   pub small_anchors : All (λ layer. All (λ anchor. IsSmall anchor.x × IsSmall anchor.y)
       layer.anchors) glyph.layers
 
--- components aren't built: each shape is a path
+-- each shape is a path
 abbrev pub IsPath : Shape → Type 0
 IsPath (Path contour) = Unit {0}
 IsPath (Component base at scale quarters) = ⊥
@@ -65,6 +65,6 @@ IsPath (Component base at scale quarters) = ⊥
 abbrev pub HasNoComponents : GlyphIr → Type 0
 HasNoComponents glyph = All (λ layer. All IsPath layer.shapes) glyph.layers
 
--- anchors aren't built
+-- no layer has anchors
 abbrev pub HasNoAnchors : GlyphIr → Type 0
 HasNoAnchors glyph = All (λ layer. length layer.anchors ≡ 0) glyph.layers

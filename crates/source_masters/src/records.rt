@@ -33,8 +33,9 @@ pub fn masters_place(tree: &Tree) -> u64
 /// and so many units per em. Their locations are empty.
 ///
 /// Coordinates are in 16.16 and metrics in font units. A user coordinate that a master doesn't give
-/// is its design coordinate; a metric that it hasn't is that of the default master, and one that the
-/// default master hasn't follows from the em. The error is want of memory.
+/// is its design coordinate; a metric that it hasn't is that of the default master. Where the
+/// default master hasn't it, ascender and descender follow from the em, and cap height and x-height
+/// are 0. The error is want of memory.
 #[tactic(auto, unfolding(crate::specs::MasterReading::masters_of))]
 pub fn masters(
     alloc: Global,

@@ -20,7 +20,7 @@ use table_bytes::{push_uint16, push_uint32};
 /// it.
 ///
 /// The error is `Offset` exactly where an offset is greater than its width holds, and has the first
-/// such, by its place in the bytes. Else memory can run out.
+/// such, by its place in the bytes. Whatever the tree, memory can run out first.
 ///
 /// Of any node, each near offset leads to the near part of its node, and each far offset to the
 /// layout of its node. Nodes are compared by their spellings, and those with one spelling are
