@@ -15,6 +15,7 @@ pub mod NoFailure
 pub mod OnLiterals
 pub mod Orders
 pub mod Runs
+pub mod SourceDrawn
 pub mod Steps
 pub mod Tabled
 pub mod TablesOnLiterals

@@ -210,7 +210,7 @@ drawn_number source tree header index number flat d =
     ((flat_known index d.raw d.of_bases flat d.flat_made).number ∙ known.number_is, known.within)
 
 -- a name of the index has a number
-found_number : (n : ℕ) (index : List Entry) (name : List ℕ)
+pub found_number : (n : ℕ) (index : List Entry) (name : List ℕ)
     → is_some (lookup (pointwise nat_eq name) index) ≡ true
     → length (number_of (named_from n name index)) ≡ 1
 found_number n [] name e = absurd cc
@@ -237,7 +237,7 @@ shape_count index (Component base at scale quarters ∷ shapes) known =
     (flat_map (shape_bases index) shapes) in
     omega (arith, rest, one, joined)
 
-first_known : (layers : List LayerIr) (index : List Entry)
+pub first_known : (layers : List LayerIr) (index : List Entry)
     → All (λ layer. All (λ base. is_glyph index base ≡ true) (bases_of layer.shapes)) layers
     → AllByRecursion (λ base. is_glyph index base ≡ true) (bases_of
     (slice_index_or layers 0 (record { width = pos 0; shapes = []; anchors = [] })).shapes)

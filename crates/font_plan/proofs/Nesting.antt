@@ -58,7 +58,7 @@ apart first (other ∷ index) zero entry all e =
 apart first (other ∷ index) (suc place) entry all e = apart first index place entry all.1 e
 
 -- so a glyph is found by its name
-found_by_name : (n : ℕ) (index : List Entry) (glyph : ℕ × Entry) (place : ℕ)
+pub found_by_name : (n : ℕ) (index : List Entry) (glyph : ℕ × Entry) (place : ℕ)
     → glyph.0 ≡ n + place → slice_get index place ≡ Some glyph.1
     → IsDistinct (pointwise nat_eq) (keys_of index)
     → named_from n glyph.1.0 index ≡ Some glyph

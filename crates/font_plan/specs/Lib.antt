@@ -11,4 +11,5 @@ pub mod Known
 pub mod Order
 pub mod Reading
 pub mod Settling
+pub mod SourceGlyphs
 pub mod Telling

@@ -12,7 +12,11 @@ ghost use Rattle.font_plan.specs.Failing.{FailsBy};
 ghost use Rattle.font_plan.specs.Font.{font_of};
 ghost use Rattle.font_plan.specs.FontFile.{source_too_large};
 ghost use Rattle.font_plan.specs.Jobs.{parts};
+ghost use Rattle.font_plan.specs.SourceGlyphs.{GlyphsDrawAsTheirSource};
 
+use crate::glyph_jobs::drawing_laws;
+use component_flatten::flat_glyphs_draw_as_their_source;
+use glyphs_source::entries_are_numbered;
 use plist_reader::sources_have_one_answer;
 
 /// The jobs of a source make a font exactly where its definition without jobs gives one, which
@@ -32,6 +36,17 @@ pub fn a_source_is_accepted_with_its_parts()
     ensures accepted { (source font : List ℕ) → IsFontOf source font → font_of source ≡ Ok font }
 {
     sources_have_one_answer();
+}
+
+/// Each glyph of an accepted source's font draws what the source says: at each of its locations the
+/// contours of its shapes in their order, where a component stands for what the glyph of its name
+/// draws there, transformed; and so on from component to component.
+pub fn glyphs_draw_as_their_source()
+    ensures { GlyphsDrawAsTheirSource }
+{
+    drawing_laws();
+    entries_are_numbered();
+    flat_glyphs_draw_as_their_source();
 }
 
 /// A job of a source fails exactly where its part does: all that the part is made of, directly or

@@ -24,7 +24,7 @@ pub use known::{Fact, Known};
 pub use laws::{
     a_refused_text_refuses_its_source, a_source_is_accepted_where_nothing_fails,
     a_source_is_accepted_with_its_parts, a_source_is_refused_by_its_least_failure,
-    failures_are_those_of_the_parts, jobs_make_the_direct_font,
+    failures_are_those_of_the_parts, glyphs_draw_as_their_source, jobs_make_the_direct_font,
 };
 pub use plan::FontPlan;
 pub use source_jobs::source_too_large;
