@@ -1,2 +1,1 @@
-mod Skipped
 mod Rows

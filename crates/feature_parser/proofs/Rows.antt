@@ -4,10 +4,10 @@ use Rattle.std.proofs.Common.{◌≡◌, ℕ, Bool, true, false, ◌&&◌, List,
 use Rattle.std.specs.Prelude.{◌==◌, Result, Ok, Err, codes}
 use Rattle.refusal_codes.specs.declared.refusal.Refusal.{Refusal}
 use Rattle.refusal_codes.specs.Rules.{rule_number}
-use Rattle.feature_parser.specs.declared.file.FeatureFile.{FeatureFile}
+use Rattle.feature_grammar.specs.declared.file.FeatureFile.{FeatureFile}
 use Rattle.feature_parser.specs.OnLiterals.{texts_on_literals}
-use Rattle.feature_parser.specs.Grammar.{spells}
-use Rattle.feature_parser.specs.Words.{Word, words_of}
+use Rattle.feature_grammar.specs.Grammar.{spells}
+use Rattle.feature_tokens.specs.Words.{Word, words_of}
 use Rattle.feature_parser.specs.Reading.{file_of}
 
 -- ---- refused texts

@@ -9,37 +9,37 @@ use Rattle.refusal_codes.specs.declared.rule.Rule.TheVariants.{Syntax, Unsupport
 use Rattle.refusal_codes.specs.declared.refusal.Refusal.{Refusal}
 use Rattle.refusal_codes.specs.declared.job.TheConstants.{FEATURE_PARSE}
 use Rattle.refusal_codes.specs.First.{refusal_of}
-use Rattle.feature_parser.specs.declared.file.Name.{Name}
-use Rattle.feature_parser.specs.declared.file.Member.{Member}
-use Rattle.feature_parser.specs.declared.file.Member.TheVariants as kinds_of
-use Rattle.feature_parser.specs.declared.file.GlyphSet.TheVariants as sets
-use Rattle.feature_parser.specs.declared.file.Numbers.{Numbers}
-use Rattle.feature_parser.specs.declared.file.Numbers.TheVariants as value_forms
-use Rattle.feature_parser.specs.declared.file.Statement.{Statement}
-use Rattle.feature_parser.specs.declared.file.Statement.TheVariants as statements
-use Rattle.feature_parser.specs.declared.file.Lookup.{Lookup}
-use Rattle.feature_parser.specs.declared.file.FeatureItem.{FeatureItem}
-use Rattle.feature_parser.specs.declared.file.FeatureItem.TheVariants as parts
-use Rattle.feature_parser.specs.declared.file.Definition.{Definition}
-use Rattle.feature_parser.specs.declared.file.Definition.TheVariants as definitions
-use Rattle.feature_parser.specs.declared.file.FeatureFile.{FeatureFile}
-use Rattle.feature_parser.specs.declared.words.Keyword.{Keyword}
-use Rattle.feature_parser.specs.declared.words.Keyword.TheVariants as keywords
-use Rattle.feature_parser.specs.declared.words.Lexeme.{Lexeme}
-use Rattle.feature_parser.specs.declared.words.Lexeme.TheVariants as lexemes
-use Rattle.feature_parser.specs.declared.line.Level.{Level}
-use Rattle.feature_parser.specs.declared.line.TagWord.TheVariants as tag_words
-use Rattle.feature_parser.specs.declared.line.Entry.{Entry}
-use Rattle.feature_parser.specs.declared.line.Entry.TheVariants as entries
-use Rattle.feature_parser.specs.declared.line.Line.{Line}
-use Rattle.feature_parser.specs.declared.line.Line.TheVariants as lines
-use Rattle.feature_parser.specs.declared.line.Inner.{Inner}
-use Rattle.feature_parser.specs.declared.line.Inner.TheVariants as inners
-use Rattle.feature_parser.specs.Words.{Word, is_word, words_of}
-use Rattle.feature_parser.specs.Lines.{name_at, give_set, takes_set, give_value, takes_value}
-use Rattle.feature_parser.specs.Lines.{give_number, give_plain, give_escaped, give_class}
-use Rattle.feature_parser.specs.Lines.{give_keyword, give_sign, entry_of, is_empty, takes_item}
-use Rattle.feature_parser.specs.Lines.{is_one_glyph, follows_pos, is_position_word}
+use Rattle.feature_grammar.specs.declared.file.Name.{Name}
+use Rattle.feature_grammar.specs.declared.file.Member.{Member}
+use Rattle.feature_grammar.specs.declared.file.Member.TheVariants as kinds_of
+use Rattle.feature_grammar.specs.declared.file.GlyphSet.TheVariants as sets
+use Rattle.feature_grammar.specs.declared.file.Numbers.{Numbers}
+use Rattle.feature_grammar.specs.declared.file.Numbers.TheVariants as value_forms
+use Rattle.feature_grammar.specs.declared.file.Statement.{Statement}
+use Rattle.feature_grammar.specs.declared.file.Statement.TheVariants as statements
+use Rattle.feature_grammar.specs.declared.file.Lookup.{Lookup}
+use Rattle.feature_grammar.specs.declared.file.FeatureItem.{FeatureItem}
+use Rattle.feature_grammar.specs.declared.file.FeatureItem.TheVariants as parts
+use Rattle.feature_grammar.specs.declared.file.Definition.{Definition}
+use Rattle.feature_grammar.specs.declared.file.Definition.TheVariants as definitions
+use Rattle.feature_grammar.specs.declared.file.FeatureFile.{FeatureFile}
+use Rattle.feature_tokens.specs.declared.words.Keyword.{Keyword}
+use Rattle.feature_tokens.specs.declared.words.Keyword.TheVariants as keywords
+use Rattle.feature_tokens.specs.declared.words.Lexeme.{Lexeme}
+use Rattle.feature_tokens.specs.declared.words.Lexeme.TheVariants as lexemes
+use Rattle.rule_words.specs.declared.line.Level.{Level}
+use Rattle.rule_words.specs.declared.line.TagWord.TheVariants as tag_words
+use Rattle.rule_words.specs.declared.line.Entry.{Entry}
+use Rattle.rule_words.specs.declared.line.Entry.TheVariants as entries
+use Rattle.rule_words.specs.declared.line.Line.{Line}
+use Rattle.rule_words.specs.declared.line.Line.TheVariants as lines
+use Rattle.rule_words.specs.declared.line.Inner.{Inner}
+use Rattle.rule_words.specs.declared.line.Inner.TheVariants as inners
+use Rattle.feature_tokens.specs.Words.{Word, is_word, words_of}
+use Rattle.rule_words.specs.Lines.{name_at, give_set, takes_set, give_value, takes_value}
+use Rattle.rule_words.specs.Lines.{give_number, give_plain, give_escaped, give_class}
+use Rattle.rule_words.specs.Lines.{give_keyword, give_sign, entry_of, is_empty, takes_item}
+use Rattle.rule_words.specs.Lines.{is_one_glyph, follows_pos, is_position_word}
 
 -- ---- what is open
 

@@ -1,16 +1,3 @@
-//! Feature code: its tokens. The syntax is that part of the Adobe feature file specification that
-//! fontc supports.
+//! Feature code read word by word: what each word makes of those before it, which stands in
+//! `specs` alone, without code.
 #![tactic(auto)]
-
-mod bytes;
-mod file;
-mod line;
-mod rules;
-mod tokens;
-mod words;
-
-pub use file::{
-    ClassDefinition, Context, Definition, Feature, FeatureFile, FeatureItem, Flag, FlagWord, Flags,
-    GlyphSet, Inherits, Item, Lookup, Marked, Member, Name, Numbers, Rule, Statement, Value,
-};
-pub use tokens::{Token, TokenKind, tokenize};

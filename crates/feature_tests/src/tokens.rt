@@ -1,4 +1,4 @@
-use feature_parser::{Token, TokenKind, tokenize};
+use feature_tokens::{Token, TokenKind, tokenize};
 use std::alloc::Global;
 use std::test::Fail;
 

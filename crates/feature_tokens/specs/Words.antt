@@ -6,14 +6,14 @@ use Rattle.std.specs.Prelude.{ℕ, ℤ, pos, neg_ℤ, ◌+◌, ◌-◌, ◌*◌,
 use Rattle.std.specs.Prelude.{nat_le, nat_eq, List, map, length, drop, fold, codes, slice_index}
 use Rattle.std.specs.Prelude.{slice_range, Option, Some, None, if◌then◌else◌}
 use Rattle.std.specs.Cmp.Lexicographic.{pointwise}
-use Rattle.feature_parser.specs.declared.tokens.Token.{Token}
-use Rattle.feature_parser.specs.declared.tokens.TokenKind.{TokenKind}
-use Rattle.feature_parser.specs.declared.tokens.TokenKind.TheVariants as kinds
-use Rattle.feature_parser.specs.declared.words.Keyword.{Keyword}
-use Rattle.feature_parser.specs.declared.words.Keyword.TheVariants as keywords
-use Rattle.feature_parser.specs.declared.words.Lexeme.{Lexeme}
-use Rattle.feature_parser.specs.declared.words.Lexeme.TheVariants as lexemes
-use Rattle.feature_parser.specs.Tokens.{tokens_of}
+use Rattle.feature_tokens.specs.declared.tokens.Token.{Token}
+use Rattle.feature_tokens.specs.declared.tokens.TokenKind.{TokenKind}
+use Rattle.feature_tokens.specs.declared.tokens.TokenKind.TheVariants as kinds
+use Rattle.feature_tokens.specs.declared.words.Keyword.{Keyword}
+use Rattle.feature_tokens.specs.declared.words.Keyword.TheVariants as keywords
+use Rattle.feature_tokens.specs.declared.words.Lexeme.{Lexeme}
+use Rattle.feature_tokens.specs.declared.words.Lexeme.TheVariants as lexemes
+use Rattle.feature_tokens.specs.Tokens.{tokens_of}
 
 -- these are the letters of this word
 unfoldable pub is_word : List ℕ → List ℕ → Bool

@@ -1,7 +1,7 @@
 -- What it means that a step meets a definition that may refuse.
 use Rattle.std.specs.Prelude.{◌≡◌, Option, Some, None, Result, Ok, Err}
-use Rattle.feature_parser.specs.declared.line.Stop.{Stop}
-use Rattle.feature_parser.specs.declared.line.Stop.TheVariants as stops
+use Rattle.rule_words.specs.declared.line.Stop.{Stop}
+use Rattle.rule_words.specs.declared.line.Stop.TheVariants as stops
 
 abbrev pub Stops : {X : Type 0} → Stop → Option X → Type 0
 Stops stops.Refused definition = definition ≡ None

@@ -1,6 +1,6 @@
 ghost use Rattle.std.specs.Prelude.{◌≡◌, ◌≤◌, length};
 ghost use Rattle.std.specs.List.{prefix_len};
-ghost use Rattle.feature_parser.specs.Bytes.{starts_name, belongs};
+ghost use Rattle.feature_tokens.specs.Bytes.{starts_name, belongs};
 
 /// Bytes that go on: each run of a text is as long as it can be.
 #[derive(Clone, Copy, Debug, PartialEq, Eq)]

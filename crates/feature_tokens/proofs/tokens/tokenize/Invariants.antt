@@ -1,7 +1,7 @@
 -- the tokens so far, with those of the rest, are the text's
 use Rattle.std.proofs.Common.{length, drop, ◌-◌, ◌≡◌, ◌≤◌, ◌++◌}
-use Rattle.feature_parser.specs.Tokens.{tokens_in}
-use Rattle.feature_parser.proofs.tokens.tokenize.Given as goal
+use Rattle.feature_tokens.specs.Tokens.{tokens_in}
+use Rattle.feature_tokens.proofs.tokens.tokenize.Given as goal
 
 abbrev pub invariant-loop-place : goal.invariant-loop-place
 invariant-loop-place l = record {

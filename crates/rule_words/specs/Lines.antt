@@ -3,42 +3,42 @@
 use Rattle.std.specs.Prelude.{ℕ, ℤ, pos, Bool, true, false, ◌&&◌, ◌||◌, not, ◌==◌}
 use Rattle.std.specs.Prelude.{nat_le, List, [], ◌∷◌, ◌++◌, length, codes}
 use Rattle.std.specs.Prelude.{Option, Some, None, option_map, is_none, if◌then◌else◌}
-use Rattle.feature_parser.specs.declared.file.Name.{Name}
-use Rattle.feature_parser.specs.declared.file.GlyphSet.{GlyphSet}
-use Rattle.feature_parser.specs.declared.file.GlyphSet.TheVariants as sets
-use Rattle.feature_parser.specs.declared.file.Item.{Item}
-use Rattle.feature_parser.specs.declared.file.Item.TheVariants as items
-use Rattle.feature_parser.specs.declared.file.Numbers.TheVariants as numbers
-use Rattle.feature_parser.specs.declared.file.Value.{Value}
-use Rattle.feature_parser.specs.declared.file.Marked.{Marked}
-use Rattle.feature_parser.specs.declared.file.Context.{Context}
-use Rattle.feature_parser.specs.declared.file.Flag.{Flag}
-use Rattle.feature_parser.specs.declared.file.FlagWord.{FlagWord}
-use Rattle.feature_parser.specs.declared.file.FlagWord.TheVariants as flags
-use Rattle.feature_parser.specs.declared.file.Flags.TheVariants as flag_forms
-use Rattle.feature_parser.specs.declared.file.Rule.{Rule}
-use Rattle.feature_parser.specs.declared.file.Rule.TheVariants as rules
-use Rattle.feature_parser.specs.declared.file.Statement.TheVariants as statements
-use Rattle.feature_parser.specs.declared.file.Inherits.TheVariants as inherits
-use Rattle.feature_parser.specs.declared.file.FeatureItem.TheVariants as parts
-use Rattle.feature_parser.specs.declared.file.Definition.TheVariants as definitions
-use Rattle.feature_parser.specs.declared.words.Keyword.{Keyword}
-use Rattle.feature_parser.specs.declared.words.Keyword.TheVariants as keywords
-use Rattle.feature_parser.specs.declared.line.Level.{Level}
-use Rattle.feature_parser.specs.declared.line.TagWord.{TagWord}
-use Rattle.feature_parser.specs.declared.line.TagWord.TheVariants as tag_words
-use Rattle.feature_parser.specs.declared.line.Verb.{Verb}
-use Rattle.feature_parser.specs.declared.line.Verb.TheVariants as verbs
-use Rattle.feature_parser.specs.declared.line.Open.{Open}
-use Rattle.feature_parser.specs.declared.line.Open.TheVariants as opens
-use Rattle.feature_parser.specs.declared.line.Items.{Items}
-use Rattle.feature_parser.specs.declared.line.Replaced.{Replaced}
-use Rattle.feature_parser.specs.declared.line.Replaced.TheVariants as replaced
-use Rattle.feature_parser.specs.declared.line.Entry.{Entry}
-use Rattle.feature_parser.specs.declared.line.Entry.TheVariants as entries
-use Rattle.feature_parser.specs.declared.line.Line.{Line}
-use Rattle.feature_parser.specs.declared.line.Line.TheVariants as lines
-use Rattle.feature_parser.specs.Words.{is_word}
+use Rattle.feature_grammar.specs.declared.file.Name.{Name}
+use Rattle.feature_grammar.specs.declared.file.GlyphSet.{GlyphSet}
+use Rattle.feature_grammar.specs.declared.file.GlyphSet.TheVariants as sets
+use Rattle.feature_grammar.specs.declared.file.Item.{Item}
+use Rattle.feature_grammar.specs.declared.file.Item.TheVariants as items
+use Rattle.feature_grammar.specs.declared.file.Numbers.TheVariants as numbers
+use Rattle.feature_grammar.specs.declared.file.Value.{Value}
+use Rattle.feature_grammar.specs.declared.file.Marked.{Marked}
+use Rattle.feature_grammar.specs.declared.file.Context.{Context}
+use Rattle.feature_grammar.specs.declared.file.Flag.{Flag}
+use Rattle.feature_grammar.specs.declared.file.FlagWord.{FlagWord}
+use Rattle.feature_grammar.specs.declared.file.FlagWord.TheVariants as flags
+use Rattle.feature_grammar.specs.declared.file.Flags.TheVariants as flag_forms
+use Rattle.feature_grammar.specs.declared.file.Rule.{Rule}
+use Rattle.feature_grammar.specs.declared.file.Rule.TheVariants as rules
+use Rattle.feature_grammar.specs.declared.file.Statement.TheVariants as statements
+use Rattle.feature_grammar.specs.declared.file.Inherits.TheVariants as inherits
+use Rattle.feature_grammar.specs.declared.file.FeatureItem.TheVariants as parts
+use Rattle.feature_grammar.specs.declared.file.Definition.TheVariants as definitions
+use Rattle.feature_tokens.specs.declared.words.Keyword.{Keyword}
+use Rattle.feature_tokens.specs.declared.words.Keyword.TheVariants as keywords
+use Rattle.rule_words.specs.declared.line.Level.{Level}
+use Rattle.rule_words.specs.declared.line.TagWord.{TagWord}
+use Rattle.rule_words.specs.declared.line.TagWord.TheVariants as tag_words
+use Rattle.rule_words.specs.declared.line.Verb.{Verb}
+use Rattle.rule_words.specs.declared.line.Verb.TheVariants as verbs
+use Rattle.rule_words.specs.declared.line.Open.{Open}
+use Rattle.rule_words.specs.declared.line.Open.TheVariants as opens
+use Rattle.rule_words.specs.declared.line.Items.{Items}
+use Rattle.rule_words.specs.declared.line.Replaced.{Replaced}
+use Rattle.rule_words.specs.declared.line.Replaced.TheVariants as replaced
+use Rattle.rule_words.specs.declared.line.Entry.{Entry}
+use Rattle.rule_words.specs.declared.line.Entry.TheVariants as entries
+use Rattle.rule_words.specs.declared.line.Line.{Line}
+use Rattle.rule_words.specs.declared.line.Line.TheVariants as lines
+use Rattle.feature_tokens.specs.Words.{is_word}
 
 abbrev pub name_at : List ℕ → ℕ → Name
 name_at text place = record { text = text; place = place }

@@ -1,9 +1,9 @@
 //! A statement while it is read: what its words so far say.
 
 ghost use Rattle.std.specs.Prelude.{◌≡◌};
-ghost use Rattle.feature_parser.specs.declared.line.Stop.TheVariants as stops;
+ghost use Rattle.rule_words.specs.declared.line.Stop.TheVariants as stops;
 
-use crate::file::{
+use feature_grammar::{
     Context, Definition, FeatureItem, Flag, GlyphSet, Item, Marked, Member, Name, Statement, Value,
 };
 use plain_lists::Sequence;
@@ -12,7 +12,7 @@ use std::alloc::AllocFailed;
 
 /// Why a word is not taken.
 #[derive(Clone, Copy)]
-pub(crate) enum Stop {
+pub enum Stop {
     /// The grammar can't go on with it.
     Refused,
     /// Memory ran out.
@@ -21,20 +21,20 @@ pub(crate) enum Stop {
 
 /// Where a statement stands.
 #[derive(Clone, Copy)]
-pub(crate) struct Level {
+pub struct Level {
     /// In a feature, maybe in a lookup in it.
-    pub(crate) in_feature: bool,
+    pub in_feature: bool,
     /// In the feature `aalt`.
-    pub(crate) in_aalt: bool,
+    pub in_aalt: bool,
     /// Behind a `script` of the feature.
-    pub(crate) scripted: bool,
+    pub scripted: bool,
     /// In a named lookup.
-    pub(crate) in_lookup: bool,
+    pub in_lookup: bool,
 }
 
 /// The word with which a statement of one or two tags begins.
 #[derive(Clone, Copy)]
-pub(crate) enum TagWord {
+pub enum TagWord {
     LanguageSystem,
     Script,
     Language,
@@ -45,7 +45,7 @@ pub(crate) enum TagWord {
 
 /// The words with which a rule begins.
 #[derive(Clone, Copy)]
-pub(crate) enum Verb {
+pub enum Verb {
     Sub,
     Pos,
     EnumPos,
@@ -55,7 +55,7 @@ pub(crate) enum Verb {
 
 /// The last item of a rule, as long as the words behind it may say more of it.
 #[derive(Drop)]
-pub(crate) enum Open {
+pub enum Open {
     Nothing,
     Item(Item),
     Mark(Marked),
@@ -63,20 +63,20 @@ pub(crate) enum Open {
 
 /// A rule while its items are read.
 #[derive(Drop)]
-pub(crate) struct Items {
-    pub(crate) place: usize,
-    pub(crate) verb: Verb,
+pub struct Items {
+    pub place: usize,
+    pub verb: Verb,
     /// The contexts of an `ignore` rule before this one.
-    pub(crate) contexts: Sequence<Context>,
-    pub(crate) before: Sequence<Item>,
-    pub(crate) marked: Sequence<Marked>,
-    pub(crate) after: Sequence<Item>,
-    pub(crate) last: Open,
+    pub contexts: Sequence<Context>,
+    pub before: Sequence<Item>,
+    pub marked: Sequence<Marked>,
+    pub after: Sequence<Item>,
+    pub last: Open,
 }
 
 /// What a `sub` rule replaces.
 #[derive(Drop)]
-pub(crate) enum Replaced {
+pub enum Replaced {
     One(Item),
     /// Two or more.
     Many(Sequence<Item>),
@@ -85,7 +85,7 @@ pub(crate) enum Replaced {
 
 /// A statement that lacks its `;` alone.
 #[derive(Drop)]
-pub(crate) enum Entry {
+pub enum Entry {
     Definition(Definition),
     Statement(Statement),
     Item(FeatureItem),
@@ -93,7 +93,7 @@ pub(crate) enum Entry {
 
 /// The words of a statement so far.
 #[derive(Drop)]
-pub(crate) enum Line {
+pub enum Line {
     Start,
     /// A word that asks for a tag.
     Tag {
@@ -187,7 +187,7 @@ pub(crate) enum Line {
 
 /// What is read between brackets.
 #[derive(Drop)]
-pub(crate) enum Inner {
+pub enum Inner {
     Nothing,
     Set {
         place: usize,

@@ -2,9 +2,9 @@
 
 ghost use Rattle.std.specs.Prelude.{◌≡◌, ◌*◌, ◌+◌, ◌-◌, ◌≤◌, min, codes, drop, IfOk};
 ghost use Rattle.std.specs.Cmp.Lexicographic.{pointwise};
-ghost use Rattle.feature_parser.specs.Words.{block_word, flag_word, rule_word, keyword_of};
-ghost use Rattle.feature_parser.specs.declared.tokens.TokenKind.TheVariants as kinds;
-ghost use Rattle.feature_parser.specs.Words.{is_word, digits_value, signed, number_of, lexeme_of};
+ghost use Rattle.feature_tokens.specs.Words.{block_word, flag_word, rule_word, keyword_of};
+ghost use Rattle.feature_tokens.specs.declared.tokens.TokenKind.TheVariants as kinds;
+ghost use Rattle.feature_tokens.specs.Words.{is_word, digits_value, signed, number_of, lexeme_of};
 
 use crate::tokens::TokenKind;
 use plain_lists::Sequence;
@@ -13,7 +13,7 @@ use std::alloc::Global;
 
 /// A word of the grammar.
 #[derive(Clone, Copy, Debug, PartialEq, Eq)]
-pub(crate) enum Keyword {
+pub enum Keyword {
     LanguageSystem,
     Lookup,
     Feature,
@@ -39,7 +39,7 @@ pub(crate) enum Keyword {
 
 /// A token as the grammar sees it.
 #[derive(Drop)]
-pub(crate) enum Lexeme {
+pub enum Lexeme {
     /// A keyword, with its letters.
     Keyword(Keyword, Sequence<u8>),
     /// A name that is no keyword.
@@ -58,7 +58,7 @@ pub(crate) enum Lexeme {
 
 /// Whether these are the letters of a word.
 #[tactic(auto, unfolding(crate::specs::Words::is_word))]
-pub(crate) fn is_word(text: &[u8], word: &[u8]) -> bool
+pub fn is_word(text: &[u8], word: &[u8]) -> bool
     ensures { result ≡ is_word text.now word.now }
 {
     text == word
@@ -226,7 +226,7 @@ fn name_lexeme(alloc: Global, text: &[u8]) -> Result<Lexeme, NoMemory>
 
 /// A token of this kind and these bytes, as the grammar sees it.
 #[tactic(auto, unfolding(crate::specs::Words::lexeme_of))]
-pub(crate) fn lexeme_of(alloc: Global, kind: TokenKind, text: &[u8]) -> Result<Lexeme, NoMemory>
+pub fn lexeme_of(alloc: Global, kind: TokenKind, text: &[u8]) -> Result<Lexeme, NoMemory>
     ensures { IfOk result (λ lexeme. lexeme ≡ lexeme_of kind text.now) }
 {
     match kind {

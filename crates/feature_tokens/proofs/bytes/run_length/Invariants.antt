@@ -1,8 +1,8 @@
 -- the bytes so far are of the run
 use Rattle.std.proofs.Common.{length, drop, ◌-◌, ◌≡◌, ◌≤◌, ◌+◌}
 use Rattle.std.specs.List.{prefix_len}
-use Rattle.feature_parser.specs.Bytes.{belongs}
-use Rattle.feature_parser.proofs.bytes.run_length.Given as goal
+use Rattle.feature_tokens.specs.Bytes.{belongs}
+use Rattle.feature_tokens.proofs.bytes.run_length.Given as goal
 
 abbrev pub invariant-loop-count : goal.invariant-loop-count
 invariant-loop-count l = record {

@@ -1,6 +1,6 @@
 ghost use Rattle.std.specs.Prelude.{◌≡◌, ◌<◌, ◌≤◌, ◌+◌, ◌++◌, length, IfOk, OnOk};
-ghost use Rattle.feature_parser.specs.Tokens.{name_length, marked_piece, piece_of, token_at};
-ghost use Rattle.feature_parser.specs.Tokens.{tokens_of};
+ghost use Rattle.feature_tokens.specs.Tokens.{name_length, marked_piece, piece_of, token_at};
+ghost use Rattle.feature_tokens.specs.Tokens.{tokens_of};
 
 use crate::bytes::{Run, belongs, run_length, starts_name};
 use plain_lists::Sequence;

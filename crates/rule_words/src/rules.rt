@@ -1,26 +1,26 @@
 //! Reading a rule word by word.
 
 ghost use Rattle.std.specs.Prelude.{◌≡◌, ◌||◌, not, IfOk};
-ghost use Rattle.feature_parser.specs.Goes.{Goes};
-ghost use Rattle.feature_parser.specs.Lines.{fresh, settled, takes_item, with_item, marked_by};
-ghost use Rattle.feature_parser.specs.Lines.{call_by, called_by, paired, valued_by};
-ghost use Rattle.feature_parser.specs.Lines.{replaced_by, by_word, from_word};
-ghost use Rattle.feature_parser.specs.Lines.{is_one_glyph, is_one_set, by_glyphs, by_set};
-ghost use Rattle.feature_parser.specs.Lines.{is_enumerated, is_pos, is_pair, is_sub, is_ignore};
-ghost use Rattle.feature_parser.specs.Lines.{is_empty, only_of, rule_entry, placed};
-ghost use Rattle.feature_parser.specs.Lines.{marked_context, is_mark, next_context};
-ghost use Rattle.feature_parser.specs.Lines.{ended_by, ended_items, is_glyph, is_set};
-ghost use Rattle.feature_parser.specs.Lines.{takes_value_by, is_behind_pos};
-ghost use Rattle.feature_parser.specs.declared.line.Line.TheVariants as lines;
+ghost use Rattle.rule_words.specs.Goes.{Goes};
+ghost use Rattle.rule_words.specs.Lines.{fresh, settled, takes_item, with_item, marked_by};
+ghost use Rattle.rule_words.specs.Lines.{call_by, called_by, paired, valued_by};
+ghost use Rattle.rule_words.specs.Lines.{replaced_by, by_word, from_word};
+ghost use Rattle.rule_words.specs.Lines.{is_one_glyph, is_one_set, by_glyphs, by_set};
+ghost use Rattle.rule_words.specs.Lines.{is_enumerated, is_pos, is_pair, is_sub, is_ignore};
+ghost use Rattle.rule_words.specs.Lines.{is_empty, only_of, rule_entry, placed};
+ghost use Rattle.rule_words.specs.Lines.{marked_context, is_mark, next_context};
+ghost use Rattle.rule_words.specs.Lines.{ended_by, ended_items, is_glyph, is_set};
+ghost use Rattle.rule_words.specs.Lines.{takes_value_by, is_behind_pos};
+ghost use Rattle.rule_words.specs.declared.line.Line.TheVariants as lines;
 
-use crate::file::{Context, GlyphSet, Item, Marked, Name, Rule, Statement, Value};
 use crate::line::{Entry, Items, Line, Open, Replaced, Stop, Verb};
+use feature_grammar::{Context, GlyphSet, Item, Marked, Name, Rule, Statement, Value};
 use plain_lists::Sequence;
 use refusal_codes::NoMemory;
 use std::alloc::Global;
 
 /// A rule of which this is the first word.
-pub(crate) fn fresh(alloc: Global, place: usize, verb: Verb, contexts: Sequence<Context>) -> Items
+pub fn fresh(alloc: Global, place: usize, verb: Verb, contexts: Sequence<Context>) -> Items
     ensures { result ≡ fresh place verb contexts }
 {
     Items {
@@ -144,7 +144,7 @@ fn settled(items: Items) -> Result<Items, NoMemory>
 
 /// Whether the rule can have one more item.
 #[tactic(auto, unfolding(crate::specs::Lines::takes_item))]
-pub(crate) fn takes_item(items: &Items) -> bool
+pub fn takes_item(items: &Items) -> bool
     ensures { result ≡ takes_item items.now }
 {
     !is_enumerated(items.verb) || is_none_of(&items.before)
@@ -152,7 +152,7 @@ pub(crate) fn takes_item(items: &Items) -> bool
 
 /// The rule with one more item.
 #[tactic(auto, unfolding(crate::specs::Lines::with_item))]
-pub(crate) fn with_item(items: Items, item: Item) -> Result<Line, Stop>
+pub fn with_item(items: Items, item: Item) -> Result<Line, Stop>
     ensures { Goes result (with_item items item) }
 {
     if !takes_item(&items) {
@@ -164,7 +164,7 @@ pub(crate) fn with_item(items: Items, item: Item) -> Result<Line, Stop>
 }
 
 /// The rule whose last item is marked.
-pub(crate) fn marked(alloc: Global, items: Items) -> Result<Line, Stop>
+pub fn marked(alloc: Global, items: Items) -> Result<Line, Stop>
     ensures { Goes result (marked_by items items.last) }
 {
     if is_enumerated(items.verb) || !is_none_of(&items.after) {
@@ -198,7 +198,7 @@ pub(crate) fn marked(alloc: Global, items: Items) -> Result<Line, Stop>
 }
 
 /// The rule whose last item calls a lookup that the next word names.
-pub(crate) fn call(items: Items) -> Result<Line, Stop>
+pub fn call(items: Items) -> Result<Line, Stop>
     ensures { Goes result (call_by items items.last) }
 {
     let calls = match &items.last {
@@ -213,7 +213,7 @@ pub(crate) fn call(items: Items) -> Result<Line, Stop>
 }
 
 /// The rule whose last item calls this lookup.
-pub(crate) fn called(items: Items, name: Name) -> Result<Line, Stop>
+pub fn called(items: Items, name: Name) -> Result<Line, Stop>
     ensures { Goes result (called_by items name items.last) }
 {
     let Items {
@@ -248,7 +248,7 @@ pub(crate) fn called(items: Items, name: Name) -> Result<Line, Stop>
 }
 
 /// A rule that lacks its `;` alone.
-pub(crate) fn ready(place: usize, rule: Rule) -> Line
+pub fn ready(place: usize, rule: Rule) -> Line
     ensures { result ≡ lines.Ready (rule_entry place rule) }
 {
     Line::Ready(Entry::Statement(Statement::Rule { place, rule }))
@@ -299,7 +299,7 @@ fn paired(
 }
 
 /// A rule with a value behind its last item.
-pub(crate) fn valued(items: Items, value: Value) -> Result<Line, Stop>
+pub fn valued(items: Items, value: Value) -> Result<Line, Stop>
     ensures { Goes result (valued_by items value items.last) }
 {
     let Items {
@@ -365,7 +365,7 @@ fn context_of(
 
 /// An `ignore` rule behind the comma after a context.
 #[tactic(auto, unfolding(crate::specs::Lines::next_context, crate::specs::Lines::context_of))]
-pub(crate) fn next_context(alloc: Global, items: Items) -> Result<Line, Stop>
+pub fn next_context(alloc: Global, items: Items) -> Result<Line, Stop>
     ensures { Goes result (next_context items) }
 {
     let Items {
@@ -427,7 +427,7 @@ fn replaced(
 
 /// A `sub` rule behind `by`.
 #[tactic(auto, unfolding(crate::specs::Lines::by_word))]
-pub(crate) fn by_word(items: Items) -> Result<Line, Stop>
+pub fn by_word(items: Items) -> Result<Line, Stop>
     ensures { Goes result (by_word items) }
 {
     let Items {
@@ -453,7 +453,7 @@ pub(crate) fn by_word(items: Items) -> Result<Line, Stop>
 
 /// A `sub` rule behind `from`.
 #[tactic(auto, unfolding(crate::specs::Lines::from_word))]
-pub(crate) fn from_word(items: Items) -> Result<Line, Stop>
+pub fn from_word(items: Items) -> Result<Line, Stop>
     ensures { Goes result (from_word items) }
 {
     let Items {
@@ -496,7 +496,7 @@ fn ended(verb: Verb, mut contexts: Sequence<Context>, context: Context) -> Resul
 }
 
 /// A rule that lacks its `;` alone.
-pub(crate) fn rule_entry(place: usize, rule: Rule) -> Entry
+pub fn rule_entry(place: usize, rule: Rule) -> Entry
     ensures { result ≡ rule_entry place rule }
 {
     Entry::Statement(Statement::Rule { place, rule })
@@ -504,7 +504,7 @@ pub(crate) fn rule_entry(place: usize, rule: Rule) -> Entry
 
 /// The rule that `;` ends after its items.
 #[tactic(auto, unfolding(crate::specs::Lines::ended_items, crate::specs::Lines::context_of))]
-pub(crate) fn ended_items(items: Items) -> Result<Entry, Stop>
+pub fn ended_items(items: Items) -> Result<Entry, Stop>
     ensures { Goes result (ended_items items) }
 {
     let Items {
@@ -542,7 +542,7 @@ fn is_set(item: &Item) -> bool
 
 /// Whether several glyphs may replace this.
 #[tactic(auto, unfolding(crate::specs::Lines::is_one_glyph))]
-pub(crate) fn is_one_glyph(replaced: &Replaced) -> bool
+pub fn is_one_glyph(replaced: &Replaced) -> bool
     ensures { result ≡ is_one_glyph replaced.now }
 {
     match replaced {
@@ -557,7 +557,7 @@ pub(crate) fn is_one_glyph(replaced: &Replaced) -> bool
 
 /// Whether a set may replace this.
 #[tactic(auto, unfolding(crate::specs::Lines::is_one_set))]
-pub(crate) fn is_one_set(replaced: &Replaced) -> bool
+pub fn is_one_set(replaced: &Replaced) -> bool
     ensures { result ≡ is_one_set replaced.now }
 {
     match replaced {
@@ -571,11 +571,7 @@ pub(crate) fn is_one_set(replaced: &Replaced) -> bool
 }
 
 /// The rule that replaces this by glyphs.
-pub(crate) fn by_glyphs(
-    alloc: Global,
-    replaced: Replaced,
-    by: Sequence<Name>,
-) -> Result<Rule, NoMemory>
+pub fn by_glyphs(alloc: Global, replaced: Replaced, by: Sequence<Name>) -> Result<Rule, NoMemory>
     ensures { IfOk result (λ rule. rule ≡ by_glyphs replaced by) }
 {
     match replaced {
@@ -591,7 +587,7 @@ pub(crate) fn by_glyphs(
 
 /// The rule that replaces this by a set.
 #[tactic(auto, unfolding(crate::specs::Lines::by_set, crate::specs::Lines::is_one_set))]
-pub(crate) fn by_set(place: usize, replaced: Replaced, by: GlyphSet) -> Result<Line, Stop>
+pub fn by_set(place: usize, replaced: Replaced, by: GlyphSet) -> Result<Line, Stop>
     ensures { Goes result (by_set place replaced by) }
 {
     if !is_one_set(&replaced) {
@@ -608,7 +604,7 @@ pub(crate) fn by_set(place: usize, replaced: Replaced, by: GlyphSet) -> Result<L
 }
 
 /// Whether a value may stand behind these items.
-pub(crate) fn takes_value(items: &Items) -> bool
+pub fn takes_value(items: &Items) -> bool
     ensures { result ≡ takes_value_by items.now items.now.last }
 {
     match &items.last {
@@ -622,7 +618,7 @@ pub(crate) fn takes_value(items: &Items) -> bool
 
 /// Whether nothing follows the rule's verb yet.
 #[tactic(auto, unfolding(crate::specs::Lines::is_behind_pos))]
-pub(crate) fn follows_pos(items: &Items) -> bool
+pub fn follows_pos(items: &Items) -> bool
     ensures { result ≡ is_behind_pos items.now }
 {
     let is_new = match &items.last {

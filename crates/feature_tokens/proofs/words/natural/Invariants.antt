@@ -1,6 +1,6 @@
 -- the number is what the digits so far spell, cut
 use Rattle.std.proofs.Common.{◌≡◌, ◌+◌, ◌-◌, ◌*◌, min, fold, take}
-use Rattle.feature_parser.proofs.words.natural.Given as goal
+use Rattle.feature_tokens.proofs.words.natural.Given as goal
 
 abbrev pub invariant-loop-digit : goal.invariant-loop-digit
 invariant-loop-digit l = l.number ≡ min (fold (λ n d. 10 * n + (d - 48)) 0

@@ -3,8 +3,8 @@
 -- own choice of the bytes of a name.
 use Rattle.std.specs.Prelude.{ℕ, Bool, ◌&&◌, ◌||◌, not, ◌==◌}
 use Rattle.std.specs.Char.{is_ascii_digit, is_ascii_alphabetic}
-use Rattle.feature_parser.specs.declared.bytes.Run.{Run}
-use Rattle.feature_parser.specs.declared.bytes.Run.TheVariants as runs
+use Rattle.feature_tokens.specs.declared.bytes.Run.{Run}
+use Rattle.feature_tokens.specs.declared.bytes.Run.TheVariants as runs
 
 -- a letter, _ or .
 unfoldable pub starts_name : ℕ → Bool

@@ -4,9 +4,9 @@ use Rattle.std.proofs.Common.{get_or, refl, ap, ◌∙◌, arith, append_assoc, 
 use Rattle.std.proofs.lemmas.List.{drop-drop, drop_more, length-drop}
 use Rattle.std.proofs.Math.Seq.{take-length}
 use Rattle.std.specs.Prelude.{slice_range, take}
-use Rattle.feature_parser.specs.declared.tokens.Token.{Token}
-use Rattle.feature_parser.specs.declared.tokens.Piece.{Piece}
-use Rattle.feature_parser.specs.Tokens.{tokens_in, piece_of, token_at}
+use Rattle.feature_tokens.specs.declared.tokens.Token.{Token}
+use Rattle.feature_tokens.specs.declared.tokens.Piece.{Piece}
+use Rattle.feature_tokens.specs.Tokens.{tokens_in, piece_of, token_at}
 
 pub skipped : (k place : ℕ) (text : List ℕ)
     → tokens_in k place text ≡ tokens_in 0 (place + k) (drop k text)

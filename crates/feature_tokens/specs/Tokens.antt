@@ -6,12 +6,12 @@
 use Rattle.std.specs.Prelude.{ℕ, zero, suc, ◌+◌, ◌-◌, ◌++◌, ◌&&◌, ◌==◌, nat_lt, if◌then◌else◌}
 use Rattle.std.specs.Prelude.{List, [], ◌∷◌, Option, Some, None, slice_index_or}
 use Rattle.std.specs.List.{prefix_len}
-use Rattle.feature_parser.specs.declared.bytes.Run.TheVariants as runs
-use Rattle.feature_parser.specs.declared.tokens.Piece.{Piece}
-use Rattle.feature_parser.specs.declared.tokens.Token.{Token}
-use Rattle.feature_parser.specs.declared.tokens.TokenKind.{TokenKind}
-use Rattle.feature_parser.specs.declared.tokens.TokenKind.TheVariants as kinds
-use Rattle.feature_parser.specs.Bytes.{starts_name, belongs}
+use Rattle.feature_tokens.specs.declared.bytes.Run.TheVariants as runs
+use Rattle.feature_tokens.specs.declared.tokens.Piece.{Piece}
+use Rattle.feature_tokens.specs.declared.tokens.Token.{Token}
+use Rattle.feature_tokens.specs.declared.tokens.TokenKind.{TokenKind}
+use Rattle.feature_tokens.specs.declared.tokens.TokenKind.TheVariants as kinds
+use Rattle.feature_tokens.specs.Bytes.{starts_name, belongs}
 
 -- how long the name is with which a text begins; 0 where it begins with none
 unfoldable pub name_length : List ℕ → ℕ

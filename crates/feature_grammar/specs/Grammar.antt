@@ -8,42 +8,42 @@ use Rattle.std.specs.Prelude.{◌==◌, nat_le, List, [], ◌∷◌, ◌++◌, l
 use Rattle.std.specs.Prelude.{Option, Some, None, if◌then◌else◌}
 use Rattle.std.specs.List.{flat_map, list_all}
 use Rattle.std.specs.Ordering.{int_eq}
-use Rattle.feature_parser.specs.declared.file.Name.{Name}
-use Rattle.feature_parser.specs.declared.file.Member.{Member}
-use Rattle.feature_parser.specs.declared.file.Member.TheVariants as member_forms
-use Rattle.feature_parser.specs.declared.file.GlyphSet.{GlyphSet}
-use Rattle.feature_parser.specs.declared.file.GlyphSet.TheVariants as set_forms
-use Rattle.feature_parser.specs.declared.file.Item.{Item}
-use Rattle.feature_parser.specs.declared.file.Item.TheVariants as item_forms
-use Rattle.feature_parser.specs.declared.file.Numbers.{Numbers}
-use Rattle.feature_parser.specs.declared.file.Numbers.TheVariants as value_forms
-use Rattle.feature_parser.specs.declared.file.Value.{Value}
-use Rattle.feature_parser.specs.declared.file.Marked.{Marked}
-use Rattle.feature_parser.specs.declared.file.Context.{Context}
-use Rattle.feature_parser.specs.declared.file.Flag.{Flag}
-use Rattle.feature_parser.specs.declared.file.FlagWord.{FlagWord}
-use Rattle.feature_parser.specs.declared.file.FlagWord.TheVariants as flag_words
-use Rattle.feature_parser.specs.declared.file.Flags.{Flags}
-use Rattle.feature_parser.specs.declared.file.Flags.TheVariants as flag_forms
-use Rattle.feature_parser.specs.declared.file.ClassDefinition.{ClassDefinition}
-use Rattle.feature_parser.specs.declared.file.Rule.{Rule}
-use Rattle.feature_parser.specs.declared.file.Rule.TheVariants as rule_forms
-use Rattle.feature_parser.specs.declared.file.Statement.{Statement}
-use Rattle.feature_parser.specs.declared.file.Statement.TheVariants as statement_forms
-use Rattle.feature_parser.specs.declared.file.Lookup.{Lookup}
-use Rattle.feature_parser.specs.declared.file.Inherits.{Inherits}
-use Rattle.feature_parser.specs.declared.file.Inherits.TheVariants as inherits_forms
-use Rattle.feature_parser.specs.declared.file.FeatureItem.{FeatureItem}
-use Rattle.feature_parser.specs.declared.file.FeatureItem.TheVariants as part_forms
-use Rattle.feature_parser.specs.declared.file.Feature.{Feature}
-use Rattle.feature_parser.specs.declared.file.Definition.{Definition}
-use Rattle.feature_parser.specs.declared.file.Definition.TheVariants as definition_forms
-use Rattle.feature_parser.specs.declared.file.FeatureFile.{FeatureFile}
-use Rattle.feature_parser.specs.declared.words.Keyword.{Keyword}
-use Rattle.feature_parser.specs.declared.words.Keyword.TheVariants as keywords
-use Rattle.feature_parser.specs.declared.words.Lexeme.{Lexeme}
-use Rattle.feature_parser.specs.declared.words.Lexeme.TheVariants as lexemes
-use Rattle.feature_parser.specs.Words.{Word, is_word}
+use Rattle.feature_grammar.specs.declared.file.Name.{Name}
+use Rattle.feature_grammar.specs.declared.file.Member.{Member}
+use Rattle.feature_grammar.specs.declared.file.Member.TheVariants as member_forms
+use Rattle.feature_grammar.specs.declared.file.GlyphSet.{GlyphSet}
+use Rattle.feature_grammar.specs.declared.file.GlyphSet.TheVariants as set_forms
+use Rattle.feature_grammar.specs.declared.file.Item.{Item}
+use Rattle.feature_grammar.specs.declared.file.Item.TheVariants as item_forms
+use Rattle.feature_grammar.specs.declared.file.Numbers.{Numbers}
+use Rattle.feature_grammar.specs.declared.file.Numbers.TheVariants as value_forms
+use Rattle.feature_grammar.specs.declared.file.Value.{Value}
+use Rattle.feature_grammar.specs.declared.file.Marked.{Marked}
+use Rattle.feature_grammar.specs.declared.file.Context.{Context}
+use Rattle.feature_grammar.specs.declared.file.Flag.{Flag}
+use Rattle.feature_grammar.specs.declared.file.FlagWord.{FlagWord}
+use Rattle.feature_grammar.specs.declared.file.FlagWord.TheVariants as flag_words
+use Rattle.feature_grammar.specs.declared.file.Flags.{Flags}
+use Rattle.feature_grammar.specs.declared.file.Flags.TheVariants as flag_forms
+use Rattle.feature_grammar.specs.declared.file.ClassDefinition.{ClassDefinition}
+use Rattle.feature_grammar.specs.declared.file.Rule.{Rule}
+use Rattle.feature_grammar.specs.declared.file.Rule.TheVariants as rule_forms
+use Rattle.feature_grammar.specs.declared.file.Statement.{Statement}
+use Rattle.feature_grammar.specs.declared.file.Statement.TheVariants as statement_forms
+use Rattle.feature_grammar.specs.declared.file.Lookup.{Lookup}
+use Rattle.feature_grammar.specs.declared.file.Inherits.{Inherits}
+use Rattle.feature_grammar.specs.declared.file.Inherits.TheVariants as inherits_forms
+use Rattle.feature_grammar.specs.declared.file.FeatureItem.{FeatureItem}
+use Rattle.feature_grammar.specs.declared.file.FeatureItem.TheVariants as part_forms
+use Rattle.feature_grammar.specs.declared.file.Feature.{Feature}
+use Rattle.feature_grammar.specs.declared.file.Definition.{Definition}
+use Rattle.feature_grammar.specs.declared.file.Definition.TheVariants as definition_forms
+use Rattle.feature_grammar.specs.declared.file.FeatureFile.{FeatureFile}
+use Rattle.feature_tokens.specs.declared.words.Keyword.{Keyword}
+use Rattle.feature_tokens.specs.declared.words.Keyword.TheVariants as keywords
+use Rattle.feature_tokens.specs.declared.words.Lexeme.{Lexeme}
+use Rattle.feature_tokens.specs.declared.words.Lexeme.TheVariants as lexemes
+use Rattle.feature_tokens.specs.Words.{Word, is_word}
 
 -- ---- what is asked of a word
 

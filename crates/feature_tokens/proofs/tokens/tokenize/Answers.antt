@@ -1,8 +1,8 @@
 -- a piece further
 use Rattle.std.proofs.Common.{arith}
 use Rattle.std.proofs.lemmas.Grind.{common_steps}
-use Rattle.feature_parser.proofs.Skipped.{turn}
-use Rattle.feature_parser.proofs.tokens.tokenize.Goals as goal
+use Rattle.feature_tokens.proofs.Skipped.{turn}
+use Rattle.feature_tokens.proofs.tokens.tokenize.Goals as goal
 
 pub loop-place-preserved : goal.loop-place-preserved
 loop-place-preserved c = record {
