@@ -27,7 +27,7 @@ use Rattle.std.specs.declared.alloc.Global.{Global}
 use Rattle.job_graph.specs.Agenda.{rank_of, awaited_by, is_out_of, is_taken, IsPlaced, taken}
 use Rattle.job_graph.specs.Agenda.{queued, waits, AreWithin, Waits, IsDueAt, IsBest, IsAgenda}
 use Rattle.job_graph.specs.Agenda.{IsCurrent, LeftQueue, IsNoneLeft, IsTurn, IsNewAgenda, IsNextRun}
-use Rattle.job_graph.specs.Agenda.{ArePassed, lets_pass}
+use Rattle.job_graph.specs.Agenda.{ArePassed, lets_pass, HasJob, IsLeastLeft}
 use Rattle.job_graph.proofs.Waiting.{get_append}
 
 -- lists
@@ -304,34 +304,55 @@ module _ {Id V : Type 0} (same : Id → Id → Bool) where
 
   module _ (order : Id → Id → Ordering) (plan : Meaning Id V) (state : State Id V)
       (outs : List (Option Id)) (a : Agenda Id) (ag : IsAgenda same order state outs a) where
-    -- no job can be handed out
-    pub none_left : IsCurrent state a
-        → IsBest same order plan state a.queues.queues.items a.queues.used None
-        → (job : Spec Id) → In job state.jobs → is_ready same plan state job ≡ true
-        → is_taken same state outs job.id ≡ false → ⊥
-    none_left now none job here ready free =
+    -- a job that is ready and isn't taken stands in its queue
+    stands : IsCurrent state a → (job : Spec Id) → In job state.jobs
+        → is_ready same plan state job ≡ true → is_taken same state outs job.id ≡ false
+        → HasJob order a.queues.queues.items (rank_of job.access.awaits) job.id
+    stands now job here ready free =
         let n = get_of_In state.jobs job here in
         elim (ag.placed n.0 job (omega (arith, n.1, now.jobs)) n.2) [
-          | inl wakes ↦ subst (λ xs. In n.0 xs) now.waking wakes
-          | inr p ↦ placed_not p ready free
+          | inl wakes ↦ absurd (subst (λ xs. In n.0 xs) now.waking wakes)
+          | inr p ↦ placed_in p ready free
         ]
       where
         all_told : take a.told state.values ≡ state.values
         all_told = ap (λ k. take k state.values) now.values ∙ take-length state.values
 
-        placed_not : {number : ℕ} {job : Spec Id} → IsPlaced same order state outs a.lines.places
+        placed_in : {number : ℕ} {job : Spec Id} → IsPlaced same order state outs a.lines.places
             a.lines.lines.items a.queues.queues.items a.told number job
-            → is_ready same plan state job ≡ true → is_taken same state outs job.id ≡ false → ⊥
-        placed_not (taken number job t) ready free = false≢true (sym free ∙ t)
-        placed_not (queued number job q) ready free =
-            false≢true (sym (none (rank_of job.access.awaits) job.id q.0
-            (ag.sound.used_all (rank_of job.access.awaits) job.id q.0 q.1) q.1)
-            ∙ ap (awaits_nothing same plan state) (awaited_back job.access.awaits)
-            ∙ ready_awaits same plan state job ready)
-        placed_not (waits number job read i w u) ready free =
-            false≢true (sym u ∙ ap (λ xs. is_some (read_of same xs read)) all_told
+            → is_ready same plan state job ≡ true → is_taken same state outs job.id ≡ false
+            → HasJob order a.queues.queues.items (rank_of job.access.awaits) job.id
+        placed_in (taken number job t) ready free = absurd (false≢true (sym free ∙ t))
+        placed_in (queued number job q) ready free = q
+        placed_in (waits number job read i w u) ready free =
+            absurd (false≢true (sym u ∙ ap (λ xs. is_some (read_of same xs read)) all_told
             ∙ list_all-In (is_settled same state) job.access.reads read
-            (ready_reads same plan state job ready) i)
+            (ready_reads same plan state job ready) i))
+
+    -- and its queue isn't held up
+    open_of : (job : Spec Id) → is_ready same plan state job ≡ true
+        → awaits_nothing same plan state (awaited_by (rank_of job.access.awaits)) ≡ true
+    open_of job ready = ap (awaits_nothing same plan state) (awaited_back job.access.awaits)
+        ∙ ready_awaits same plan state job ready
+
+    -- no job can be handed out
+    pub none_left : IsCurrent state a
+        → IsBest same order plan state a.queues.queues.items a.queues.used None
+        → IsNoneLeft same plan state outs
+    none_left now none job here ready free =
+        let q = stands now job here ready free in
+        let rank = rank_of job.access.awaits in
+        false≢true (sym (none rank job.id q.0 (ag.sound.used_all rank job.id q.0 q.1) q.1)
+        ∙ open_of job ready)
+
+    -- no job that can be handed out has an id below that of the best
+    least_left : IsCurrent state a → (turn : Turn Id)
+        → IsBest same order plan state a.queues.queues.items a.queues.used (Some turn)
+        → IsLeastLeft same order plan state outs turn.id
+    least_left now turn best job here ready free =
+        let q = stands now job here ready free in
+        let rank = rank_of job.access.awaits in
+        best.2 rank job.id q.0 (ag.sound.used_all rank job.id q.0 q.1) q.1 (open_of job ready)
 
     -- the job that is handed out is ready, and not taken
     pub best_is : (turn : Turn Id)
@@ -359,6 +380,7 @@ module _ {Id V : Type 0} (same : Id → Id → Bool) where
           due = is.0;
           ready = is.1;
           within = slice_get_within a.queues.queues.items turn.queue (b.0).queue (b.0).there;
+          least = least_left now turn b;
         }
 
     -- a job stands first, so one is ready

@@ -4,6 +4,9 @@ use Rattle.std.proofs.Common.{[], ◌∷◌, ◌++◌, length, replicate, get_or
 use Rattle.std.proofs.Common.{refl, sym, ap, ◌∙◌, subst, cond, arith}
 use Rattle.std.specs.Prelude.{IfSome, slice_get, slice_set, count_by, option_map}
 use Rattle.std.specs.List.{list_any}
+use Rattle.std.specs.Cmp.{IsTotalOrder}
+use Rattle.std.specs.Ordering.{is_lt}
+use Rattle.std.specs.declared.cmp.Ordering.{Ordering}
 use Rattle.std.specs.Vec.{vec_len, vec_capacity}
 use Rattle.std.specs.declared.vec.Vec.{Vec}
 use Rattle.std.specs.declared.alloc.Global.{Global}
@@ -27,10 +30,10 @@ use Rattle.job_graph.specs.Histories.{has_out, state_of, is_ready_id, is_allowed
 use Rattle.job_graph.specs.Histories.{some_ready, is_claimable, end_of}
 use Rattle.job_graph.specs.Promises.{IsHistory}
 use Rattle.job_graph.specs.BoardView.{BoardView, IsBoard, halted_of}
-use Rattle.job_graph.specs.Answers.{HandsOut, some_claimable}
+use Rattle.job_graph.specs.Answers.{HandsOut, some_claimable, IsLeast}
 use Rattle.job_graph.specs.Members.{In, In-from_Contains, Contains-from_In, slice_get-In}
 use Rattle.job_graph.specs.Members.{list_any-In, list_any-found}
-use Rattle.job_graph.specs.Agenda.{is_out_of, is_taken, IsNoneLeft}
+use Rattle.job_graph.specs.Agenda.{is_out_of, is_taken, IsNoneLeft, IsLeastLeft}
 use Rattle.job_graph.specs.Growth.{Within, reads_agree, all_settled_within, outcome_within}
 use Rattle.job_graph.specs.Growth.{ready_reads, ready_unsettled, settle}
 use Rattle.job_graph.specs.Confluence.{nil_append}
@@ -39,6 +42,7 @@ use Rattle.job_graph.proofs.Run.{is_run-push, state_of-push, out_of-push, claim_
 use Rattle.job_graph.proofs.Run.{Grows, grows, finish_is}
 use Rattle.job_graph.proofs.Owned.{or_false, list_any-push, owned}
 use Rattle.job_graph.proofs.Agendas.{any_at, get_of_In}
+use Rattle.job_graph.proofs.Passing.{not_below_back}
 use Rattle.job_graph.proofs.Halts.{length-out_of, halts-set, halted_of-push, halted_flag}
 use Rattle.job_graph.proofs.Kept.{claimed_runs, within_limit, history_of, complete_of_end}
 
@@ -361,6 +365,22 @@ module _ {Id V : Type 0} (same : Id → Id → Bool) (plan : Meaning Id V) (work
         let p = and_parts (is_ready same plan state f.0) _ f.2 in
         none f.0 f.1 p.0 (false_from_ne_true _
         (λ u. false≢true (sym (not-true _ p.1) ∙ taken_claimed (f.0).id u))))
+
+    -- the least of the jobs that are ready and not taken is the least that can be claimed
+    pub least_claimable : (order : Id → Id → Ordering) → IsTotalOrder order → (id : Id)
+        → IsLeastLeft same order plan state outs id → IsLeast same plan order events.items id
+    least_claimable order total id least job there ok =
+        let now = state_of same plan events.items in
+        let p = and_parts (is_ready same plan now job) (not (was_claimed same events.items job.id))
+        ok in
+        let here : In job state.jobs = subst (λ s. In job s.jobs) (sym b.state_is)
+        (In-from_Contains now.jobs job there) in
+        let ready : is_ready same plan state job
+        ≡ true = subst (λ s. is_ready same plan s job ≡ true) (sym b.state_is) p.0 in
+        let free : is_taken same state outs job.id ≡ false = false_from_ne_true _
+        (λ u. false≢true (sym (not-true _ p.1) ∙ taken_claimed job.id u)) in
+        ap is_lt (total.antisymm job.id id)
+        ∙ not_below_back (order id job.id) (least job here ready free)
 
     -- where nothing is left to claim and nothing runs, all is over
     pub has_ended : any ≡ false

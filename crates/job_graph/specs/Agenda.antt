@@ -5,6 +5,7 @@ use Rattle.std.specs.Prelude.{◌≡◌, ◌⊎◌, ℕ, zero, suc, ◌<◌, ◌
 use Rattle.std.specs.Prelude.{nat_le, List, [], take, length, Option, Some, None, is_some}
 use Rattle.std.specs.Prelude.{slice_get}
 use Rattle.std.specs.List.{list_all, list_any}
+use Rattle.std.specs.Ordering.{is_gt}
 use Rattle.std.specs.BTreeMap as tree
 use Rattle.std.specs.BTreeMap.{BTreeMap}
 use Rattle.std.specs.declared.cmp.Ordering.{Ordering}
@@ -130,7 +131,15 @@ abbrev pub ArePassed : {Id V : Type 0} → (Id → Id → Bool) → Meaning Id V
 ArePassed same plan state passed = (stratum count : ℕ) → slice_get passed (suc stratum) ≡ Some count
     → IsPassed same plan state stratum count
 
--- of the queues below this one: a job whose queue isn't held up, or none
+-- no id that stands in one of the queues below this one is below this id, but in those that are
+-- held up
+abbrev pub IsFirst : {Id V : Type 0} → (Id → Id → Bool) → (Id → Id → Ordering) → Meaning Id V
+    → State Id V → List (BTreeMap Id ℕ) → ℕ → Id → Type 0
+IsFirst {Id} same order plan state queues below first =
+    (rank : ℕ) (id : Id) (number : ℕ) → rank < below → IsQueued order queues rank id number
+    → awaits_nothing same plan state (awaited_by rank) ≡ true → is_gt (order first id) ≡ false
+
+-- of the queues below this one: the job with the least id whose queue isn't held up, or none
 abbrev pub IsBest : {Id V : Type 0} → (Id → Id → Bool) → (Id → Id → Ordering) → Meaning Id V
     → State Id V → List (BTreeMap Id ℕ) → ℕ → Option (Turn Id) → Type 0
 IsBest {Id} same order plan state queues below None =
@@ -139,6 +148,7 @@ IsBest {Id} same order plan state queues below None =
 IsBest same order plan state queues below (Some turn) =
     IsQueued order queues turn.queue turn.id turn.number
     × (awaits_nothing same plan state (awaited_by turn.queue) ≡ true)
+    × IsFirst same order plan state queues below turn.id
 
 -- the same of one queue
 abbrev pub IsBestOf : {Id V : Type 0} → (Id → Id → Bool) → (Id → Id → Ordering) → Meaning Id V
@@ -146,14 +156,22 @@ abbrev pub IsBestOf : {Id V : Type 0} → (Id → Id → Bool) → (Id → Id �
 IsBestOf {Id} same order plan state queues rank None =
     (id : Id) (number : ℕ) → IsQueued order queues rank id number
     → awaits_nothing same plan state (awaited_by rank) ≡ false
-IsBestOf same order plan state queues rank (Some turn) =
+IsBestOf {Id} same order plan state queues rank (Some turn) =
     IsQueued order queues turn.queue turn.id turn.number
     × (awaits_nothing same plan state (awaited_by turn.queue) ≡ true)
+    × ((id : Id) (number : ℕ) → IsQueued order queues rank id number
+    → is_gt (order turn.id id) ≡ false)
 
 -- the answer is one of two, and none only where both are none
 abbrev pub IsEither : {X : Type 0} → Option X → Option X → Option X → Type 0
 IsEither one other answer = ((answer ≡ one) ⊎ (answer ≡ other))
     × (answer ≡ None → (one ≡ None) × (other ≡ None))
+
+-- neither of two has an id below that of the answer
+abbrev pub IsLesser : {Id : Type 0} → (Id → Id → Ordering) → Option (Turn Id) → Option (Turn Id)
+    → Option (Turn Id) → Type 0
+IsLesser {Id} order one other answer = (first turn : Turn Id) → answer ≡ Some first
+    → (one ≡ Some turn) ⊎ (other ≡ Some turn) → is_gt (order first.id turn.id) ≡ false
 
 -- all that an agenda keeps
 pub record IsAgenda {Id V : Type 0} (same : Id → Id → Bool) (order : Id → Id → Ordering)
@@ -211,13 +229,21 @@ abbrev pub IsNoneLeft : {Id V : Type 0} → (Id → Id → Bool) → Meaning Id 
 IsNoneLeft {Id} same plan state outs = (job : Spec Id) → In job state.jobs
     → is_ready same plan state job ≡ true → is_taken same state outs job.id ≡ false → ⊥
 
--- a job that stands in a queue, is ready and isn't taken
+-- of the jobs that are ready and aren't taken none has an id below this one
+abbrev pub IsLeastLeft : {Id V : Type 0} → (Id → Id → Bool) → (Id → Id → Ordering) → Meaning Id V
+    → State Id V → List (Option Id) → Id → Type 0
+IsLeastLeft {Id} same order plan state outs first = (job : Spec Id) → In job state.jobs
+    → is_ready same plan state job ≡ true → is_taken same state outs job.id ≡ false
+    → is_gt (order first job.id) ≡ false
+
+-- a job that stands in a queue, is ready and isn't taken, the least of these
 pub record IsReadyAt {Id V : Type 0} (same : Id → Id → Bool) (order : Id → Id → Ordering)
     (plan : Meaning Id V) (state : State Id V) (outs : List (Option Id)) (agenda : Agenda Id)
     (turn : Turn Id) : Type 0 where
   pub due : IsDueAt same order state outs turn.queue turn.id turn.number
   pub ready : is_ready same plan state due.job ≡ true
   pub within : turn.queue < length agenda.queues.queues.items
+  pub least : IsLeastLeft same order plan state outs turn.id
 
 -- the job that is next: none where none is left
 abbrev pub IsTurn : {Id V : Type 0} → (Id → Id → Bool) → (Id → Id → Ordering) → Meaning Id V

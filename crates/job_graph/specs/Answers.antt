@@ -1,6 +1,8 @@
 -- What a board answers to a claim, and the board after it. fontc's own.
 use Rattle.std.specs.Prelude.{◌≡◌, ℕ, ◌<◌, Bool, true, false, List, [], ◌∷◌, ◌++◌, Contains, Some}
 use Rattle.std.specs.List.{list_any}
+use Rattle.std.specs.Ordering.{is_lt}
+use Rattle.std.specs.declared.cmp.Ordering.{Ordering}
 use Rattle.access_context.specs.declared.access.Spec.{Spec}
 use Rattle.access_context.specs.Plain.{Plain}
 use Rattle.job_graph.specs.declared.event.Event.{Event}
@@ -30,6 +32,21 @@ module _ {Id V : Type 0} (same : Id → Id → Bool) (plan : Meaning Id V) where
   abbrev pub some_claimable : List (Event Id) → Bool
   some_claimable events = list_any (is_claimable same plan (state_of same plan events) events)
       (state_of same plan events).jobs
+
+  -- of the jobs that can be claimed, none has an id below this one, by an order of ids
+  abbrev pub IsLeast : (Id → Id → Ordering) → List (Event Id) → Id → Type 0
+  IsLeast order events id = (job : Spec Id) → Contains (state_of same plan events).jobs job
+      → is_claimable same plan (state_of same plan events) events job ≡ true
+      → is_lt (order job.id id) ≡ false
+
+  -- a job that is handed out is the least that can be claimed
+  abbrev pub IsLeastRun : {P : Type 0} → (Id → Id → Ordering) → List (Event Id) → Claim P Id V
+      → Type 0
+  IsLeastRun order events (claim.Run id reads) = IsLeast order events id
+  IsLeastRun order events (claim.Idle count) = Unit {0}
+  IsLeastRun order events claim.Ended = Unit {0}
+  IsLeastRun order events claim.Halted = Unit {0}
+  IsLeastRun order events claim.NoMemory = Unit {0}
 
   -- the answer to a worker's claim, and the board after it
   abbrev pub IsAnswer : {P : Type 0} → BoardView P Id → ℕ → Claim P Id V → BoardView P Id → Type 0

@@ -31,7 +31,7 @@ use std::marker::Model;
 /// `added_by` and `result` take the logarithm. `is_stuck` and `access_of` take one pass, and so
 /// does `result` before the first claim or where memory ran out since.
 ///
-/// The ready job with the least id is handed out; no contract speaks of that, nor of the agenda.
+/// No contract of a public call speaks of the agenda.
 #[derive(Drop)]
 pub struct Board<P: Plan> {
     plan: P,
@@ -66,7 +66,7 @@ impl<P: Plan> Model for Board<P> {
 
 impl<P: Plan> Board<P> {
     ghost use Rattle.job_graph.specs.BoardView.{BoardView, NowHas};
-    ghost use Rattle.job_graph.specs.Answers.{IsAnswer};
+    ghost use Rattle.job_graph.specs.Answers.{IsAnswer, IsLeastRun};
     ghost use Rattle.job_graph.specs.declared.event.Event.TheVariants as event;
 
     /// A board on which nothing happened yet.
@@ -100,12 +100,15 @@ impl<P: Plan> Board<P> {
         })
     }
 
-    /// Hands a worker a ready job that wasn't handed out, or says why not.
+    /// Hands a worker the job with the least id of those that are ready and weren't handed out, or
+    /// says why not.
     pub fn claim(&mut self, alloc: Global, worker: u32) -> Claim<P>
         requires known { worker < self.old.workers }
         requires free { out_at self.old.workers self.old.events worker ≡ Some None }
         ensures answer { IsAnswer P.Id.eq (P.meaning self.old.plan) self.old worker result
             self.new }
+        ensures least { IsLeastRun P.Id.eq (P.meaning self.old.plan) P.Id.cmp self.old.events
+            result }
         ensures history { IsHistory P.Id.eq (P.meaning self.new.plan) self.new.workers
             self.new.events }
     {

@@ -2,7 +2,7 @@
 ghost use Rattle.std.specs.Prelude.{◌≡◌, ◌<◌, ◌≤◌, ℕ, ◌⊎◌, Some, None, IfOk, IfSome, IfNone, OnOk};
 ghost use Rattle.std.specs.Prelude.{OnErr, length, true, false, if◌then◌else◌};
 ghost use Rattle.std.specs.BTreeMap as tree;
-ghost use Rattle.job_graph.specs.Agenda.{rank_of, IsQueued, HasJob, AreEmpty, IsEither};
+ghost use Rattle.job_graph.specs.Agenda.{rank_of, IsQueued, HasJob, AreEmpty, IsEither, IsLesser};
 
 use refusal_codes::NoMemory;
 use std::alloc::Global;
@@ -133,6 +133,7 @@ fn remove_job<Id: Copy + Ord>(queue: &mut BTreeMap<Id, usize>, id: &Id)
 pub fn head<Id: Copy + Ord>(queue: &BTreeMap<Id, usize>) -> Option<(Id, usize)>
     ensures some { IfSome result (λ p. tree.get Id.cmp queue.now p.0 ≡ Some p.1) }
     ensures none { IfNone result ((id : Id) → tree.get Id.cmp queue.now id ≡ None) }
+    ensures least { IfSome result (λ p. tree.IsLowerBound Id.cmp queue.now p.0) }
 {
     match queue.first_key_value() {
         Some((id, number)) => Some((*id, *number)),
@@ -142,7 +143,8 @@ pub fn head<Id: Copy + Ord>(queue: &BTreeMap<Id, usize>) -> Option<(Id, usize)>
 
 /// Of two jobs the one with the lesser id.
 pub fn lesser<Id: Copy + Ord>(one: Option<Turn<Id>>, other: Option<Turn<Id>>) -> Option<Turn<Id>>
-    ensures { IsEither one other result }
+    ensures either { IsEither one other result }
+    ensures lesser { IsLesser Id.cmp one other result }
 {
     match (one, other) {
         (Some(a), Some(b)) => { if b.id < a.id { Some(b) } else { Some(a) } }

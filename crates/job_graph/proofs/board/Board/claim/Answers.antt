@@ -3,10 +3,11 @@ use Rattle.std.proofs.Common.{refl, sym, ap, ◌∙◌, arith, subst}
 use Rattle.job_graph.specs.declared.event.Event.TheVariants as event
 use Rattle.job_graph.specs.Rounds.{state_from}
 use Rattle.job_graph.specs.Members.{slice_get-In}
-use Rattle.job_graph.specs.Agenda.{is_taken}
+use Rattle.job_graph.specs.Agenda.{is_taken, IsLeastLeft}
 use Rattle.job_graph.proofs.Boards.{length_outs, out_within, board_claim, board_same, board_history}
 use Rattle.job_graph.proofs.Boards.{hands_out, none_claimable, left_none, claimable, one_job}
 use Rattle.job_graph.proofs.Boards.{has_ended, same_workers, view_push, view_same}
+use Rattle.job_graph.proofs.Boards.{least_claimable}
 use Rattle.job_graph.proofs.Agendas.{agenda_moved, passed_moved, run_moved, agenda_handed}
 use Rattle.job_graph.proofs.Halts.{now_has}
 use Rattle.job_graph.proofs.board.Board.claim.Goals as goal
@@ -293,3 +294,18 @@ pub returns-else-note-clause-history : goal.returns-else-note-clause-history
 returns-else-note-clause-history g c = board_history _ _ _ (g.met.P.Plan.lawful c.self.inside.plan)
     _ _ _ _ _ (board_same _ _ _ _ c.note.new.events _ _ _ _ c.self.invariant.board
     c.if-note.ensures.items (rw c.as_slice-in-Ok-Some.ensures.value at c.note.ensures.room))
+
+pub returns-then-note-clause-least : goal.returns-then-note-clause-least
+returns-then-note-clause-least g c =
+    let run = run_moved g.P.Id.PartialEq.eq g.P.Id.Ord.cmp (g.P.Plan.meaning c.self.inside.plan)
+    c.as_slice.result.now c.self.inside.jobs.items c.self.inside.values c.self.inside.values
+    c.as_slice-2.result.now c.self.inside.outs.items c.as_slice.ensures.value refl
+    c.as_slice-2.ensures.value
+    c.next_run-next.new.agenda c.in-Ok-Some.field-0
+    (Some (c.in-Ok-Some.turn, c.in-Ok-Some.reads)) c.in-Ok-Some.field-0-is
+    c.in-Ok-Some.ensures.next in
+    rw (← c.self.view_is) (least_claimable _ _ _ (g.met.P.Plan.lawful c.self.inside.plan) _ _ _ _ _
+    c.self.invariant.board g.P.Id.Ord.cmp g.met.P.Id.Ord.total c.of.result
+    (subst (IsLeastLeft g.P.Id.PartialEq.eq g.P.Id.Ord.cmp (g.P.Plan.meaning c.self.inside.plan)
+    (state_from c.self.inside.jobs.items c.self.inside.values) c.self.inside.outs.items)
+    (sym c.of.ensures) run.0.least))
