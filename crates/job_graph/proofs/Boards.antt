@@ -29,7 +29,8 @@ use Rattle.job_graph.specs.Histories.{is_halt, is_halt_of, has_halted, out_of, r
 use Rattle.job_graph.specs.Histories.{has_out, state_of, is_ready_id, is_allowed, is_run}
 use Rattle.job_graph.specs.Histories.{some_ready, is_claimable, end_of}
 use Rattle.job_graph.specs.Promises.{IsHistory}
-use Rattle.job_graph.specs.BoardView.{BoardView, IsBoard, halted_of}
+use Rattle.job_graph.specs.BoardView.{BoardView}
+use Rattle.job_graph.specs.BoardBody.{IsBoard, halted_of}
 use Rattle.job_graph.specs.Answers.{HandsOut, some_claimable, IsLeast}
 use Rattle.job_graph.specs.Members.{In, In-from_Contains, Contains-from_In, slice_get-In}
 use Rattle.job_graph.specs.Members.{list_any-In, list_any-found}

@@ -13,7 +13,8 @@ use Rattle.job_graph.specs.declared.event.Event.TheVariants as event
 use Rattle.job_graph.specs.Meaning.{Meaning}
 use Rattle.job_graph.specs.Histories.{is_halt, is_halt_of, has_halted, out_after, out_of, out_at}
 use Rattle.job_graph.specs.Histories.{worker_of, events_of, is_allowed, is_run}
-use Rattle.job_graph.specs.BoardView.{BoardView, NowHas, halted_after, halted_of}
+use Rattle.job_graph.specs.BoardView.{BoardView, NowHas}
+use Rattle.job_graph.specs.BoardBody.{halted_after, halted_of}
 use Rattle.job_graph.specs.Members.{list_any-In, list_any-found}
 use Rattle.job_graph.proofs.Run.{get_set_same, get_set_other, run_induction, may_claim}
 use Rattle.job_graph.proofs.Owned.{or_false, list_any-push}

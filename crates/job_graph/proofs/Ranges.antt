@@ -11,7 +11,7 @@ use Rattle.access_context.specs.Plain.{Plain}
 use Rattle.access_context.specs.Places.{place_from}
 use Rattle.job_graph.specs.Meaning.{Meaning}
 use Rattle.job_graph.specs.Rounds.{state_from, is_settled, IsOutcomeOf, IsAddedOf}
-use Rattle.job_graph.specs.BoardView.{IsRange, AreRanges}
+use Rattle.job_graph.specs.BoardBody.{IsRange, AreRanges}
 use Rattle.job_graph.proofs.Places.{stands, unread}
 
 pub get_push_cases : {X : Type 0} (xs : List X) (y x : X) (k : ℕ)

@@ -15,7 +15,7 @@ use Rattle.job_graph.specs.Rounds.{limit}
 use Rattle.job_graph.specs.Laws.{IsLawful}
 use Rattle.job_graph.specs.Histories.{is_claim_of, is_finish_of, was_claimed, was_finished, out_of}
 use Rattle.job_graph.specs.Histories.{state_of, is_allowed, is_run}
-use Rattle.job_graph.specs.BoardView.{halted_of}
+use Rattle.job_graph.specs.BoardBody.{halted_of}
 use Rattle.job_graph.specs.Members.{In, In-from_Contains, Contains-from_In, list_any-found}
 use Rattle.job_graph.specs.Limit.{counted, count_more, count_one_more, count_all, below_limit}
 use Rattle.job_graph.proofs.Run.{may_claim, has_out_is, run_induction, IsOut, Grows, grows}

@@ -9,6 +9,7 @@ pub mod BoardView
 pub mod Answers
 pub mod Solutions
 -- What serves the body of the board, and no contract of a public call:
+pub mod BoardBody
 pub mod Agenda
 pub mod Places
 -- What serves the proofs that plans keep the laws. These are lemmas, and nothing in them need be

@@ -52,7 +52,8 @@ pub struct Board<P: Plan> {
 
 impl<P: Plan> Model for Board<P> {
     ghost use Rattle.std.specs.Prelude.{map};
-    ghost use Rattle.job_graph.specs.BoardView.{BoardView, IsKept};
+    ghost use Rattle.job_graph.specs.BoardView.{BoardView};
+    ghost use Rattle.job_graph.specs.BoardBody.{IsKept};
     ghost use Rattle.job_graph.specs.Rounds.{state_from};
 
     ghost Value = { BoardView P P.Id };

@@ -2,7 +2,7 @@ use Rattle.std.proofs.Common.{ℕ, false, sym, ap, ◌∙◌, subst, length}
 use Rattle.std.proofs.lemmas.List.{length-replicate}
 use Rattle.job_graph.proofs.Agendas.{agenda_new}
 use Rattle.job_graph.proofs.Passing.{none_passed}
-use Rattle.job_graph.specs.BoardView.{IsBoard}
+use Rattle.job_graph.specs.BoardBody.{IsBoard}
 use Rattle.job_graph.specs.Rounds.{state_from}
 use Rattle.job_graph.proofs.Boards.{board_new, new_history}
 use Rattle.job_graph.proofs.Ranges.{ranges_new}
