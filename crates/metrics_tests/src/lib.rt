@@ -2,4 +2,6 @@
 #![tactic(auto)]
 
 #[cfg(test)]
+mod advances_that_change;
+#[cfg(test)]
 mod metrics_that_change;

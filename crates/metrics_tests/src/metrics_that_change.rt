@@ -11,7 +11,7 @@ use style_tables::mvar;
 use variation_model::{DeltaError, Model};
 
 /// Four masters at the corners of two axes, with x-heights of 0, 16383, 16383 and -3.
-const CORNERS: &[u8] = b"{.formatVersion=3;\
+pub const CORNERS: &[u8] = b"{.formatVersion=3;\
     axes=({name=Weight;tag=wght;},{name=Width;tag=wdth;});familyName=Corners;\
     fontMaster=({axesValues=(0,0);id=a;metricValues=({pos=0;});},\
     {axesValues=(1,0);id=b;metricValues=({pos=16383;});},\
