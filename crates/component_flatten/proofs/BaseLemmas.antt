@@ -183,12 +183,11 @@ all_ready places i bases lt = record {
 
 pub ready_at : (at : List F2Dot14) (bases : List FlatGlyph) (made : List (Option Between)) (n : ℕ)
     (base : FlatGlyph) (one : Option Between) → AreReady at bases made → n < length bases
-    → base ≡ get_or bases n base → one ≡ get_or made n one → IsReady at base one
+    → base ≡ get_or bases n base → one ≡ get_or made n None → IsReady at base one
 ready_at at bases made n base one ready lt same own =
-    let there : n < length made = omega (arith, ready.as_many, lt) in
     subst (λ (b : FlatGlyph). IsReady at b one) (sym same)
     (subst (λ (m : Option Between). IsReady at (get_or bases n base) m)
-    (sym (own ∙ get_or_default made n one None there)) (ready.each n base lt))
+    (sym own) (ready.each n base lt))
 
 -- ---- a shape
 

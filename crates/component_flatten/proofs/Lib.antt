@@ -4,4 +4,5 @@ pub mod BaseLemmas
 pub mod FlatLaws
 pub mod SourceLaws
 pub mod LimitLaws
+pub mod SharedBases
 mod WorkedRows

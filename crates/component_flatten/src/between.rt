@@ -49,27 +49,9 @@ pub fn number_of(places: &[Location], at: &[F2Dot14]) -> Option<usize>
     places.iter().position(|place| place.as_slice() == at)
 }
 
-/// For each base, what gives it between its places, if it lacks one of these. The error is that a
-/// delta is outside an `i16`.
-pub fn betweens(
-    alloc: Global,
-    places: &[Location],
-    bases: &[Arc<FlatGlyph>],
-) -> Result<Sequence<Option<Between>>, LimitError>
-    requires { All IsFlatGlyph (glyphs_of bases.now) }
-    ensures value { IfOk result (λ made. made
-        ≡ map (between_of places.now) (glyphs_of bases.now)) }
-    ensures limit { Judges DeltaTooLarge
-        (list_all (has_no_large_deltas places.now) (glyphs_of bases.now)) result }
-{
-    let mut made = Sequence::from_vec(Vec::with_capacity(alloc, bases.len())?);
-    for base in bases {
-        made.push(between_of(alloc, places, base)?)?;
-    }
-    Ok(made)
-}
-
-fn between_of(
+/// What gives a base between its places, if it lacks one of these. The error is that a delta is
+/// outside an `i16`.
+pub fn between_of(
     alloc: Global,
     places: &[Location],
     base: &FlatGlyph,

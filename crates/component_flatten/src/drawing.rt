@@ -1,5 +1,5 @@
 ghost use Rattle.std.specs.Prelude.{◌≡◌, ℕ, ◌+◌, ◌<◌, ◌≤◌, ◌++◌, ◌∷◌, [], map, length, IfOk, OnOk};
-ghost use Rattle.std.specs.Prelude.{slice_index_or, drop};
+ghost use Rattle.std.specs.Prelude.{slice_index_or, drop, option_copied};
 ghost use Rattle.std.specs.List.{All, list_all};
 ghost use Rattle.font_ir.specs.FlatGlyphs.{IsFlatGlyph, IsSmallPoint, glyphs_of};
 ghost use Rattle.font_ir.specs.ReadGlyphs.{IsInRange, IsReadGlyph};
@@ -15,6 +15,7 @@ ghost use Rattle.component_flatten.specs.Flattening.{IsBase, HasBases};
 ghost use Rattle.component_flatten.specs.Judging.{HasDeltas, FitsModel};
 
 use crate::between::{Between, ContourDeltas, PointDeltas, base_at, number_of};
+use crate::betweens::Betweens;
 use crate::limits::LimitError;
 use crate::transform::{Spot, Transform};
 use fixed_math::F2Dot14;
@@ -49,13 +50,13 @@ fn push_component(
     at: &[F2Dot14],
     transform: &Transform,
     base: &FlatGlyph,
-    between: &Option<Between>,
+    between: Option<&Between>,
     contours: &mut Sequence<Contour>,
 ) -> Result<(), LimitError>
     requires flat { IsFlatGlyph base.now }
     requires axes { length at.now ≡ axis_count base.now.places }
     requires transform { IsTransform transform.now }
-    requires ready { IsReady at.now base.now between.now }
+    requires ready { IsReady at.now base.now (option_copied between) }
     ensures added { OnOk result (contours.new ≡ contours.old
         ++ spec.component_drawn at.now transform.now base.now) }
     ensures limit { Judges CoordinateTooLarge
@@ -198,7 +199,7 @@ fn push_base(
     alloc: Global,
     at: &[F2Dot14],
     bases: &[Arc<FlatGlyph>],
-    made: &[Option<Between>],
+    made: &Betweens,
     n: usize,
     transform: &Transform,
     contours: &mut Sequence<Contour>,
@@ -214,8 +215,7 @@ fn push_base(
         transform.now (drop n (glyphs_of bases.now)))) result }
 {
     let base = base_at(bases, n);
-    let between = &made[n];
-    push_component(alloc, at, transform, base, between, contours)
+    push_component(alloc, at, transform, base, made.get(n), contours)
 }
 
 /// What a layer's shape draws, with the number of the next base. It gives the number behind those
@@ -225,7 +225,7 @@ fn push_shape(
     alloc: Global,
     at: &[F2Dot14],
     bases: &[Arc<FlatGlyph>],
-    made: &[Option<Between>],
+    made: &Betweens,
     next: usize,
     shape: &Shape,
     contours: &mut Sequence<Contour>,
@@ -270,7 +270,7 @@ fn shapes_drawn(
     alloc: Global,
     at: &[F2Dot14],
     bases: &[Arc<FlatGlyph>],
-    made: &[Option<Between>],
+    made: &Betweens,
     shapes: &[Shape],
 ) -> Result<Sequence<Contour>, LimitError>
     requires flat { All IsFlatGlyph (glyphs_of bases.now) }
@@ -297,7 +297,7 @@ pub fn drawn(
     alloc: Global,
     glyph: &GlyphIr,
     bases: &[Arc<FlatGlyph>],
-    made: &[Option<Between>],
+    made: &Betweens,
 ) -> Result<Sequence<Sequence<Contour>>, LimitError>
     requires read { IsReadGlyph glyph.now }
     requires bases { All (IsBase glyph.now.places) (glyphs_of bases.now) }
@@ -321,7 +321,7 @@ fn layer_drawn(
     alloc: Global,
     glyph: &GlyphIr,
     bases: &[Arc<FlatGlyph>],
-    made: &[Option<Between>],
+    made: &Betweens,
     i: usize,
     layer: &LayerIr,
 ) -> Result<Sequence<Contour>, LimitError>

@@ -8,7 +8,7 @@ ghost use Rattle.component_flatten.specs.Flattening.{IsBase, HasBases, flat_of, 
 ghost use Rattle.component_flatten.specs.Judging.{GivesDrawn, rule_of};
 
 use crate::anchors::anchors;
-use crate::between::betweens;
+use crate::betweens::Betweens;
 use crate::composites::kept;
 use crate::counting::has_many_points;
 use crate::drawing::{drawn, widths};
@@ -114,6 +114,6 @@ fn within_limits(
     if has_many_points(glyph, bases) {
         return Err(LimitError::Broken(Rule::TooManyPoints));
     }
-    let made = betweens(alloc, glyph.places.as_slice(), bases)?;
-    drawn(alloc, glyph, bases, made.as_slice())
+    let made = Betweens::of(alloc, glyph.places.as_slice(), bases)?;
+    drawn(alloc, glyph, bases, &made)
 }

@@ -3,6 +3,7 @@
 
 mod anchors;
 mod between;
+mod betweens;
 mod composites;
 mod counting;
 mod drawing;

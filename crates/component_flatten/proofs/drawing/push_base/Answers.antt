@@ -1,5 +1,6 @@
 use Rattle.std.proofs.Common.{◌≡◌, length, subst, sym, arith}
 use Rattle.std.specs.Arc.{arc_value}
+use Rattle.std.specs.Prelude.{option_copied}
 use Rattle.std.proofs.lemmas.List.{length-map}
 use Rattle.font_ir.specs.declared.glyph.FlatGlyph.{FlatGlyph}
 use Rattle.font_ir.specs.FlatGlyphs.{IsFlatGlyph, glyphs_of}
@@ -22,6 +23,6 @@ push_component-requires-clause-axes c =
 pub push_component-requires-clause-ready : goal.push_component-requires-clause-ready
 push_component-requires-clause-ready c =
     ready_at c.args.at.now (glyphs_of c.args.bases.now) c.args.made.now c.args.n
-    c.base_at-base.result.now c.index-made-n.result c.requires.ready
+    c.base_at-base.result.now (option_copied c.get.result) c.requires.ready
     (omega (arith, c.requires.within, length-map c.args.bases.now arc_value))
-    c.base_at-base.ensures c.index-made-n.is
+    c.base_at-base.ensures c.get.ensures
