@@ -6,7 +6,7 @@ use Rattle.whole_files.specs.Printing.{Printed}
 use Rattle.refusal_codes.specs.declared.refusal.Refusal.{Refusal}
 use Rattle.font_plan.specs.Alone.{SourceBoard}
 use Rattle.fontc_cli.specs.Boards.{Begun, NoneBegun, HasBuildBoard, HasSampleBoard, kept_board}
-use Rattle.fontc_cli.specs.Commands.{Build, Sample}
+use Rattle.command_words.specs.Commands.{Build, Sample}
 use Rattle.fontc_cli.specs.Compiled.{IsBoardOf, jobs_run}
 use Rattle.fontc_cli.specs.Runs.{Outside, LeavesFiles, IsTold, WritingEnds, told_of}
 use Rattle.fontc_cli.specs.Sampled.{text_of_sample}

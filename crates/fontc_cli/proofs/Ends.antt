@@ -9,8 +9,8 @@ use Rattle.refusal_codes.specs.declared.refusal.Refusal.{Refusal}
 use Rattle.font_plan.specs.Font.{font_of}
 use Rattle.font_reader.specs.declared.faults.FontFault.{FontFault}
 use Rattle.font_reader.specs.declared.points.Point.{Point}
-use Rattle.fontc_cli.specs.Commands.{Build, Inspect, Sample, Command, building, inspecting}
-use Rattle.fontc_cli.specs.Commands.{sampling}
+use Rattle.command_words.specs.Commands.{Build, Inspect, Sample, Command, building, inspecting}
+use Rattle.command_words.specs.Commands.{sampling}
 use Rattle.fontc_cli.specs.Inspected.{inspected}
 use Rattle.fontc_cli.specs.Lines.{lines_of, wrote}
 use Rattle.fontc_cli.specs.Runs.{Outside, HoldsFontOf, IsRefused, IsWritten, IsPartlyWritten}

@@ -7,7 +7,7 @@ use Rattle.font_reader.specs.declared.faults.FontFault.{FontFault}
 use Rattle.font_reader.specs.declared.faults.FaultKind.TheVariants.{TooLarge}
 use Rattle.font_reader.specs.declared.points.Point.{Point}
 use Rattle.font_reader.specs.Fields.{fault}
-use Rattle.fontc_cli.specs.Commands.{Inspect}
+use Rattle.command_words.specs.Commands.{Inspect}
 use Rattle.fontc_cli.specs.Inspected.{font_bytes, inspected}
 use Rattle.fontc_cli.specs.Runs.{Outside, LeavesFiles, InspectEnds, IsPointTold}
 use Rattle.fontc_cli.specs.declared.status.Status.{Status}

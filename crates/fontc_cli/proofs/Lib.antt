@@ -1,6 +1,5 @@
 pub mod AskedLaws
 pub mod BoardLaws
-pub mod CommandRows
 pub mod Ends
 pub mod Inspections
 pub mod Rows

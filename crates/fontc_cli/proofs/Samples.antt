@@ -4,7 +4,7 @@ use Rattle.std.proofs.Common.{◌∙◌}
 use Rattle.refusal_codes.specs.declared.refusal.Refusal.{Refusal}
 use Rattle.font_plan.specs.Alone.{SourceBoard, HasEnded}
 use Rattle.font_plan.specs.Font.{font_of}
-use Rattle.fontc_cli.specs.Commands.{Sample}
+use Rattle.command_words.specs.Commands.{Sample}
 use Rattle.fontc_cli.specs.Compiled.{IsBoardOf, jobs_run}
 use Rattle.fontc_cli.specs.Sampled.{Makes, IsSampled, IsSampleRefused, text_of_sample}
 

@@ -2,7 +2,7 @@
 use Rattle.std.specs.Prelude.{◌≡◌, ℕ, List, [], ◌++◌, Option, Some, None}
 use Rattle.outside_io.specs.Calls.{Call}
 use Rattle.whole_files.specs.Requests.{AreRoomyReads, AreWholeOffers}
-use Rattle.fontc_cli.specs.Commands.{Build, Command, building, inspecting, sampling}
+use Rattle.command_words.specs.Commands.{Build, Command, building, inspecting, sampling}
 use Rattle.fontc_cli.specs.declared.status.Status.{Status}
 use Rattle.fontc_cli.specs.declared.status.Status.TheVariants.{Done, Usage, Refused, BadFont}
 use Rattle.fontc_cli.specs.declared.status.Status.TheVariants.{ReadFault, WriteFault, ConsoleFault}

@@ -3,7 +3,7 @@ use Rattle.std.specs.Prelude.{◌≡◌, ◌⊎◌, ℕ, true, false, List, take
 use Rattle.outside_io.specs.Files.{Holding, told_bytes, replaced_by, Leaves}
 use Rattle.whole_files.specs.Printing.{Printed, PrintsAll, PrintsPart}
 use Rattle.font_plan.specs.Alone.{SourceBoard}
-use Rattle.fontc_cli.specs.Commands.{Build, Sample, Command, building, inspecting, sampling}
+use Rattle.command_words.specs.Commands.{Build, Sample, Command, building, inspecting, sampling}
 use Rattle.fontc_cli.specs.Compiled.{IsBoardOf, jobs_run}
 use Rattle.fontc_cli.specs.Runs.{Outside, told_of}
 use Rattle.fontc_cli.specs.Sampled.{text_of_sample}

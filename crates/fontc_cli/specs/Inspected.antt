@@ -8,7 +8,7 @@ use Rattle.font_reader.specs.declared.points.Point.{Point}
 use Rattle.font_reader.specs.Directory.{font_fault}
 use Rattle.font_reader.specs.Fields.{fault}
 use Rattle.font_reader.specs.Points.{point_at}
-use Rattle.fontc_cli.specs.Commands.{Inspect}
+use Rattle.command_words.specs.Commands.{Inspect}
 
 -- the greatest length of a font that is read, in bytes
 abbrev pub font_bytes : ℕ

@@ -1,10 +1,8 @@
 pub mod Asked
 pub mod Boards
-pub mod Commands
 pub mod Compiled
 pub mod Inspected
 pub mod Lines
 pub mod Runs
 pub mod Sampled
 pub mod Statuses
-pub mod Words

@@ -9,8 +9,8 @@ use Rattle.refusal_codes.specs.declared.refusal.Refusal.{Refusal}
 use Rattle.font_plan.specs.Font.{font_of}
 use Rattle.font_reader.specs.declared.faults.FontFault.{FontFault}
 use Rattle.font_reader.specs.declared.points.Point.{Point}
-use Rattle.fontc_cli.specs.Commands.{Build, Inspect, Sample, Command, building, inspecting}
-use Rattle.fontc_cli.specs.Commands.{sampling}
+use Rattle.command_words.specs.Commands.{Build, Inspect, Sample, Command, building, inspecting}
+use Rattle.command_words.specs.Commands.{sampling}
 use Rattle.fontc_cli.specs.Inspected.{inspected}
 use Rattle.fontc_cli.specs.Lines.{lines_of, wrote, point_line, sample_line}
 use Rattle.fontc_cli.specs.Sampled.{IsSampled, IsSampleRefused, IsSampleMakeable}
@@ -170,7 +170,8 @@ SampleEnds command (Refused r) old new = LeavesFiles old new × IsSampleRefused 
     × Prints (lines_of [] (Refused r)) old.console new.console
 SampleEnds command NoMemory old new = LeavesFiles old new × (new.console ≡ old.console)
 
--- words that are no command are `Usage`, and leave all files as before
+-- Words that are no command are `Usage`, or memory runs out before that is known. All files are
+-- left as before, and where memory ran out the console took nothing.
 abbrev pub UsageEnds : Status → Outside → Outside → Type 0
 UsageEnds Usage old new = LeavesFiles old new × Prints (lines_of [] Usage) old.console new.console
 UsageEnds Done old new = ⊥
@@ -179,7 +180,7 @@ UsageEnds (BadFont fault) old new = ⊥
 UsageEnds ReadFault old new = ⊥
 UsageEnds WriteFault old new = ⊥
 UsageEnds ConsoleFault old new = ⊥
-UsageEnds NoMemory old new = ⊥
+UsageEnds NoMemory old new = LeavesFiles old new × (new.console ≡ old.console)
 
 -- the same of any words
 abbrev pub RunEnds : Option Command → Status → Outside → Outside → Type 0

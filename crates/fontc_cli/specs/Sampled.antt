@@ -4,7 +4,7 @@ use Rattle.sample_maker.specs.SampleText.{sample_text}
 use Rattle.refusal_codes.specs.declared.refusal.Refusal.{Refusal}
 use Rattle.font_plan.specs.Alone.{SourceBoard}
 use Rattle.font_plan.specs.Font.{font_of}
-use Rattle.fontc_cli.specs.Commands.{Sample}
+use Rattle.command_words.specs.Commands.{Sample}
 use Rattle.fontc_cli.specs.Compiled.{IsBoardOf, jobs_run}
 
 -- the text of the sample that a command names

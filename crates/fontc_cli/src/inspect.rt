@@ -6,12 +6,11 @@ ghost use Rattle.whole_files.specs.Printing.{printed};
 ghost use Rattle.whole_files.specs.Requests.{Since, AreRoomyReads};
 ghost use Rattle.fontc_cli.specs.Inspected.{font_bytes, inspected, read_point};
 ghost use Rattle.fontc_cli.specs.Runs.{Between, InspectEnds, IsPointTold};
-ghost use Rattle.fontc_cli.specs.Words.{shown_inspect};
+ghost use Rattle.command_words.specs.Shown.{shown_inspect};
 
-use crate::command::InspectCommand;
 use crate::lines::{READ_FAULT, point_line, tell, tell_fault};
 use crate::status::Status;
-use crate::words::place;
+use command_words::{InspectCommand, place};
 use fixed_math::F2Dot14;
 use font_reader::{FaultKind, FontFault, FontView, Point, Room};
 use outside_io::{Console, Files};

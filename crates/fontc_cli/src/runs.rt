@@ -5,18 +5,18 @@ ghost use Rattle.whole_files.specs.Requests.{Since};
 ghost use Rattle.refusal_codes.specs.declared.limits.TheConstants.{SOURCE_BYTES};
 ghost use Rattle.fontc_cli.specs.Boards.{HasBoard, HasBuildBoard};
 ghost use Rattle.fontc_cli.specs.Asked.{WritingAsks, BuildAsks, RunAsks};
-ghost use Rattle.fontc_cli.specs.Commands.{command_of};
+ghost use Rattle.command_words.specs.Commands.{command_of};
 ghost use Rattle.fontc_cli.specs.Lines.{wrote};
 ghost use Rattle.fontc_cli.specs.Runs.{BuildEnds, RunEnds, IsComplete, WritingEnds, Between};
 ghost use Rattle.fontc_cli.specs.Statuses.{ExitsBy};
-ghost use Rattle.fontc_cli.specs.Words.{shown, shown_command, IsRunnable};
+ghost use Rattle.command_words.specs.Shown.{shown, shown_command, IsRunnable};
 
-use crate::command::{BuildCommand, Command, read_command};
 use crate::inspect::inspect;
 use crate::lines::{READ_FAULT, USAGE, refuse, tell, wrote_line};
 use crate::sample::sample;
 use crate::status::{Report, Status};
 use crate::writing::write_and_tell;
+use command_words::{BuildCommand, Command, read_command};
 use font_plan::{compile_one, source_too_large};
 use outside_io::{Console, Files, Gate};
 use refusal_codes::CompileError;
@@ -135,12 +135,13 @@ fn run_words<F: Files, C: Console>(
     ensures asked { Since (RunAsks (command_of (map string_bytes words.now)) result.status)
         (F.calls files.old) (F.calls files.new) }
 {
-    match read_command(words) {
-        None => {
+    match read_command(alloc, words) {
+        Ok(Some(command)) => run_command(alloc, command, files, console),
+        Ok(None) => {
             tell(console, USAGE);
             Report::of(Status::Usage)
         }
-        Some(command) => run_command(alloc, command, files, console),
+        Err(_) => Report::of(Status::NoMemory),
     }
 }
 

@@ -7,12 +7,12 @@ ghost use Rattle.fontc_cli.specs.Compiled.{jobs_run};
 ghost use Rattle.fontc_cli.specs.Lines.{sample_line};
 ghost use Rattle.fontc_cli.specs.Runs.{Between, SampleEnds, WritingEnds};
 ghost use Rattle.fontc_cli.specs.Sampled.{text_of_sample};
-ghost use Rattle.fontc_cli.specs.Words.{shown_sample, IsMakeable};
+ghost use Rattle.command_words.specs.Shown.{shown_sample, IsMakeable};
 
-use crate::command::SampleCommand;
 use crate::lines::{refuse, sample_line};
 use crate::status::{Report, Status};
 use crate::writing::write_and_tell;
+use command_words::SampleCommand;
 use font_plan::{FontPlan, compile_one};
 use job_graph::Board;
 use outside_io::{Console, Files};

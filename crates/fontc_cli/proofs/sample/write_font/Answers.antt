@@ -3,7 +3,7 @@ use Rattle.std.proofs.Common.{Ok, sym, ap, ◌∙◌}
 use Rattle.fontc_cli.proofs.BoardLaws.{sample_board_reported}
 use Rattle.fontc_cli.proofs.Ends.{sample_written_ends}
 use Rattle.fontc_cli.proofs.Samples.{board_of_text, font_is_sampled}
-use Rattle.fontc_cli.specs.Words.{shown_sample}
+use Rattle.command_words.specs.Shown.{shown_sample}
 use Rattle.fontc_cli.proofs.sample.write_font.Goals as goal
 
 pub returns-in-Ok-clause-ends : goal.returns-in-Ok-clause-ends

@@ -2,7 +2,7 @@
 use Rattle.std.proofs.Common.{inl}
 use Rattle.fontc_cli.proofs.Ends.{sample_written_ends}
 use Rattle.fontc_cli.proofs.Samples.{text_is_sampled}
-use Rattle.fontc_cli.specs.Words.{shown_sample}
+use Rattle.command_words.specs.Shown.{shown_sample}
 use Rattle.fontc_cli.proofs.sample.write_sample.Goals as goal
 
 pub returns-then-command-clause-ends : goal.returns-then-command-clause-ends

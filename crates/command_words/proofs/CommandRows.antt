@@ -2,7 +2,7 @@
 use Rattle.std.proofs.Common.{◌≡◌, Some, None, true, false, [], ◌∷◌, refl}
 use Rattle.std.specs.Prelude.{codes}
 use Rattle.source_values.specs.Decimals.{are_digits, digits_value}
-use Rattle.fontc_cli.specs.Commands.{command_of, sampling, sample_of, text_of, number_between}
+use Rattle.command_words.specs.Commands.{command_of, sampling, sample_of, text_of, number_between}
 
 a_font : command_of (codes "sample" ∷ codes "7" ∷ codes "1" ∷ codes "o" ∷ [])
     ≡ Some (sampling (record { seed = 7; glyphs = 1; output = codes "o"; writes_text = false }))

@@ -1,6 +1,6 @@
 -- the number is what the digits so far spell, cut
 use Rattle.std.proofs.Common.{◌≡◌, ◌+◌, ◌-◌, ◌*◌, min, fold, take}
-use Rattle.fontc_cli.proofs.words.value_of.Given as goal
+use Rattle.command_words.proofs.numbers.value_of.Given as goal
 
 abbrev pub invariant-loop-digit : goal.invariant-loop-digit
 invariant-loop-digit l = l.value ≡ min (fold (λ n d. 10 * n + (d - 48)) 0

@@ -6,7 +6,7 @@ use Rattle.std.proofs.lemmas.Iterator.{YieldsList-from_slice}
 use Rattle.std.proofs.lemmas.Iterator.Search.{all_from_yields_List}
 use Rattle.std.proofs.lemmas.Bool.Decides.{nat_tests}
 use Rattle.source_values.specs.Decimals.{are_digits}
-use Rattle.fontc_cli.proofs.words.are_digits.Goals as goal
+use Rattle.command_words.proofs.numbers.are_digits.Goals as goal
 
 pub returns-then-not-is_empty : goal.returns-then-not-is_empty
 unfolding are_digits

@@ -3,8 +3,8 @@ use Rattle.std.proofs.Common.{rules, tests, lit<}
 use Rattle.std.proofs.lemmas.Iterator.{YieldsList-from_map, items_from_collect}
 use Rattle.std.proofs.lemmas.Iterator.Consumers.{YieldsList-at}
 use Rattle.std.proofs.lemmas.Iterator.Splits.{YieldsList-from_str_split}
-use Rattle.fontc_cli.specs.Commands.{coordinate_of}
-use Rattle.fontc_cli.proofs.words.coordinates.Goals as goal
+use Rattle.command_words.specs.Commands.{coordinate_of}
+use Rattle.command_words.proofs.numbers.coordinates.Goals as goal
 
 pub returns : goal.returns
 returns c = items_from_collect _ c.collect.ensures.ran (YieldsList-from_map _ coordinate_of

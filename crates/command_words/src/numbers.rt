@@ -1,8 +1,9 @@
 ghost use Rattle.std.specs.Prelude.{◌≡◌, ◌+◌, ◌-◌, ◌*◌, ◌≤◌, min, map, IfOk, IfSome};
 ghost use Rattle.std.specs.List.{list_all};
 ghost use Rattle.source_values.specs.Decimals.{are_digits, digits_value};
-ghost use Rattle.fontc_cli.specs.Commands.{coordinate_of, glyphs_of, is_number, is_place};
-ghost use Rattle.fontc_cli.specs.Commands.{number_between, number_of, pieces_of, place_of, seed_of};
+ghost use Rattle.command_words.specs.Commands.{coordinate_of, glyphs_of, is_number, is_path};
+ghost use Rattle.command_words.specs.Commands.{is_place, number_between, number_of, pieces_of};
+ghost use Rattle.command_words.specs.Commands.{place_of, seed_of};
 
 use fixed_math::F2Dot14;
 use refusal_codes::NoMemory;
@@ -130,4 +131,14 @@ fn coordinate(word: &str) -> F2Dot14
     ensures { result ≡ coordinate_of word.now }
 {
     F2Dot14(number(word).unwrap_or(0).cast_signed())
+}
+
+/// Whether a word is a path: it doesn't begin with a hyphen.
+pub fn is_path(word: &str) -> bool
+    ensures { result ≡ is_path word.now }
+{
+    match word.as_bytes() {
+        [] => true,
+        [first, ..] => *first != b'-',
+    }
 }

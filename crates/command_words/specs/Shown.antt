@@ -1,12 +1,12 @@
 -- A command without where its words lie in memory.
 use Rattle.std.specs.Prelude.{◌≤◌}
-use Rattle.fontc_cli.specs.Commands.{Build, Inspect, Sample, building, inspecting, sampling}
-use Rattle.fontc_cli.specs.Commands.{place_of, Command as SeenCommand}
-use Rattle.fontc_cli.specs.declared.command.BuildCommand.{BuildCommand}
-use Rattle.fontc_cli.specs.declared.command.InspectCommand.{InspectCommand}
-use Rattle.fontc_cli.specs.declared.command.SampleCommand.{SampleCommand}
-use Rattle.fontc_cli.specs.declared.command.Command.{Command}
-use Rattle.fontc_cli.specs.declared.command.Command.TheVariants as commands
+use Rattle.command_words.specs.Commands.{Build, Inspect, Sample, building, inspecting, sampling}
+use Rattle.command_words.specs.Commands.{place_of, Command as SeenCommand}
+use Rattle.command_words.specs.declared.command.BuildCommand.{BuildCommand}
+use Rattle.command_words.specs.declared.command.InspectCommand.{InspectCommand}
+use Rattle.command_words.specs.declared.command.SampleCommand.{SampleCommand}
+use Rattle.command_words.specs.declared.command.Command.{Command}
+use Rattle.command_words.specs.declared.command.Command.TheVariants as commands
 
 abbrev pub shown : BuildCommand → Build
 shown command = record { source = command.source.now; output = command.output.now }

@@ -2,8 +2,8 @@
 use Rattle.std.proofs.Common.{rules, tests, lit<}
 use Rattle.std.proofs.lemmas.Iterator.Search.{all_from_yields_List}
 use Rattle.std.proofs.lemmas.Iterator.Splits.{YieldsList-from_str_split}
-use Rattle.fontc_cli.specs.Commands.{is_number}
-use Rattle.fontc_cli.proofs.words.are_numbers.Goals as goal
+use Rattle.command_words.specs.Commands.{is_number}
+use Rattle.command_words.proofs.numbers.are_numbers.Goals as goal
 
 pub returns : goal.returns
 returns c = all_from_yields_List is_number _ _ _ c.all.ensures.ran

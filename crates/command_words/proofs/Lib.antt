@@ -1,0 +1,9 @@
+mod Answered
+mod Bools
+mod Builds
+mod CommandRows
+mod Inspects
+mod Nones
+mod Samples
+mod Ungiven
+mod Walks
