@@ -6,6 +6,7 @@ pub mod Last
 pub mod Kept
 pub mod Due
 pub mod Places
+pub mod Numbered
 pub mod Ranges
 pub mod Waiting
 pub mod Standing

@@ -11,6 +11,8 @@ use Rattle.access_context.specs.Plain.{Plain}
 use Rattle.job_graph.specs.declared.event.Event.{Event}
 use Rattle.job_graph.specs.declared.event.Event.TheVariants as event
 use Rattle.job_graph.specs.declared.agenda.Agenda.{Agenda}
+use Rattle.job_graph.specs.declared.numbers.Numbers.{Numbers}
+use Rattle.job_graph.specs.Numbered.{IsNumbered}
 use Rattle.job_graph.specs.Meaning.{Meaning}
 use Rattle.job_graph.specs.Rounds.{State, IsAddedOf}
 use Rattle.job_graph.specs.Histories.{has_halted, out_of, state_of, is_run}
@@ -58,9 +60,10 @@ pub record AreRanges {Id V : Type 0} (same : Id → Id → Bool) (plan : Meaning
 pub record IsKept {Id V : Type 0} (same : Id → Id → Bool) (order : Id → Id → Ordering)
     (plan : Meaning Id V) (workers : ℕ) (events : Vec (Event Id) Global) (state : State Id V)
     (outs : List (Option Id)) (halted : List Bool) (any_halted : Bool) (ranges : List (ℕ × ℕ))
-    (agenda : Agenda Id) (passed : List ℕ) : Type 0 where
+    (numbers : Numbers Id) (agenda : Agenda Id) (passed : List ℕ) : Type 0 where
   pub board : IsBoard same plan workers events state outs halted any_halted
   pub rows : AreRanges same plan state ranges
+  pub numbered : IsNumbered same order state.jobs numbers
   -- while nobody halted, the agenda says what is to be done
   pub tasks : any_halted ≡ false → IsAgenda same order state outs agenda
   pub strata : ArePassed same plan state passed

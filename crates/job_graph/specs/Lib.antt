@@ -12,6 +12,7 @@ pub mod Solutions
 pub mod BoardBody
 pub mod Agenda
 pub mod Places
+pub mod Numbered
 -- What serves the proofs that plans keep the laws. These are lemmas, and nothing in them need be
 -- believed:
 pub mod Members

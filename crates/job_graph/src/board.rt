@@ -10,6 +10,7 @@ ghost use Rattle.job_graph.specs.Promises.{IsHistory, IsComplete};
 use crate::agenda::Agenda;
 use crate::claim::{Claim, Ticket, Unfinished};
 use crate::event::{End, Event};
+use crate::numbers::Numbers;
 use crate::plan::Plan;
 use crate::queues::QUEUES;
 use crate::values::Values;
@@ -28,8 +29,9 @@ use std::marker::Model;
 /// the jobs and values that are new. That takes the logarithm of the jobs for each of these and for
 /// each job that they wake. A claim takes the logarithm for each item that the job reads which is
 /// handed out. For each stratum that is awaited a whole run goes once through the jobs. `get`,
-/// `added_by` and `result` take the logarithm. `is_stuck` and `access_of` take one pass, and so
-/// does `result` before the first claim or where memory ran out since.
+/// `added_by`, `is_stuck`, `access_of` and `result` take the logarithm. `result` takes one pass
+/// before the first claim or where memory ran out since; `is_stuck` and `access_of` may take one
+/// through the jobs that were added since memory ran out last.
 ///
 /// No contract of a public call speaks of the agenda.
 #[derive(Drop)]
@@ -42,6 +44,7 @@ pub struct Board<P: Plan> {
     // For each value the places of the jobs that it added: the first of them, and the next after
     // the last.
     ranges: Vec<(usize, usize)>,
+    numbers: Numbers<P::Id>,
     outs: Vec<Option<P::Id>>,
     halted: Vec<bool>,
     any_halted: bool,
@@ -62,7 +65,7 @@ impl<P: Plan> Model for Board<P> {
 
     ghost invariant = { λ b. IsKept P.Id.eq P.Id.cmp (P.meaning b.plan) b.workers b.events
         (state_from b.jobs.items b.values) b.outs.items b.halted.items b.any_halted b.ranges.items
-        b.agenda b.passed.items };
+        b.numbers b.agenda b.passed.items };
 }
 
 impl<P: Plan> Board<P> {
@@ -86,6 +89,7 @@ impl<P: Plan> Board<P> {
         let halted = lists::none_halted(alloc, count)?;
         let agenda = Agenda::new(alloc)?;
         let passed = strata::none_passed(alloc, QUEUES)?;
+        let numbers = Numbers::of(alloc, jobs.as_slice());
         Ok(Board {
             plan,
             workers,
@@ -93,6 +97,7 @@ impl<P: Plan> Board<P> {
             jobs,
             values: Values::new(alloc),
             ranges: Vec::new(alloc),
+            numbers,
             outs,
             halted,
             any_halted: false,
@@ -170,6 +175,7 @@ impl<P: Plan> Board<P> {
     {
         match self.settle(worker, ticket, outcome) {
             Ok(()) => {
+                self.note_jobs();
                 self.catch_up(alloc);
                 Ok(())
             }
@@ -223,6 +229,13 @@ impl<P: Plan> Board<P> {
                 Ok(())
             }
         }
+    }
+
+    /// Tells the index of all jobs. Where memory runs out, the next finish does that.
+    fn note_jobs(&mut self)
+        ensures { self.new ≡ self.old }
+    {
+        self.numbers.note_all(self.jobs.as_slice());
     }
 
     /// Tells the agenda of all jobs and values. Where memory runs out, the next claim does that.
@@ -334,7 +347,7 @@ impl<P: Plan> Board<P> {
             ≡ End.Ended
             → result ≡ is_unsettled_job P.Id.eq (limit P.Id.eq (P.meaning self.now.plan)) id.now }
     {
-        scan::has_job(self.jobs.as_slice(), id) && !scan::is_settled(&self.values, id)
+        self.numbers.has_job(self.jobs.as_slice(), id) && !scan::is_settled(&self.values, id)
     }
 
     /// The jobs that a settled job added, in their order: none where it isn't settled. It takes no
@@ -360,6 +373,6 @@ impl<P: Plan> Board<P> {
             ≡ access_in P.Id.eq (state_of P.Id.eq (P.meaning self.now.plan) self.now.events)
             id.now }
     {
-        scan::access_of(self.jobs.as_slice(), id)
+        self.numbers.access_of(self.jobs.as_slice(), id)
     }
 }

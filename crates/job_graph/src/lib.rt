@@ -8,6 +8,7 @@ mod event;
 mod laws;
 mod lines;
 mod lists;
+mod numbers;
 mod plan;
 mod queues;
 mod scan;

@@ -62,7 +62,7 @@ impl<Id: Copy + Ord> Lines<Id> {
         join(&mut self.lines, line, job)
     }
 
-    /// All jobs leave the line of an item.
+    /// All jobs leave the line of an item, which is no more.
     pub fn leave(&mut self, alloc: Global, id: &Id) -> Vec<usize>
         requires { AreWithin Id.cmp self.old.places self.old.lines.items }
         ensures within { AreWithin Id.cmp self.new.places self.new.lines.items }
@@ -72,11 +72,8 @@ impl<Id: Copy + Ord> Lines<Id> {
             → Waits Id.cmp self.old.places self.old.lines.items job q
             → Waits Id.cmp self.new.places self.new.lines.items job q ⊎ In job result.items }
     {
-        match self.places.get(id) {
-            Some(line) => {
-                let line = *line;
-                mem::replace(&mut self.lines[line], Vec::new(alloc))
-            }
+        match self.places.remove(id) {
+            Some(line) => mem::replace(&mut self.lines[line], Vec::new(alloc)),
             None => Vec::new(alloc),
         }
     }

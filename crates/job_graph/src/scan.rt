@@ -1,7 +1,7 @@
 // Readiness, found by scanning lists.
 ghost use Rattle.std.specs.Prelude.{◌≡◌, ℕ, take, slice_get, option_map, map, is_some, not, ◌&&◌};
-ghost use Rattle.std.specs.Prelude.{◌||◌, nat_le, length, count_by, IfOk, IsTrue, List, true};
-ghost use Rattle.std.specs.Prelude.{false, Some};
+ghost use Rattle.std.specs.Prelude.{◌||◌, nat_le, length, count_by, IfOk, IsTrue, List, true, drop};
+ghost use Rattle.std.specs.Prelude.{false, Some, ◌≤◌};
 ghost use Rattle.std.specs.List.{list_all, list_any, find};
 ghost use Rattle.access_context.specs.declared.access.Spec.{Spec};
 ghost use Rattle.access_context.specs.Plain.{plain};
@@ -13,7 +13,7 @@ ghost use Rattle.job_graph.specs.Agenda.{is_out_of};
 
 use crate::plan::Plan;
 use crate::values::Values;
-use access_context::{Access, Settled, Spec};
+use access_context::{Settled, Spec};
 use refusal_codes::NoMemory;
 use std::alloc::Global;
 
@@ -164,29 +164,29 @@ pub fn some_ready<P: Plan>(plan: &P, jobs: &[Spec<P::Id>], values: &Values<P::Id
     false
 }
 
-/// Whether a job has this id.
-pub fn has_job<Id: Copy + Ord>(jobs: &[Spec<Id>], id: &Id) -> bool
-    ensures { result ≡ list_any (has_id Id.eq id.now) jobs.now }
+/// The first job with this id.
+fn job_of<'a, Id: Copy + Ord>(jobs: &'a [Spec<Id>], id: &Id) -> Option<&'a Spec<Id>>
+    ensures { option_map (λ job. job.now) result ≡ find (has_id Id.eq id.now) jobs.now }
 {
     for job in jobs {
         if job.id == *id {
-            return true;
-        }
-    }
-    false
-}
-
-/// With what the job with this id was added.
-pub fn access_of<'a, Id: Copy + Ord>(jobs: &'a [Spec<Id>], id: &Id) -> Option<&'a Access<Id>>
-    ensures { option_map (λ access. access.now) result
-        ≡ option_map (λ (job : Spec Id). job.access) (find (has_id Id.eq id.now) jobs.now) }
-{
-    for job in jobs {
-        if job.id == *id {
-            return Some(&job.access);
+            return Some(job);
         }
     }
     None
+}
+
+/// The first job with this id of those from a place on.
+pub fn job_from<'a, Id: Copy + Ord>(
+    jobs: &'a [Spec<Id>],
+    id: &Id,
+    from: usize,
+) -> Option<&'a Spec<Id>>
+    requires { from ≤ length jobs.now }
+    ensures { option_map (λ job. job.now) result
+        ≡ find (has_id Id.eq id.now) (drop from jobs.now) }
+{
+    job_of(&jobs[from..], id)
 }
 
 /// How many workers have a job out.

@@ -105,7 +105,7 @@ impl<Id: Copy + Ord, V: Drop> Values<Id, V> {
 }
 
 /// Tells an index of one more item, unless an item with its id stands before it.
-pub fn note_place<Id: Copy + Ord>(places: &mut BTreeMap<Id, usize>, id: Id, place: usize) -> bool
+pub fn note_place<Id: Copy + Ord, X: Drop>(places: &mut BTreeMap<Id, X>, id: Id, place: X) -> bool
     ensures noted { result ≡ true → (q : Id)
         → tree.get Id.cmp places.new q ≡ first_of (tree.get Id.cmp places.old q)
         (if Id.eq id q then Some place else None) }

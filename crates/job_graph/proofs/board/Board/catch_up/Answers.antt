@@ -9,6 +9,7 @@ pub invariant_of-self : goal.invariant_of-self
 invariant_of-self g c = record {
   board = c.self.invariant.board;
   rows = c.self.invariant.rows;
+  numbered = c.self.invariant.numbered;
   tasks = λ e. agenda_moved g.P.Id.PartialEq.eq g.P.Id.Ord.cmp (g.P.Plan.meaning c.self.inside.plan)
       c.as_slice-jobs.result.now c.self.inside.jobs.items c.self.inside.values c.self.inside.values
       c.as_slice-outs.result.now c.self.inside.outs.items c.as_slice-jobs.ensures.value refl
@@ -24,6 +25,7 @@ pub invariant_of-self-else-is_ok : goal.invariant_of-self-else-is_ok
 invariant_of-self-else-is_ok g c = record {
   board = c.self.invariant.board;
   rows = c.self.invariant.rows;
+  numbered = c.self.invariant.numbered;
   tasks = λ e. agenda_moved g.P.Id.PartialEq.eq g.P.Id.Ord.cmp (g.P.Plan.meaning c.self.inside.plan)
       c.as_slice-jobs.result.now c.self.inside.jobs.items c.self.inside.values c.self.inside.values
       c.as_slice-outs.result.now c.self.inside.outs.items c.as_slice-jobs.ensures.value refl

@@ -35,6 +35,7 @@ pub invariant_of-self : goal.invariant_of-self
 invariant_of-self g c = record {
   board = c.self.invariant.board;
   rows = c.self.invariant.rows;
+  numbered = c.self.invariant.numbered;
   tasks = λ e. agenda_moved g.P.Id.PartialEq.eq g.P.Id.Ord.cmp (g.P.Plan.meaning c.self.inside.plan)
       c.as_slice.result.now c.self.inside.jobs.items c.self.inside.values c.self.inside.values
       c.as_slice-2.result.now c.self.inside.outs.items c.as_slice.ensures.value refl
@@ -60,6 +61,7 @@ pub invariant_of-self-then-count-gt0 : goal.invariant_of-self-then-count-gt0
 invariant_of-self-then-count-gt0 g c = record {
   board = c.self.invariant.board;
   rows = c.self.invariant.rows;
+  numbered = c.self.invariant.numbered;
   tasks = λ e. agenda_moved g.P.Id.PartialEq.eq g.P.Id.Ord.cmp (g.P.Plan.meaning c.self.inside.plan)
       c.as_slice.result.now c.self.inside.jobs.items c.self.inside.values c.self.inside.values
       c.as_slice-2.result.now c.self.inside.outs.items c.as_slice.ensures.value refl
@@ -77,6 +79,7 @@ pub invariant_of-self-in-Ok-None : goal.invariant_of-self-in-Ok-None
 invariant_of-self-in-Ok-None g c = record {
   board = c.self.invariant.board;
   rows = c.self.invariant.rows;
+  numbered = c.self.invariant.numbered;
   tasks = λ e. agenda_moved g.P.Id.PartialEq.eq g.P.Id.Ord.cmp (g.P.Plan.meaning c.self.inside.plan)
       c.as_slice.result.now c.self.inside.jobs.items c.self.inside.values c.self.inside.values
       c.as_slice-2.result.now c.self.inside.outs.items c.as_slice.ensures.value refl
@@ -190,6 +193,7 @@ invariant_of-self-then-note g c =
           c.note.new.events c.if-note.ensures.items
           (rw c.as_slice-in-Ok-Some.ensures.value at c.note.ensures.room);
       rows = c.self.invariant.rows;
+      numbered = c.self.invariant.numbered;
       tasks = λ e. agenda_handed g.P.Id.PartialEq.eq g.P.Id.Ord.cmp
           (state_from c.self.inside.jobs.items c.self.inside.values) c.self.inside.outs.items
           c.next_run-next.new.agenda c.hand_out.new.self
@@ -217,6 +221,7 @@ invariant_of-self-else-note g c = record {
   board = board_same _ _ _ _ c.note.new.events _ _ _ _ c.self.invariant.board
       c.if-note.ensures.items (rw c.as_slice-in-Ok-Some.ensures.value at c.note.ensures.room);
   rows = c.self.invariant.rows;
+  numbered = c.self.invariant.numbered;
   tasks = λ e. agenda_moved g.P.Id.PartialEq.eq g.P.Id.Ord.cmp (g.P.Plan.meaning c.self.inside.plan)
       c.as_slice.result.now c.self.inside.jobs.items c.self.inside.values c.self.inside.values
       c.as_slice-2.result.now c.self.inside.outs.items c.as_slice.ensures.value refl

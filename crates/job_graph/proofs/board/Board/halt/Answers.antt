@@ -65,6 +65,7 @@ invariant_of-self g c =
           c.push_reserved.new.self c.push_reserved.ensures.items c.push_reserved.ensures.len
           c.push_reserved.ensures.capacity;
       rows = c.self.invariant.rows;
+      numbered = c.self.invariant.numbered;
       tasks = λ e. absurd (false≢true (sym e));
       strata = c.self.invariant.strata;
       count = c.self.invariant.count;

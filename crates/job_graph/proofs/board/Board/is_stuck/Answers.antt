@@ -20,3 +20,6 @@ returns-else-has_job-clause-ended g c =
     c.as_slice.ensures.value)
     ∙ ended_stuck _ _ _ (g.met.P.Plan.lawful c.self.inside.plan) _ _ _ _ _ c.self.invariant.board e
     c.args.id.now)
+
+pub has_job-requires : goal.has_job-requires
+has_job-requires g c = rw c.as_slice.ensures.value c.self.invariant.numbered

@@ -27,6 +27,7 @@ invariant_of-result g c = record {
       c.in_ok-events.ensures.capacity c.in_ok-jobs.ensures c.in_ok-outs.ensures
       c.in_ok-halted.ensures);
   rows = ranges_new _ _ c.in_ok-jobs.jobs.items _ _ c.new-2.ensures c.new-3.ensures.items;
+  numbered = rw c.as_slice.ensures.value at c.of-numbers.ensures;
   tasks = λ e. agenda_new g.P.Id.PartialEq.eq g.P.Id.Ord.cmp _ c.in_ok-outs.outs.items
       c.in_ok-agenda.agenda c.in_ok-agenda.ensures
       (λ x y. ((g.met.P.Plan.lawful c.args.plan).identity x y).0);

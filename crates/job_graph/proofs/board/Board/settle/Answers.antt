@@ -10,6 +10,7 @@ use Rattle.job_graph.proofs.Boards.{view_push, out_unsettled}
 use Rattle.job_graph.proofs.Kept.{history_of}
 use Rattle.job_graph.proofs.Halts.{now_has}
 use Rattle.job_graph.proofs.Ranges.{ranges_after, ranges_same}
+use Rattle.job_graph.proofs.Numbered.{numbered_more}
 use Rattle.job_graph.proofs.board.Board.settle.Goals as goal
 
 pub invariant_of-self : goal.invariant_of-self
@@ -19,6 +20,7 @@ invariant_of-self g c = record {
       c.make_room.new.jobs.items c.self.inside.values c.make_room.ensures.jobs refl;
   rows = ranges_same _ _ _ _ _ c.self.invariant.rows c.make_room.new.jobs.items c.self.inside.values
       c.make_room.new.ranges.items c.make_room.ensures.jobs refl c.make_room.ensures.ranges;
+  numbered = rw c.make_room.ensures.jobs c.self.invariant.numbered;
   tasks = λ e. agenda_moved g.P.Id.PartialEq.eq g.P.Id.Ord.cmp (g.P.Plan.meaning c.self.inside.plan)
       c.self.inside.jobs.items c.make_room.new.jobs.items
       c.self.inside.values c.self.inside.values c.self.inside.outs.items c.self.inside.outs.items
@@ -43,6 +45,7 @@ invariant_of-self-in-Err g c = record {
   rows = ranges_same _ _ _ _ _ c.self.invariant.rows c.make_room.new.jobs.items c.push.new.self
       c.make_room.new.ranges.items c.make_room.ensures.jobs c.in-Err.ensures.err
       c.make_room.ensures.ranges;
+  numbered = rw c.make_room.ensures.jobs c.self.invariant.numbered;
   tasks = λ e. agenda_moved g.P.Id.PartialEq.eq g.P.Id.Ord.cmp (g.P.Plan.meaning c.self.inside.plan)
       c.self.inside.jobs.items c.make_room.new.jobs.items
       c.self.inside.values c.push.new.self c.self.inside.outs.items c.self.inside.outs.items
@@ -82,6 +85,10 @@ invariant_of-self-in-Ok g c = record {
       (c.push_reserved-in-Ok.ensures.items ∙
       ap (λ rs. rs ++ (c.len-from.result, c.len-to.result) ∷ [])
       c.make_room.ensures.ranges);
+  numbered = numbered_more g.P.Id.PartialEq.eq g.P.Id.Ord.cmp c.self.inside.jobs.items
+      c.self.inside.numbers c.self.invariant.numbered c.args.outcome.added c.add_all.new.items.items
+      (c.add_all.ensures ∙ (ap (λ xs. xs ++ c.into_vec.result.items) c.make_room.ensures.jobs
+      ∙ ap (λ ys. c.self.inside.jobs.items ++ ys) c.into_vec.ensures));
   tasks = λ e. agenda_grown g.P.Id.PartialEq.eq g.P.Id.Ord.cmp
       (state_from c.self.inside.jobs.items c.self.inside.values) c.self.inside.outs.items
       (slice_set c.self.inside.outs.items c.args.worker None) c.args.outcome.added
