@@ -49,14 +49,15 @@ number_same a b e = ap (λ z. record { 0 = z }) ((signed_Decides a.0 b.0).0 e)
 fixed_same : (a b : Fixed) → int_eq a.0 b.0 ≡ true → a ≡ b
 fixed_same a b e = ap (λ z. record { 0 = z }) ((signed_Decides a.0 b.0).0 e)
 
-point_same : (a b : DrawnPoint) → (int_eq a.x.0 b.x.0 && (int_eq a.y.0 b.y.0 && beq a.on b.on)) ≡ true
-    → a ≡ b
+point_same : (a b : DrawnPoint)
+    → (int_eq a.x.0 b.x.0 && (int_eq a.y.0 b.y.0 && beq a.on b.on)) ≡ true → a ≡ b
 point_same a b e =
     let first = both (int_eq a.x.0 b.x.0) (int_eq a.y.0 b.y.0 && beq a.on b.on) e in
     let rest = both (int_eq a.y.0 b.y.0) (beq a.on b.on) first.1 in
     ap (λ (x : Fixed). record { x = x; y = a.y; on = a.on }) (fixed_same a.x b.x first.0)
     ∙ ap (λ (y : Fixed). record { x = b.x; y = y; on = a.on }) (fixed_same a.y b.y rest.0)
-    ∙ ap (λ (on : Bool). record { x = b.x; y = b.y; on = on }) ((booleans_Decides a.on b.on).0 rest.1)
+    ∙ ap (λ (on : Bool). record { x = b.x; y = b.y; on = on })
+    ((booleans_Decides a.on b.on).0 rest.1)
 
 abbrev same_point : DrawnPoint → DrawnPoint → Bool
 same_point a b = int_eq a.x.0 b.x.0 && (int_eq a.y.0 b.y.0 && beq a.on b.on)
@@ -115,7 +116,8 @@ field_same : {A : Type 0} (f : FlatGlyph → A) (bases : List FlatGlyph) (m n : 
     → f (get_or bases m blank) ≡ f (get_or bases n blank)
 field_same f bases m n lt within e =
     let first = slice_get-get_or (map f bases) m (f blank) (omega (arith, lt, length-mapped)) in
-    let second = slice_get-get_or (map f bases) n (f blank) (omega (arith, within, length-mapped)) in
+    let second = slice_get-get_or (map f bases) n (f blank)
+    (omega (arith, within, length-mapped)) in
     sym (get_or-map f bases m blank (f blank) lt)
     ∙ some_same (sym first ∙ e ∙ second)
     ∙ get_or-map f bases n blank (f blank) within
@@ -246,5 +248,6 @@ one_more_made made between used h =
     (Some (length made) ∷ [])
     ∙ ap (λ (front : List (Option Between)). front
     ++ slice_get (made ++ between ∷ []) (length made) ∷ [])
-    (still_used made between used (recursion_from_All (λ n. IfSome n (λ k. k < length made)) used h))
+    (still_used made between used
+    (recursion_from_All (λ n. IfSome n (λ k. k < length made)) used h))
     ∙ ap (λ (one : Option Between). used_of made used ++ one ∷ []) (last_made made between)

@@ -300,7 +300,8 @@ pub drawn-between : glyph_drawn (moved_over (at (pos 0) ∷ at (pos 16384) ∷ a
 unfolding deltas_of supports_of order_of
 drawn-between = refl
 
--- and a place that the base has and the glyph hasn't is without effect
+-- and where the glyph's places are all among the base's, a place that only the base has changes
+-- nothing of what is drawn there
 pub drawn-without : glyph_drawn (moved_over (at (pos 0) ∷ [])) (moving (pos 32768000) ∷ [])
     ≡ one_point (pos 6553600) ∷ []
 unfolding deltas_of supports_of order_of

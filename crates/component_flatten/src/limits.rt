@@ -1,10 +1,8 @@
-ghost use Rattle.std.specs.Prelude.{◌≡◌, ◌+◌, ◌-◌, ◌<◌, ◌^◌, length, min};
-ghost use Rattle.std.specs.List.{list_any, list_all, sum_by};
+ghost use Rattle.std.specs.Prelude.{◌≡◌, ◌-◌, ◌^◌, min};
 ghost use Rattle.font_ir.specs.FlatGlyphs.{point_count};
-ghost use Rattle.component_flatten.specs.Flattening.{is_small, is_small_point, has_small_points};
+ghost use Rattle.component_flatten.specs.Flattening.{is_small};
 
-use fixed_math::Fixed;
-use font_ir::{Contour, DrawnPoint};
+use font_ir::Contour;
 use refusal_codes::limits::COORDINATE;
 use refusal_codes::{NoMemory, Rule};
 use std::alloc::{AllocError, AllocFailed};
@@ -60,29 +58,6 @@ pub fn count_points(contours: &[Contour]) -> usize
         count = count.saturating_add(contour.points.len());
     }
     count
-}
-
-/// Whether a contour's points are at most so far away.
-pub fn has_small_points(contour: &Contour) -> bool
-    ensures { result ≡ has_small_points contour.now }
-{
-    contour
-        .points
-        .as_slice()
-        .iter()
-        .all(|point| is_small_point(point))
-}
-
-fn is_small_point(point: &DrawnPoint) -> bool
-    ensures { result ≡ is_small_point point.now }
-{
-    is_small(point.x) && is_small(point.y)
-}
-
-fn is_small(coordinate: Fixed) -> bool
-    ensures { result ≡ is_small coordinate }
-{
-    coordinate.0.unsigned_abs() <= SIZE_LIMIT
 }
 
 /// Whether a coordinate in 16.16 is small.

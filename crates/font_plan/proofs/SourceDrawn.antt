@@ -126,14 +126,17 @@ module _ (laws : DrawingLaws) (alike : FlatGlyphsDrawAsTheirSource) (source : Li
       at : (there : Option Entry) → slice_get index glyph ≡ there
           → raw_at tree header index glyph there ≡ Ok raw → DrawsItsSource tree header index flat
       at None is e = absurd cc
-      at (Some entry) is e = record {
-        entry = entry;
-        is_numbered = ap (slice_get index) number_is ∙ is;
-        draws = one_draws entry.0 glyph entry raw of_bases flat
-            (found_by_name 0 index (glyph, entry) glyph (omega arith) is distinct) made
-            (named_draw (bases_in raw index) of_bases (component_names raw) below
-            (bases_numbered glyph raw made)) drawn;
-      }
+      at (Some entry) is e =
+          let named = found_by_name 0 index (glyph, entry) glyph (omega arith) is distinct in
+          record {
+            entry = entry;
+            is_numbered = ap (slice_get index) number_is ∙ is;
+            is_read = ap (glyph_of tree header index) number_is ∙ e
+                ∙ ap Ok (sym (named_raw tree header index entry.0 glyph entry raw named made));
+            draws = one_draws entry.0 glyph entry raw of_bases flat named made
+                (named_draw (bases_in raw index) of_bases (component_names raw) below
+                (bases_numbered glyph raw made)) drawn;
+          }
 
   all_draw : IsDistinct (pointwise nat_eq) (keys_of index) → (numbers : List ℕ)
       (flats : List FlatGlyph) → AllDrawn (parts source) tree header index numbers flats

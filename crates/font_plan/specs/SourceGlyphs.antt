@@ -31,11 +31,12 @@ glyph_found tree header index (Some found) = glyph_as_read (glyph_of tree header
 abbrev pub source_glyph : Tree → Header → List Entry → List ℕ → GlyphIr
 source_glyph tree header index name = glyph_found tree header index (named_from 0 name index)
 
--- a glyph of the font draws what the source says of the glyph of its name
+-- a glyph of the font draws what the source says of the glyph of its name, which was read
 pub record DrawsItsSource (tree : Tree) (header : Header) (index : List Entry)
     (flat : FlatGlyph) : Type 0 where
   pub entry : Entry
   pub is_numbered : slice_get index flat.number ≡ Some entry
+  pub is_read : glyph_of tree header index flat.number ≡ Ok (source_glyph tree header index entry.0)
   pub draws : DrawsAs (source_glyph tree header index)
       (source_glyph tree header index entry.0) flat
 
