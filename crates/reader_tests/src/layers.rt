@@ -61,7 +61,7 @@ fn layer_of(
 }
 
 /// Whether points are these, in 16.16.
-fn are_points(points: &[DrawnPoint], wanted: &[(i32, i32, bool)]) -> bool {
+pub fn are_points(points: &[DrawnPoint], wanted: &[(i32, i32, bool)]) -> bool {
     if points.len() != wanted.len() {
         return false;
     }

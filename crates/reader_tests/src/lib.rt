@@ -4,6 +4,8 @@
 #[cfg(test)]
 mod codes;
 #[cfg(test)]
+mod flattening;
+#[cfg(test)]
 mod glyphs;
 #[cfg(test)]
 mod intermediate_layers;
