@@ -1,1 +1,2 @@
 mod Skipped
+mod Inside

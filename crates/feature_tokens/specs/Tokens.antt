@@ -3,7 +3,8 @@
 -- is a token by itself, be it punctuation or one that no feature file has a place for. What a
 -- token is doesn't depend on where it stands. The Adobe feature file specification, section 2
 -- ("Syntax").
-use Rattle.std.specs.Prelude.{ℕ, zero, suc, ◌+◌, ◌-◌, ◌++◌, ◌&&◌, ◌==◌, nat_lt, if◌then◌else◌}
+use Rattle.std.specs.Prelude.{ℕ, zero, suc, ◌+◌, ◌-◌, ◌≤◌, ◌++◌, ◌&&◌, ◌==◌, nat_lt}
+use Rattle.std.specs.Prelude.{if◌then◌else◌}
 use Rattle.std.specs.Prelude.{List, [], ◌∷◌, Option, Some, None, slice_index_or}
 use Rattle.std.specs.List.{prefix_len}
 use Rattle.feature_tokens.specs.declared.bytes.Run.TheVariants as runs
@@ -64,6 +65,10 @@ tokens_in skipped place [] = []
 tokens_in (suc skipped) place (b ∷ bs) = tokens_in skipped (place + 1) bs
 tokens_in zero place (b ∷ bs) = token_at place (piece_of b bs)
     ++ tokens_in ((piece_of b bs).length - 1) (place + 1) bs
+
+-- a token of a text of this length
+abbrev pub IsInside : ℕ → Token → Type 0
+IsInside length token = (token.start ≤ token.end) × (token.end ≤ length)
 
 -- the tokens of a text
 unfoldable pub tokens_of : List ℕ → List Token

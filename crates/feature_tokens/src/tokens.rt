@@ -1,6 +1,7 @@
 ghost use Rattle.std.specs.Prelude.{◌≡◌, ◌<◌, ◌≤◌, ◌+◌, ◌++◌, length, IfOk, OnOk};
 ghost use Rattle.feature_tokens.specs.Tokens.{name_length, marked_piece, piece_of, token_at};
-ghost use Rattle.feature_tokens.specs.Tokens.{tokens_of};
+ghost use Rattle.std.specs.List.{All};
+ghost use Rattle.feature_tokens.specs.Tokens.{tokens_of, IsInside};
 
 use crate::bytes::{Run, belongs, run_length, starts_name};
 use plain_lists::Sequence;
@@ -145,7 +146,8 @@ fn push_token(found: &mut Sequence<Token>, place: usize, piece: Piece) -> Result
 /// The tokens of a text, in order.
 #[tactic(auto, unfolding(crate::specs::Tokens::tokens_of))]
 pub fn tokenize(alloc: Global, text: &str) -> Result<Sequence<Token>, NoMemory>
-    ensures { IfOk result (λ found. found ≡ tokens_of text.now) }
+    ensures tokens { IfOk result (λ found. found ≡ tokens_of text.now) }
+    ensures inside { IfOk result (λ found. All (IsInside (length text.now)) found) }
 {
     let bytes = text.as_bytes();
     let mut found = Sequence::new(alloc);
