@@ -1,136 +1,174 @@
-ghost use Rattle.std.specs.Prelude.{◌<◌};
+ghost use Rattle.std.specs.Prelude.{◌≡◌, ◌<◌, Some, None};
+ghost use Rattle.job_graph.specs.Histories.{out_at};
 
 use crate::chain::Chain;
-use crate::hands::{Step, begun, calls, halt, played};
+use crate::hands::{Act, Step, begun, come, played};
 use crate::scanned::is_as_scanned;
-use crate::table::{Table, refused, row};
+use crate::table::{Listed, Table};
 use access_context::Settled;
 use job_graph::{Board, Claim, End, Event, Plan, run_claimed};
-use plain_lists::Text;
-use refusal_codes::{NoMemory, Refusal, Rule};
+use refusal_codes::{NoMemory, Rule};
 use std::alloc::Global;
-use std::process::Abort;
 use std::test::Fail;
 
-/// The value of a job that has a value.
-fn value(board: &Board<Table>, id: u32) -> Option<u32> {
-    match board.get(&id) {
-        Some(Settled::Done(value)) => Some(**value),
-        _ => None,
+/// Whether jobs have these values, or none where none is told.
+fn has_values(board: &Board<Table>, wanted: &[(u32, Option<u32>)]) -> bool {
+    for (id, wanted) in wanted {
+        let value = match board.get(id) {
+            Some(Settled::Done(value)) => Some(**value),
+            _ => None,
+        };
+        if value != *wanted {
+            return false;
+        }
     }
+    true
+}
+
+/// Whether of the jobs with an id below a number these are stuck, and no other one.
+fn are_stuck(board: &Board<Table>, count: u32, wanted: Option<u32>) -> bool {
+    for id in 0..count {
+        if board.is_stuck(&id) != (wanted == Some(id)) {
+            return false;
+        }
+    }
+    true
+}
+
+/// Whether a board has come to this, and whether this happened.
+fn happened(board: &Board<Table>, end: End, history: &[Event<u32>]) -> bool {
+    board.result() == end && board.events() == history
+}
+
+/// Whether a board has ended after so many events.
+fn ended_after(board: &Board<Table>, count: usize) -> bool {
+    board.result() == End::Ended && board.events().len() == count
 }
 
 /// Job 0 adds 1 and 2. Job 1 adds 4, which awaits stratum 0 and reads 1. Job 2 reads 1 and 3, which
 /// nobody adds.
 fn growing(alloc: Global) -> Result<Option<Table>, NoMemory> {
-    let rows = vec![in alloc;
-        row(alloc, 0, [].as_slice(), None, [1, 2].as_slice())?,
-        row(alloc, 0, [].as_slice(), None, [4].as_slice())?,
-        row(alloc, 1, [1, 3].as_slice(), None, [].as_slice())?,
-        row(alloc, 1, [].as_slice(), None, [].as_slice())?,
-        row(alloc, 2, [1].as_slice(), Some(0), [].as_slice())?,
-    ]?;
-    Ok(Table::of(vec![in alloc; 0]?, rows))
+    let rows: [Listed; 5] = [
+        (0, &[], None, &[1, 2], false),
+        (0, &[], None, &[4], false),
+        (1, &[1, 3], None, &[], false),
+        (1, &[], None, &[], false),
+        (2, &[1], Some(0), &[], false),
+    ];
+    Table::listed(alloc, &[0], rows.as_slice())
 }
 
 /// Job 1 reads 0, and 2 reads 1.
 fn chain(alloc: Global) -> Result<Option<Table>, NoMemory> {
-    let rows = vec![in alloc;
-        row(alloc, 0, [].as_slice(), None, [].as_slice())?,
-        row(alloc, 0, [0].as_slice(), None, [].as_slice())?,
-        row(alloc, 0, [1].as_slice(), None, [].as_slice())?,
-    ]?;
-    Ok(Table::of(vec![in alloc; 0, 1, 2]?, rows))
+    let rows: [Listed; 3] = [
+        (0, &[], None, &[], false),
+        (0, &[0], None, &[], false),
+        (0, &[1], None, &[], false),
+    ];
+    Table::listed(alloc, &[0, 1, 2], rows.as_slice())
 }
 
 /// Jobs 1 and 2 read 0, and 3 reads both.
 fn diamond(alloc: Global) -> Result<Option<Table>, NoMemory> {
-    let rows = vec![in alloc;
-        row(alloc, 0, [].as_slice(), None, [].as_slice())?,
-        row(alloc, 0, [0].as_slice(), None, [].as_slice())?,
-        row(alloc, 0, [0].as_slice(), None, [].as_slice())?,
-        row(alloc, 0, [1, 2].as_slice(), None, [].as_slice())?,
-    ]?;
-    Ok(Table::of(vec![in alloc; 3, 2, 1, 0]?, rows))
+    let rows: [Listed; 4] = [
+        (0, &[], None, &[], false),
+        (0, &[0], None, &[], false),
+        (0, &[0], None, &[], false),
+        (0, &[1, 2], None, &[], false),
+    ];
+    Table::listed(alloc, &[3, 2, 1, 0], rows.as_slice())
+}
+
+/// Job 0 is refused, and would add 3. Job 1 reads 0 and would add 2.
+fn refusing(alloc: Global) -> Result<Option<Table>, NoMemory> {
+    let rows: [Listed; 4] = [
+        (0, &[], None, &[3], true),
+        (0, &[0], None, &[2], false),
+        (0, &[], None, &[], false),
+        (0, &[], None, &[], false),
+    ];
+    Table::listed(alloc, &[0, 1], rows.as_slice())
 }
 
 /// Job 0 adds a thousand jobs, each of which reads it.
 fn thousand(alloc: Global) -> Result<Option<Table>, NoMemory> {
     let mut ids = Vec::new(alloc);
-    let mut rows = Vec::new(alloc);
     for id in 1..1001u32 {
         ids.push(id)?;
     }
-    rows.push(row(alloc, 0, [].as_slice(), None, ids.as_slice())?)?;
-    for _id in 1..1001u32 {
-        rows.push(row(alloc, 1, [0].as_slice(), None, [].as_slice())?)?;
+    thousand_of(alloc, ids.as_slice())
+}
+
+fn thousand_of(alloc: Global, ids: &[u32]) -> Result<Option<Table>, NoMemory> {
+    let mut rows = Vec::<Listed>::new(alloc);
+    rows.push((0, &[], None, ids, false))?;
+    for _id in ids {
+        rows.push((1, &[0], None, &[], false))?;
     }
-    Ok(Table::of(vec![in alloc; 0]?, rows))
+    Table::listed(alloc, &[0], rows.as_slice())
 }
 
-/// Job 0 is refused, and would add 3. Job 1 reads 0 and would add 2.
-fn refusing(alloc: Global) -> Result<Option<Table>, NoMemory> {
-    let rows = vec![in alloc;
-        refused(row(alloc, 0, [].as_slice(), None, [3].as_slice())?),
-        row(alloc, 0, [0].as_slice(), None, [2].as_slice())?,
-        row(alloc, 0, [].as_slice(), None, [].as_slice())?,
-        row(alloc, 0, [].as_slice(), None, [].as_slice())?,
-    ]?;
-    Ok(Table::of(vec![in alloc; 0, 1]?, rows))
+/// The board of a plan after these acts of its workers.
+fn after(
+    alloc: Global,
+    plan: Option<Table>,
+    workers: u32,
+    acts: &[(u32, Act)],
+) -> Result<Board<Table>, Fail> {
+    let (mut board, mut hands) = begun(alloc, plan.ok_or("unsound")?, workers)?;
+    if !come(alloc, &mut board, &mut hands, acts)? {
+        return Err("an act came to something else".into());
+    }
+    Ok(board)
 }
 
-/// Plays the growing plan in each of so many orders of the first eight calls.
-fn orders_end_alike<R: Abort>(rt: &R, alloc: Global, workers: u32, orders: u32) -> Result<(), Fail>
+/// Whether the growing plan comes to its end where the first eight calls have this order.
+fn ends_so(alloc: Global, workers: u32, order: u32) -> Result<bool, Fail>
     requires { 0 < workers }
 {
-    for order in 0..orders {
-        let plan = growing(alloc)?.ok_or("unsound")?;
-        let board = played(alloc, plan, workers, order, 6)?;
-        assert_eq!(rt;
-            board.result(),
-            End::Ended,
-            "{workers} workers in order {order}"
-        );
-        assert_eq!(rt; board.events().len(), 6);
-        assert!(rt; is_as_scanned(alloc, &board)?);
-        for (id, wanted) in [
-            (0, Some(0)),
-            (1, Some(1)),
-            (2, None),
-            (3, None),
-            (4, Some(5)),
-        ] {
-            assert_eq!(rt; value(&board, id), wanted);
-            assert_eq!(rt; board.is_stuck(&id), id == 2);
+    let plan = growing(alloc)?.ok_or("unsound")?;
+    let board = played(alloc, plan, workers, order, 6)?;
+    let values = [
+        (0, Some(0)),
+        (1, Some(1)),
+        (2, None),
+        (3, None),
+        (4, Some(5)),
+    ];
+    Ok(
+        ended_after(&board, 6)
+            && has_values(&board, values.as_slice())
+            && are_stuck(&board, 5, Some(2))
+            && is_as_scanned(alloc, &board)?,
+    )
+}
+
+#[test]
+fn every_order_of_calls_comes_to_the_same_end(rt: HostRuntime) -> Result<(), Fail> {
+    for (workers, orders) in [(1, 1), (2, 256), (3, 6561)] {
+        for order in 0..orders {
+            assert!(rt;
+                ends_so(rt.alloc(), workers, order)?,
+                "{workers} workers in order {order}"
+            );
         }
     }
     Ok(())
 }
 
 #[test]
-fn every_order_of_calls_comes_to_the_same_end(rt: HostRuntime) -> Result<(), Fail> {
-    orders_end_alike(&rt, rt.alloc(), 1, 1)?;
-    orders_end_alike(&rt, rt.alloc(), 2, 256)?;
-    orders_end_alike(&rt, rt.alloc(), 3, 6561)?;
-    Ok(())
-}
-
-#[test]
 fn a_worker_is_idle_while_the_one_ready_job_runs(rt: HostRuntime) -> Result<(), Fail> {
-    let plan = chain(rt.alloc())?.ok_or("unsound")?;
-    let (mut board, mut hands) = begun(rt.alloc(), plan, 2)?;
-    let wanted = [
-        (0, Step::Took),
-        (1, Step::Idle(1)),
-        (0, Step::Finished),
-        (1, Step::Took),
-        (0, Step::Idle(1)),
-        (1, Step::Finished),
-        (1, Step::Took),
-        (1, Step::Finished),
-        (0, Step::Ended),
+    let acts = [
+        (0, Act::Call(Step::Took)),
+        (1, Act::Call(Step::Idle(1))),
+        (0, Act::Call(Step::Finished)),
+        (1, Act::Call(Step::Took)),
+        (0, Act::Call(Step::Idle(1))),
+        (1, Act::Call(Step::Finished)),
+        (1, Act::Call(Step::Took)),
+        (1, Act::Call(Step::Finished)),
+        (0, Act::Call(Step::Ended)),
     ];
-    calls(&rt, rt.alloc(), &mut board, &mut hands, wanted.as_slice())?;
     let history = [
         Event::Claim(0, 0),
         Event::Finish(0, 0),
@@ -139,187 +177,228 @@ fn a_worker_is_idle_while_the_one_ready_job_runs(rt: HostRuntime) -> Result<(), 
         Event::Claim(1, 2),
         Event::Finish(1, 2),
     ];
-    assert_eq!(rt; board.events(), history.as_slice());
-    assert_eq!(rt; board.result(), End::Ended);
-    assert_eq!(rt; board.plan().stratum(&2), 0);
-    assert!(rt; is_as_scanned(rt.alloc(), &board)?);
-    for (id, wanted) in [(0, 0), (1, 1), (2, 3)] {
-        assert_eq!(rt; value(&board, id), Some(wanted));
-    }
+    let values = [(0, Some(0)), (1, Some(1)), (2, Some(3))];
+    let board = after(rt.alloc(), chain(rt.alloc())?, 2, acts.as_slice())?;
+    assert!(rt;
+        happened(&board, End::Ended, history.as_slice())
+            && board.plan().stratum(&2) == 0
+            && has_values(&board, values.as_slice())
+            && is_as_scanned(rt.alloc(), &board)?
+    );
     Ok(())
+}
+
+/// Whether a job was added with these reads.
+fn was_added_with(board: &Board<Table>, id: u32, reads: &[u32]) -> bool {
+    match board.access_of(&id) {
+        Some(access) => access.reads.as_slice() == reads,
+        None => false,
+    }
 }
 
 #[test]
 fn a_job_waits_for_all_that_it_reads(rt: HostRuntime) -> Result<(), Fail> {
-    let plan = diamond(rt.alloc())?.ok_or("unsound")?;
-    let (mut board, mut hands) = begun(rt.alloc(), plan, 3)?;
-    let wanted = [
-        (2, Step::Took),
-        (0, Step::Idle(1)),
-        (2, Step::Finished),
-        (0, Step::Took),
-        (1, Step::Took),
-        (2, Step::Idle(2)),
-        (0, Step::Finished),
-        (0, Step::Idle(1)),
-        (1, Step::Finished),
-        (0, Step::Took),
-        (1, Step::Idle(1)),
-        (0, Step::Finished),
-        (0, Step::Ended),
+    let acts = [
+        (2, Act::Call(Step::Took)),
+        (0, Act::Call(Step::Idle(1))),
+        (2, Act::Call(Step::Finished)),
+        (0, Act::Call(Step::Took)),
+        (1, Act::Call(Step::Took)),
+        (2, Act::Call(Step::Idle(2))),
+        (0, Act::Call(Step::Finished)),
+        (0, Act::Call(Step::Idle(1))),
+        (1, Act::Call(Step::Finished)),
+        (0, Act::Call(Step::Took)),
+        (1, Act::Call(Step::Idle(1))),
+        (0, Act::Call(Step::Finished)),
+        (0, Act::Call(Step::Ended)),
     ];
-    calls(&rt, rt.alloc(), &mut board, &mut hands, wanted.as_slice())?;
-    assert_eq!(rt; board.result(), End::Ended);
-    assert_eq!(rt; board.events().len(), 8);
-    assert!(rt; is_as_scanned(rt.alloc(), &board)?);
-    let Some(access) = board.access_of(&3) else {
-        panic!(rt; "a job has no access");
-    };
-    assert_eq!(rt; access.reads.as_slice(), [1, 2].as_slice());
-    assert!(rt; board.access_of(&4).is_none());
-    for (id, wanted) in [(0, 0), (1, 1), (2, 2), (3, 6)] {
-        assert_eq!(rt; value(&board, id), Some(wanted));
-        assert!(rt; !board.is_stuck(&id));
-    }
+    let values = [(0, Some(0)), (1, Some(1)), (2, Some(2)), (3, Some(6))];
+    let board = after(rt.alloc(), diamond(rt.alloc())?, 3, acts.as_slice())?;
+    assert!(rt;
+        ended_after(&board, 8)
+            && was_added_with(&board, 3, &[1, 2])
+            && board.access_of(&4).is_none()
+            && has_values(&board, values.as_slice())
+            && are_stuck(&board, 4, None)
+            && is_as_scanned(rt.alloc(), &board)?
+    );
     Ok(())
+}
+
+/// Whether job 0 was refused, as the table says.
+fn is_refused(board: &Board<Table>) -> bool {
+    match board.get(&0) {
+        Some(Settled::Refused(refusal)) => {
+            refusal.stratum == 0
+                && refusal.kind == 0
+                && refusal.name.is_empty()
+                && refusal.rule == Rule::OpenContour
+                && refusal.place == 0
+        }
+        _ => false,
+    }
+}
+
+/// Whether a job was blocked.
+fn is_blocked(board: &Board<Table>, id: u32) -> bool {
+    match board.get(&id) {
+        Some(Settled::Blocked) => true,
+        _ => false,
+    }
 }
 
 #[test]
 fn a_job_that_reads_a_refused_one_is_blocked_and_adds_nothing(rt: HostRuntime) -> Result<(), Fail> {
-    let plan = refusing(rt.alloc())?.ok_or("unsound")?;
-    let (mut board, mut hands) = begun(rt.alloc(), plan, 2)?;
-    let wanted = [
-        (0, Step::Took),
-        (1, Step::Idle(1)),
-        (0, Step::Finished),
-        (1, Step::Took),
-        (0, Step::Idle(1)),
-        (1, Step::Finished),
-        (0, Step::Ended),
-        (1, Step::Ended),
+    let acts = [
+        (0, Act::Call(Step::Took)),
+        (1, Act::Call(Step::Idle(1))),
+        (0, Act::Call(Step::Finished)),
+        (1, Act::Call(Step::Took)),
+        (0, Act::Call(Step::Idle(1))),
+        (1, Act::Call(Step::Finished)),
+        (0, Act::Call(Step::Ended)),
+        (1, Act::Call(Step::Ended)),
     ];
-    calls(&rt, rt.alloc(), &mut board, &mut hands, wanted.as_slice())?;
-    let refusal = Refusal {
-        stratum: 0,
-        kind: 0,
-        name: Text::new(rt.alloc()),
-        rule: Rule::OpenContour,
-        place: 0,
-    };
-    assert!(rt; board.get(&0) == Some(&Settled::Refused(refusal)));
-    assert!(rt; board.get(&1) == Some(&Settled::Blocked));
-    for id in 2..4 {
-        assert!(rt; board.get(&id).is_none());
-    }
-    for id in 0..4 {
-        assert!(rt; !board.is_stuck(&id));
-    }
-    assert_eq!(rt; board.result(), End::Ended);
-    assert!(rt; is_as_scanned(rt.alloc(), &board)?);
-    assert_eq!(rt; board.events().len(), 4);
+    let board = after(rt.alloc(), refusing(rt.alloc())?, 2, acts.as_slice())?;
+    assert!(rt;
+        is_refused(&board)
+            && is_blocked(&board, 1)
+            && board.get(&2).is_none()
+            && board.get(&3).is_none()
+            && are_stuck(&board, 4, None)
+            && ended_after(&board, 4)
+            && is_as_scanned(rt.alloc(), &board)?
+    );
     Ok(())
 }
 
 #[test]
 fn after_a_halt_every_claim_is_halted(rt: HostRuntime) -> Result<(), Fail> {
-    let plan = growing(rt.alloc())?.ok_or("unsound")?;
-    let (mut board, mut hands) = begun(rt.alloc(), plan, 3)?;
-    calls(
-        &rt,
-        rt.alloc(),
-        &mut board,
-        &mut hands,
-        [(1, Step::Took)].as_slice(),
-    )?;
-    assert_eq!(rt; board.result(), End::Running);
-    halt(&mut board, &mut hands, 0);
-    let wanted = [
-        (0, Step::Halted),
-        (2, Step::Halted),
-        (1, Step::Finished),
-        (1, Step::Halted),
-        (2, Step::Halted),
+    let acts = [
+        (1, Act::Call(Step::Took)),
+        (0, Act::Halt),
+        (0, Act::Call(Step::Halted)),
+        (2, Act::Call(Step::Halted)),
+        (1, Act::Call(Step::Finished)),
+        (1, Act::Call(Step::Halted)),
+        (2, Act::Call(Step::Halted)),
+        (0, Act::Halt),
     ];
-    calls(&rt, rt.alloc(), &mut board, &mut hands, wanted.as_slice())?;
-    halt(&mut board, &mut hands, 0);
     let history = [Event::Claim(1, 0), Event::Halt(0), Event::Finish(1, 0)];
-    assert_eq!(rt; board.events(), history.as_slice());
-    assert!(rt; is_as_scanned(rt.alloc(), &board)?);
-    assert_eq!(rt; board.result(), End::Halted);
+    let board = after(rt.alloc(), growing(rt.alloc())?, 3, acts.as_slice())?;
+    assert!(rt;
+        happened(&board, End::Halted, history.as_slice()) && is_as_scanned(rt.alloc(), &board)?
+    );
+    Ok(())
+}
+
+#[test]
+fn a_board_runs_while_a_job_is_out(rt: HostRuntime) -> Result<(), Fail> {
+    let acts = [(1, Act::Call(Step::Took))];
+    let board = after(rt.alloc(), growing(rt.alloc())?, 3, acts.as_slice())?;
+    assert!(rt; happened(&board, End::Running, &[Event::Claim(1, 0)]));
     Ok(())
 }
 
 #[test]
 fn a_worker_that_halts_gives_up_its_job(rt: HostRuntime) -> Result<(), Fail> {
-    let plan = growing(rt.alloc())?.ok_or("unsound")?;
-    let (mut board, mut hands) = begun(rt.alloc(), plan, 3)?;
-    calls(
-        &rt,
-        rt.alloc(),
-        &mut board,
-        &mut hands,
-        [(1, Step::Took), (0, Step::Idle(1))].as_slice(),
-    )?;
-    halt(&mut board, &mut hands, 1);
-    let wanted = [(0, Step::Halted), (1, Step::Halted), (2, Step::Halted)];
-    calls(&rt, rt.alloc(), &mut board, &mut hands, wanted.as_slice())?;
-    assert!(rt; board.get(&0).is_none());
-    assert!(rt; board.is_stuck(&0));
+    let acts = [
+        (1, Act::Call(Step::Took)),
+        (0, Act::Call(Step::Idle(1))),
+        (1, Act::Halt),
+        (0, Act::Call(Step::Halted)),
+        (1, Act::Call(Step::Halted)),
+        (2, Act::Call(Step::Halted)),
+    ];
     let history = [Event::Claim(1, 0), Event::Halt(1)];
-    assert_eq!(rt; board.events(), history.as_slice());
-    assert!(rt; is_as_scanned(rt.alloc(), &board)?);
-    assert_eq!(rt; board.result(), End::Halted);
+    let board = after(rt.alloc(), growing(rt.alloc())?, 3, acts.as_slice())?;
+    assert!(rt;
+        happened(&board, End::Halted, history.as_slice())
+            && board.get(&0).is_none()
+            && board.is_stuck(&0)
+            && is_as_scanned(rt.alloc(), &board)?
+    );
     Ok(())
+}
+
+/// Whether each of the first jobs has its id as its value.
+fn have_own_ids(board: &Board<Table>, count: u32) -> bool {
+    for id in 0..count {
+        if !has_values(board, &[(id, Some(id))]) {
+            return false;
+        }
+    }
+    true
 }
 
 #[test]
 fn a_plan_may_add_a_thousand_jobs(rt: HostRuntime) -> Result<(), Fail> {
     let plan = thousand(rt.alloc())?.ok_or("unsound")?;
     let board = played(rt.alloc(), plan, 3, 0, 700)?;
-    assert_eq!(rt; board.result(), End::Ended);
-    assert_eq!(rt; board.events().len(), 2002);
-    assert!(rt; is_as_scanned(rt.alloc(), &board)?);
-    for id in 0..1001 {
-        assert_eq!(rt; value(&board, id), Some(id));
-    }
-    assert_eq!(rt; value(&board, 1001), None);
+    assert!(rt;
+        ended_after(&board, 2002)
+            && have_own_ids(&board, 1001)
+            && has_values(&board, &[(1001, None)])
+            && is_as_scanned(rt.alloc(), &board)?
+    );
     Ok(())
+}
+
+/// Whether the first job of the growing plan is handed out, read, run and finished.
+fn is_run(alloc: Global, board: &mut Board<Table>) -> Result<bool, NoMemory>
+    requires known { 0 < board.old.workers }
+    requires free { out_at board.old.workers board.old.events 0 ≡ Some None }
+{
+    let Claim::Run(ticket, reads) = board.claim(alloc, 0) else {
+        return Ok(false);
+    };
+    let is_first = *ticket.id() == 0 && reads.all_done() && board.added_by(&0).is_none();
+    let outcome = run_claimed(alloc, board.plan(), &ticket, &reads)?;
+    let added = outcome.added.len();
+    Ok(board.finish(alloc, 0, ticket, outcome).is_ok() && is_first && added == 2)
+}
+
+/// Whether a settled job added so many.
+fn has_added(board: &Board<Table>, id: u32, count: usize) -> bool {
+    match board.added_by(&id) {
+        Some(added) => added.len() == count,
+        None => false,
+    }
 }
 
 #[test]
 fn a_claimed_job_is_run_and_finished(rt: HostRuntime) -> Result<(), Fail> {
     let plan = growing(rt.alloc())?.ok_or("unsound")?;
     let mut board = Board::new(rt.alloc(), plan, 1)?;
-    assert_eq!(rt; board.workers(), 1);
-    let Claim::Run(ticket, reads) = board.claim(rt.alloc(), 0) else {
-        panic!(rt; "no job is handed out");
-    };
-    assert_eq!(rt; *ticket.id(), 0);
-    assert!(rt; reads.all_done());
-    let outcome = run_claimed(rt.alloc(), board.plan(), &ticket, &reads)?;
-    assert_eq!(rt; outcome.added.len(), 2);
-    assert!(rt; board.added_by(&0).is_none());
-    assert!(rt; board.finish(rt.alloc(), 0, ticket, outcome).is_ok());
-    assert_eq!(rt; value(&board, 0), Some(0));
-    let Some(added) = board.added_by(&0) else {
-        panic!(rt; "a settled job tells nothing");
-    };
-    assert_eq!(rt; added.len(), 2);
+    assert!(rt;
+        board.workers() == 1
+            && is_run(rt.alloc(), &mut board)?
+            && has_values(&board, &[(0, Some(0))])
+            && has_added(&board, 0, 2)
+    );
     Ok(())
+}
+
+/// Whether each job of a chain has its number as its value, and no other job has one.
+fn is_chain_done(board: &Board<Chain>, count: u32) -> bool {
+    for id in 0..count {
+        match board.get(&id) {
+            Some(Settled::Done(value)) if **value == id => {}
+            _ => return false,
+        }
+    }
+    board.get(&count).is_none()
 }
 
 #[test]
 fn a_chain_of_jobs_is_run_to_its_end(rt: HostRuntime) -> Result<(), Fail> {
     let board = played(rt.alloc(), Chain { length: 40 }, 2, 0, 80)?;
-    assert_eq!(rt; board.result(), End::Ended);
-    assert_eq!(rt; board.events().len(), 80);
-    assert!(rt; is_as_scanned(rt.alloc(), &board)?);
-    for id in 0..40 {
-        let Some(Settled::Done(value)) = board.get(&id) else {
-            panic!(rt; "a job has no value");
-        };
-        assert_eq!(rt; **value, id);
-    }
-    assert!(rt; board.get(&40).is_none());
+    assert!(rt;
+        board.result() == End::Ended
+            && board.events().len() == 80
+            && is_chain_done(&board, 40)
+            && is_as_scanned(rt.alloc(), &board)?
+    );
     Ok(())
 }

@@ -11,13 +11,12 @@ use access_context::Reads;
 use job_graph::{Board, Claim, Plan, Ticket, run_claimed};
 use refusal_codes::NoMemory;
 use std::alloc::Global;
-use std::process::Abort;
 
 /// What a worker has: a job and what it reads, or nothing.
 pub type Hand<Id, V> = Option<(Ticket<Id>, Reads<Id, V>)>;
 
 /// What came of a worker's call.
-#[derive(Clone, Copy, Debug, PartialEq, Eq)]
+#[derive(Clone, Copy, PartialEq, Eq)]
 pub enum Step {
     /// It took a job.
     Took,
@@ -29,8 +28,17 @@ pub enum Step {
     Halted,
 }
 
+/// What a worker does.
+#[derive(Clone, Copy)]
+pub enum Act {
+    /// A call, which must come to this.
+    Call(Step),
+    /// It halts.
+    Halt,
+}
+
 /// Workers that have nothing.
-pub fn no_hands<Id: Copy + Ord, V: Drop>(
+fn no_hands<Id: Copy + Ord, V: Drop>(
     alloc: Global,
     workers: u32,
 ) -> Result<Vec<Hand<Id, V>>, NoMemory>
@@ -93,7 +101,7 @@ fn finish_job<P: Plan>(
 }
 
 /// A worker's call.
-pub fn call<P: Plan>(
+fn call<P: Plan>(
     alloc: Global,
     board: &mut Board<P>,
     hands: &mut Vec<Hand<P::Id, P::Value>>,
@@ -190,33 +198,50 @@ pub fn played<P: Plan>(
     Ok(board)
 }
 
-/// Calls of these workers, each with what must come of it.
-pub fn calls<R: Abort, P: Plan>(
-    rt: &R,
+/// Whether an act of a worker comes to what it must.
+fn comes<P: Plan>(
     alloc: Global,
     board: &mut Board<P>,
     hands: &mut Vec<Hand<P::Id, P::Value>>,
-    wanted: &[(u32, Step)],
-) -> Result<(), NoMemory>
+    worker: u32,
+    act: Act,
+) -> Result<bool, NoMemory>
+    requires known { worker < board.old.workers }
     requires held { IsHeld P.Id.eq (P.meaning board.old.plan) board.old.workers board.old.events
         hands.old.items }
     ensures workers { OnOk result (board.new.workers ≡ board.old.workers) }
     ensures held { OnOk result (IsHeld P.Id.eq (P.meaning board.new.plan) board.new.workers
         board.new.events hands.new.items) }
 {
-    for (worker, step) in wanted {
-        assert!(rt; *worker < board.workers());
-        assert_eq!(rt;
-            call(alloc, board, hands, *worker)?,
-            *step,
-            "worker {worker}"
-        );
+    match act {
+        Act::Call(step) => Ok(call(alloc, board, hands, worker)? == step),
+        Act::Halt => {
+            halt(board, hands, worker);
+            Ok(true)
+        }
     }
-    Ok(())
+}
+
+/// Whether acts of these workers come, one after the other, to what they must.
+pub fn come<P: Plan>(
+    alloc: Global,
+    board: &mut Board<P>,
+    hands: &mut Vec<Hand<P::Id, P::Value>>,
+    acts: &[(u32, Act)],
+) -> Result<bool, NoMemory>
+    requires held { IsHeld P.Id.eq (P.meaning board.old.plan) board.old.workers board.old.events
+        hands.old.items }
+{
+    for (worker, act) in acts {
+        if *worker >= board.workers() || !comes(alloc, board, hands, *worker, *act)? {
+            return Ok(false);
+        }
+    }
+    Ok(true)
 }
 
 /// A worker's halt. The job that it has is given up.
-pub fn halt<P: Plan>(board: &mut Board<P>, hands: &mut Vec<Hand<P::Id, P::Value>>, worker: u32)
+fn halt<P: Plan>(board: &mut Board<P>, hands: &mut Vec<Hand<P::Id, P::Value>>, worker: u32)
     requires known { worker < board.old.workers }
     requires held { IsHeld P.Id.eq (P.meaning board.old.plan) board.old.workers board.old.events
         hands.old.items }

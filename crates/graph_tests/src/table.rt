@@ -18,22 +18,24 @@ use std::sync::Arc;
 /// A job's stratum, what it waits for, the jobs that it adds, and whether it is refused.
 pub type Row = (u8, Access<u32>, Sequence<u32>, bool);
 
-/// A row of these parts, which isn't refused.
-pub fn row(
-    alloc: Global,
-    stratum: u8,
-    reads: &[u32],
-    awaits: Option<u8>,
-    added: &[u32],
-) -> Result<Row, NoMemory> {
-    let reads = Sequence::from_vec(Vec::from_slice(alloc, reads)?);
-    let added = Sequence::from_vec(Vec::from_slice(alloc, added)?);
-    Ok((stratum, Access { reads, awaits }, added, false))
+/// A row as it is listed: a stratum, what is read, the stratum that is awaited, what is added, and
+/// whether it is refused.
+pub type Listed<'a> = (u8, &'a [u32], Option<u8>, &'a [u32], bool);
+
+/// A row of these parts.
+fn row(alloc: Global, listed: &Listed) -> Result<Row, NoMemory> {
+    let reads = Sequence::from_vec(Vec::from_slice(alloc, listed.1)?);
+    let added = Sequence::from_vec(Vec::from_slice(alloc, listed.3)?);
+    let awaits = listed.2;
+    Ok((listed.0, Access { reads, awaits }, added, listed.4))
 }
 
-/// The same row, refused.
-pub fn refused(row: Row) -> Row {
-    (row.0, row.1, row.2, true)
+fn rows_of(alloc: Global, listed: &[Listed]) -> Result<Vec<Row>, NoMemory> {
+    let mut rows = Vec::with_capacity(alloc, listed.len())?;
+    for it in listed {
+        rows.push(row(alloc, it)?)?;
+    }
+    Ok(rows)
 }
 
 /// A plan by its table. A refused job adds nothing. What comes of any other is the sum of its id
@@ -48,7 +50,16 @@ pub struct Table {
 
 impl Table {
     /// The plan that begins with these jobs, where the rows keep the laws of strata.
-    pub fn of(opening: Vec<u32>, rows: Vec<Row>) -> Option<Table> {
+    pub fn listed(
+        alloc: Global,
+        opening: &[u32],
+        listed: &[Listed],
+    ) -> Result<Option<Table>, NoMemory> {
+        let opening = Vec::from_slice(alloc, opening)?;
+        Ok(Table::of(opening, rows_of(alloc, listed)?))
+    }
+
+    fn of(opening: Vec<u32>, rows: Vec<Row>) -> Option<Table> {
         if is_sound(rows.as_slice()) {
             Some(Table { opening, rows })
         } else {

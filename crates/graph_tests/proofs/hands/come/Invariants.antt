@@ -1,6 +1,6 @@
 use Rattle.std.proofs.Common.{◌≡◌}
 use Rattle.graph_tests.specs.Held.{IsHeld}
-use Rattle.graph_tests.proofs.hands.calls.Given as goal
+use Rattle.graph_tests.proofs.hands.come.Given as goal
 
 abbrev pub invariant-loop-worker : goal.invariant-loop-worker
 invariant-loop-worker g l = record {
