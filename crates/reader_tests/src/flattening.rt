@@ -1,13 +1,14 @@
 //! Glyphs with components, drawn from whole sources.
 
-ghost use Rattle.std.specs.Prelude.{◌≡◌, ◌<◌, ◌≤ℤ◌, pos, length, Ok, IfOk, ◌==◌};
+ghost use Rattle.std.specs.Prelude.{◌≡◌, ◌<◌, ◌≤ℤ◌, pos, length, Ok, IfOk, IsTrue, ◌==◌};
 ghost use Rattle.std.specs.List.{All, list_all};
 ghost use Rattle.std.specs.Arc.{arc_value};
 ghost use Rattle.font_ir.specs.declared.glyph.FlatGlyph.{FlatGlyph as AGlyph};
-ghost use Rattle.font_ir.specs.FlatGlyphs.{IsFlatGlyph};
+ghost use Rattle.font_ir.specs.FlatGlyphs.{IsFlatGlyph, glyphs_of};
 ghost use Rattle.font_ir.specs.Places.{axis_count};
-ghost use Rattle.glyphs_source.specs.HeaderReading.{header_of};
+ghost use Rattle.component_flatten.specs.Flattening.{IsBase};
 ghost use Rattle.glyphs_source.specs.IndexReading.{index_of};
+ghost use Rattle.plist_reader.specs.Tree.{IsTree};
 
 use crate::layers::are_points;
 use component_flatten::{component_count, flatten};
@@ -158,9 +159,16 @@ fn have_axes(glyphs: &[Arc<FlatGlyph>], count: usize) -> bool
         .all(|glyph| axis_count(glyph.places.as_slice()) == count)
 }
 
+/// Whether glyphs are of as many axes as these places.
+fn are_bases(places: &[Location], glyphs: &[Arc<FlatGlyph>]) -> bool
+    requires { All (λ glyph. IsFlatGlyph (arc_value glyph)) glyphs.now }
+    ensures { IsTrue result → All (IsBase places.now) (glyphs_of glyphs.now) }
+{
+    have_axes(glyphs, axis_count(places))
+}
+
 /// The glyph of a source with this number, drawn with these bases. Other bases than it needs are
 /// told as want of memory.
-#[tactic(auto, using(crate::proofs::Bases::bases_fit))]
 fn drawn(
     alloc: Global,
     tree: &Tree,
@@ -168,6 +176,7 @@ fn drawn(
     number: u32,
     bases: &[Arc<FlatGlyph>],
 ) -> Result<FlatGlyph, ReadError>
+    requires tree { IsTree tree.now }
     requires index { index_of tree.now ≡ Ok index.now }
     requires number { number < length index.now }
     requires bases { All (λ base. IsFlatGlyph (arc_value base)) bases.now }
@@ -175,12 +184,21 @@ fn drawn(
 {
     let header = header(alloc, tree)?;
     let glyph = raw_glyph(alloc, tree, &header, index, number)?;
-    if component_count(&glyph) != bases.len()
-        || !have_axes(bases, axis_count(glyph.places.as_slice()))
-    {
+    if component_count(&glyph) != bases.len() || !are_bases(glyph.places.as_slice(), bases) {
         return Err(ReadError::NoMemory);
     }
     flatten(alloc, &glyph, index, bases)
+}
+
+/// The glyph with this place in a list.
+fn chosen_at(glyphs: &[Arc<FlatGlyph>], place: usize) -> Result<Arc<FlatGlyph>, ReadError>
+    requires { All (λ glyph. IsFlatGlyph (arc_value glyph)) glyphs.now }
+    ensures { IfOk result (λ glyph. IsFlatGlyph (arc_value glyph)) }
+{
+    match glyphs.get(place) {
+        Some(glyph) => Ok(Arc::try_clone(glyph)?),
+        None => Err(ReadError::NoMemory),
+    }
 }
 
 /// The glyphs with these places in a list.
@@ -194,12 +212,33 @@ fn chosen(
 {
     let mut chosen = Vec::with_capacity(alloc, places.len())?;
     for place in places {
-        match glyphs.get(*place) {
-            Some(glyph) => chosen.push(Arc::try_clone(glyph)?)?,
-            None => return Err(ReadError::NoMemory),
-        }
+        let glyph = chosen_at(glyphs, *place)?;
+        chosen.push(glyph)?;
     }
     Ok(chosen)
+}
+
+/// The glyph of a source with this number, drawn with the bases that have these places among those
+/// drawn before it.
+fn drawn_behind(
+    alloc: Global,
+    tree: &Tree,
+    index: &GlyphIndex,
+    glyph: (u32, &[usize]),
+    before: &[Arc<FlatGlyph>],
+) -> Result<Arc<FlatGlyph>, ReadError>
+    requires tree { IsTree tree.now }
+    requires index { index_of tree.now ≡ Ok index.now }
+    requires before { All (λ glyph. IsFlatGlyph (arc_value glyph)) before.now }
+    ensures { IfOk result (λ glyph. IsFlatGlyph (arc_value glyph)) }
+{
+    let (number, places) = glyph;
+    if number as usize >= index.len() {
+        return Err(ReadError::NoMemory);
+    }
+    let bases = chosen(alloc, before, places)?;
+    let flat = drawn(alloc, tree, index, number, bases.as_slice())?;
+    Ok(Arc::new(alloc, flat)?)
 }
 
 /// Glyphs of a source, drawn one after the other: each is told by its number, with the places of its
@@ -223,34 +262,15 @@ fn drawn_each(
     index: &GlyphIndex,
     glyphs: &[(u32, &[usize])],
 ) -> Result<Vec<Arc<FlatGlyph>>, ReadError>
-    requires { index_of tree.now ≡ Ok index.now }
+    requires tree { IsTree tree.now }
+    requires index { index_of tree.now ≡ Ok index.now }
 {
     let mut drawn = Vec::with_capacity(alloc, glyphs.len())?;
-    for (number, places) in glyphs {
-        push_drawn(alloc, tree, index, *number, places, &mut drawn)?;
+    for glyph in glyphs {
+        let flat = drawn_behind(alloc, tree, index, *glyph, drawn.as_slice())?;
+        drawn.push(flat)?;
     }
     Ok(drawn)
-}
-
-fn push_drawn(
-    alloc: Global,
-    tree: &Tree,
-    index: &GlyphIndex,
-    number: u32,
-    places: &[usize],
-    glyphs: &mut Vec<Arc<FlatGlyph>>,
-) -> Result<(), ReadError>
-    requires index { index_of tree.now ≡ Ok index.now }
-    requires flat { All (λ glyph. IsFlatGlyph (arc_value glyph)) glyphs.old.items }
-    ensures { All (λ glyph. IsFlatGlyph (arc_value glyph)) glyphs.new.items }
-{
-    if number as usize >= index.len() {
-        return Err(ReadError::NoMemory);
-    }
-    let bases = chosen(alloc, glyphs.as_slice(), places)?;
-    let glyph = drawn(alloc, tree, index, number, bases.as_slice())?;
-    glyphs.push(Arc::new(alloc, glyph)?)?;
-    Ok(())
 }
 
 /// Whether a glyph has these contours of three points at its place with this number.

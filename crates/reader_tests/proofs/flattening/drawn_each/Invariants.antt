@@ -3,5 +3,5 @@ use Rattle.std.specs.Arc.{arc_value}
 use Rattle.font_ir.specs.FlatGlyphs.{IsFlatGlyph}
 use Rattle.reader_tests.proofs.flattening.drawn_each.Given as goal
 
-abbrev pub invariant-loop-number : goal.invariant-loop-number
-invariant-loop-number l = All (λ glyph. IsFlatGlyph (arc_value glyph)) l.drawn.items
+abbrev pub invariant-loop-glyph : goal.invariant-loop-glyph
+invariant-loop-glyph l = All (λ glyph. IsFlatGlyph (arc_value glyph)) l.drawn.items
