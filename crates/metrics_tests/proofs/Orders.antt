@@ -1,6 +1,6 @@
 -- An order that is pushed to has at most one glyph more.
 use Rattle.std.proofs.Common.{◌≡◌, ℕ, ◌+◌, ◌≤◌, Bool, true, false, cond, List, [], ◌∷◌, ◌++◌, length}
-use Rattle.std.proofs.Common.{Option, ap, ◌∙◌, length-append, arith}
+use Rattle.std.proofs.Common.{Option, ap, length-append, arith}
 use Rattle.font_ir.specs.Glyphs.{Glyphs}
 
 pub at_most_one_more : (added : Bool) (old new : Glyphs) (number : Option ℕ) (name : List ℕ)
